@@ -1,0 +1,73 @@
+-- A test that is computed at a few codes, carried to each code that is one of them.
+use Prim.Native.Nat.{ℕ, zero, suc, _+_, _≤_, _<_}
+use mathlib.Core.Path.{_≡_, refl, sym, _∙_}
+use mathlib.Core.Bool.{Bool, true, false, not, _&&_, _||_, and-eq-true-iff, or-true, or-false}
+use mathlib.Core.List.{List, [], _∷_}
+use mathlib.Core.Logic.{inl, inr, ⊎-elim}
+use native.Mathlib.Omega.{arith}
+use borrow.Author.Tests.{eqb-true, eqb-false, eq-eqb, ne-eqb, not-true}
+use lib.Dec.{eqb}
+use types.Run.{OneOf}
+use Rattle.chars.specs.Quoted.{member}
+use Rattle.chars.proofs.Bools.{clash}
+
+abbrev pub every : (ℕ → Bool) → List ℕ → Bool
+every f [] = true
+every f (x ∷ l) = f x && every f l
+
+pub carry : (f : ℕ → Bool) (l : List ℕ) (c : ℕ) → every f l ≡ true → member l c ≡ true → f c ≡ true
+carry f [] c h e = clash e
+carry f (x ∷ l) c h e = let k = and-eq-true-iff (f x) (every f l) .0 h in go (eqb c x) refl e (k .0) (carry f l c (k .1))
+  where
+    go : (b : Bool) → eqb c x ≡ b → b || member l c ≡ true → f x ≡ true → (member l c ≡ true → f c ≡ true) → f c ≡ true
+    go true q e k r = rw (eqb-true c x q) k
+    go false q e k r = r e
+
+-- what holds at none of the codes does not hold at one of them
+pub carry-not : (f : ℕ → Bool) (l : List ℕ) (c : ℕ) → every (λ x. not (f x)) l ≡ true → member l c ≡ true → f c ≡ false
+carry-not f l c h e = not-true (f c) (carry (λ x. not (f x)) l c h e)
+
+-- a code at which a test holds that none of the list passes is not in the list
+pub no-member : (f : ℕ → Bool) (l : List ℕ) (c : ℕ) → every (λ x. not (f x)) l ≡ true → f c ≡ true → member l c ≡ false
+no-member f l c h e = go (member l c) refl
+  where
+    go : (b : Bool) → member l c ≡ b → b ≡ false
+    go false q = refl
+    go true q = let z = carry-not f l c h q in clash (cc)
+
+-- n codes from a on
+abbrev pub span : ℕ → ℕ → List ℕ
+span a zero = []
+span a (suc n) = a ∷ span (suc a) n
+
+in-span : (a n c : ℕ) → a ≤ c → c < a + n → member (span a n) c ≡ true
+in-span a zero c h k = absurd (omega arith)
+in-span a (suc n) c h k = go (eqb c a) refl (λ z. in-span (suc a) n c z (omega arith))
+  where
+    go : (b : Bool) → eqb c a ≡ b → (a < c → member (span (suc a) n) c ≡ true) → b || member (span (suc a) n) c ≡ true
+    go true q r = refl
+    go false q r = r (let y = eqb-false c a q in omega (arith, y))
+
+pub each : (f : ℕ → Bool) (a n c : ℕ) → every f (span a n) ≡ true → a ≤ c → c < a + n → f c ≡ true
+each f a n c h p q = carry f (span a n) c h (in-span a n c p q)
+
+pub each-not : (f : ℕ → Bool) (a n c : ℕ) → every (λ x. not (f x)) (span a n) ≡ true → a ≤ c → c < a + n → f c ≡ false
+each-not f a n c h p q = not-true (f c) (each (λ x. not (f x)) a n c h p q)
+
+-- the same where some codes are left out
+pub each-but : (f : ℕ → Bool) (ks : List ℕ) (a n c : ℕ) → every (λ x. not (f x) || member ks x) (span a n) ≡ true → a ≤ c → c < a + n → member ks c ≡ false → f c ≡ false
+each-but f ks a n c h p q e =
+    let z = each (λ x. not (f x) || member ks x) a n c h p q in
+    not-true (f c) (sym (or-false (not (f c))) ∙ (rw e at z))
+
+-- ---- the keys of a match's arm
+
+pub hits : (ks : List ℕ) (x : ℕ) → OneOf ks x → member ks x ≡ true
+hits [] x h = absurd h
+hits (k ∷ []) x h = rw (eq-eqb x k h)
+hits (k ∷ j ∷ ks) x h = ⊎-elim (λ e. rw (eq-eqb x k e)) (λ r. rw (hits (j ∷ ks) x r) (or-true (eqb x k))) h
+
+pub misses : (ks : List ℕ) (x : ℕ) → (OneOf ks x → ⊥) → member ks x ≡ false
+misses [] x h = refl
+misses (k ∷ []) x h = rw (ne-eqb x k h)
+misses (k ∷ j ∷ ks) x h = rw (ne-eqb x k (λ e. h (inl e))) (misses (j ∷ ks) x (λ r. h (inr r)))

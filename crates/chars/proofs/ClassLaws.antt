@@ -1,0 +1,103 @@
+-- What the crate above needs to know of the character classes: each computed at the few characters that document 01 names.
+use Prim.Native.Nat.{ℕ, _≤_, _<_}
+use mathlib.Core.Path.{_≡_, refl}
+use mathlib.Core.Bool.{true, false, not, _&&_, _||_, or-false}
+use native.Mathlib.Omega.{arith}
+use borrow.Author.Tests.{eqb-true, le-leb, lt-leb, le-ltb, ne-eqb}
+use lib.Dec.{eqb, ltb}
+use Rattle.chars.specs.Quoted.{between, codes, oneOf}
+use Rattle.chars.specs.Classes.{isIdStart, isIdChar, isOpSign, isPrintable, alphabetic, lowercase, uppercase, nd, alphaNotLetter}
+use Rattle.chars.proofs.Ranges.{between-out}
+use Rattle.chars.proofs.Carry.{carry, carry-not, no-member, each-not}
+
+-- ---- characters that document 01 names
+
+-- `_` is no id character
+pub under-no-id : (c : ℕ) → oneOf "_" c ≡ true → isIdChar c ≡ false
+unfolding isIdChar alphabetic nd alphaNotLetter
+under-no-id c e = carry-not isIdChar (codes "_") c refl e
+
+-- an operator sign is no id character, no `_` and no id start
+pub sign-no-id : (c : ℕ) → isOpSign c ≡ true → isIdChar c ≡ false
+unfolding isOpSign isIdChar alphabetic nd alphaNotLetter
+sign-no-id c e = carry-not isIdChar (codes "!#%&*+-/:<=>?@\\^|~⇒") c refl e
+
+pub sign-no-under : (c : ℕ) → isOpSign c ≡ true → oneOf "_" c ≡ false
+unfolding isOpSign
+sign-no-under c e = carry-not (oneOf "_") (codes "!#%&*+-/:<=>?@\\^|~⇒") c refl e
+
+pub sign-no-start : (c : ℕ) → isOpSign c ≡ true → isIdStart c ≡ false
+unfolding isOpSign isIdStart lowercase uppercase
+sign-no-start c e = carry-not isIdStart (codes "!#%&*+-/:<=>?@\\^|~⇒") c refl e
+
+-- `;` is no id start and no operator sign
+pub semi-no-start : (c : ℕ) → oneOf ";" c ≡ true → isIdStart c ≡ false
+unfolding isIdStart lowercase uppercase
+semi-no-start c e = carry-not isIdStart (codes ";") c refl e
+
+pub semi-no-sign : (c : ℕ) → oneOf ";" c ≡ true → isOpSign c ≡ false
+unfolding isOpSign
+semi-no-sign c e = carry-not isOpSign (codes ";") c refl e
+
+-- the small Roman numeral one starts an identifier and never continues one
+pub roman-start : isIdStart 0x2170 ≡ true
+unfolding isIdStart lowercase uppercase
+roman-start = refl
+
+pub roman-no-id : isIdChar 0x2170 ≡ false
+unfolding isIdChar alphabetic nd alphaNotLetter
+roman-no-id = refl
+
+-- the circled letters do neither
+module _ (c : ℕ) (from : 0x24B6 ≤ c) (to : c ≤ 0x24E9) where
+  pub circled-no-start : isIdStart c ≡ false
+  unfolding isIdStart lowercase uppercase
+  circled-no-start = each-not isIdStart 0x24B6 52 c refl from (omega arith)
+
+  pub circled-no-id : isIdChar c ≡ false
+  unfolding isIdChar alphabetic nd alphaNotLetter
+  circled-no-id = each-not isIdChar 0x24B6 52 c refl from (omega arith)
+
+-- ---- past ASCII
+
+module _ (c : ℕ) (h : 0x80 ≤ c) where
+  -- the one operator sign is the double arrow
+  pub wide-sign : isOpSign c ≡ true → c ≡ 0x21D2
+  unfolding isOpSign
+  wide-sign e =
+      let k = carry (λ x. ltb x 0x80 || eqb x 0x21D2) (codes "!#%&*+-/:<=>?@\\^|~⇒") c refl e in
+      eqb-true c 0x21D2 (rw (le-ltb c 0x80 h) at k)
+
+  -- no `$` or `_` is left, so up to U+FFFF the tables decide
+  pub wide-start : c ≤ 0xFFFF → (0x24B6 ≤ c → 0x24E9 < c) → isIdStart c ≡ lowercase c || uppercase c
+  unfolding isIdStart
+  wide-start l out =
+      let e : between 0x24B6 0x24E9 c ≡ false = between-out 0x24B6 0x24E9 c out in
+      let a : (c ≡ 0x24 → ⊥) = λ e. omega arith in
+      let b : (c ≡ 0x5F → ⊥) = λ e. omega arith in
+      rw (le-leb c 0xFFFF l, e, ne-eqb c 0x24 a, ne-eqb c 0x5F b) (or-false (lowercase c || uppercase c))
+
+  pub wide-id : c ≤ 0xFFFF → isIdChar c ≡ alphabetic c && not (alphaNotLetter c) || nd c
+  unfolding isIdChar
+  wide-id l =
+      let a : (c ≡ 0x24 → ⊥) = λ e. omega arith in
+      rw (le-leb c 0xFFFF l, ne-eqb c 0x24 a)
+
+-- ---- above U+FFFF no class has a code
+
+module _ (c : ℕ) (h : 0xFFFF < c) where
+  pub above-no-start : isIdStart c ≡ false
+  unfolding isIdStart
+  above-no-start = rw (lt-leb c 0xFFFF h)
+
+  pub above-no-id : isIdChar c ≡ false
+  unfolding isIdChar
+  above-no-id = let a : (c ≡ 0x24 → ⊥) = λ e. omega arith in rw (ne-eqb c 0x24 a, lt-leb c 0xFFFF h)
+
+  pub above-no-sign : isOpSign c ≡ false
+  unfolding isOpSign
+  above-no-sign = no-member (ltb 0xFFFF) (codes "!#%&*+-/:<=>?@\\^|~⇒") c refl (le-leb 0x10000 c h)
+
+  pub above-no-print : isPrintable c ≡ false
+  unfolding isPrintable
+  above-no-print = rw (lt-leb c 0xFFFF h)

@@ -1,0 +1,13 @@
+pub mod Bools
+pub mod Carry
+pub mod Ranges
+pub mod ClassLaws
+pub mod Promises
+pub mod Rows
+pub mod Codes
+pub mod Valid
+pub mod Widths
+pub mod Wide
+pub mod Texts
+pub mod Steps
+pub mod Places

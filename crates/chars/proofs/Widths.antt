@@ -1,0 +1,69 @@
+-- How wide a character is, and the check of one character after the other.
+use Prim.Native.Nat.{ℕ, zero, suc, _+_, _-_, _≤_, _<_}
+use mathlib.Core.Path.{_≡_, refl, sym, _∙_, ap}
+use mathlib.Core.Bool.{Bool, true, false, _&&_}
+use mathlib.Core.Logic.{_⊎_, inl, inr}
+use mathlib.Core.List.{List, [], _∷_}
+use lib.ListN.{length, drop, getD, length-drop, drop-of-length-le}
+use lib.Seq.{drop-drop}
+use lib.Dec.{leb}
+use native.Mathlib.Omega.{arith}
+use borrow.Author.Tests.{leb-true}
+use Rattle.chars.specs.Ranges.{Range}
+use Rattle.chars.specs.Utf8.{table37, fits, Row, here, later, width, validFrom}
+use Rattle.chars.proofs.Bools.{clash, and-both}
+use Rattle.chars.proofs.Rows as rows
+use Rattle.chars.proofs.Valid.{width-found, fit-length}
+
+-- no row is longer than four bytes: one computed test
+abbrev short : List (List Range) → Bool
+short [] = true
+short (row ∷ rows) = leb (length row) 4 && short rows
+
+row-short : {rows : List (List Range)} {row : List Range} → short rows ≡ true → Row rows row → length row ≤ 4
+row-short {rows = row ∷ rows} e here = leb-true (length row) 4 (and-both (leb (length row) 4) (short rows) e .0)
+row-short {rows = other ∷ rows} e (later w) = row-short (and-both (leb (length other) 4) (short rows) e .1) w
+
+pub width-most : (t : List ℕ) → (width t ≤ 4) × (width t ≤ length t)
+width-most t = go (width-found t)
+  where
+    go : (width t ≡ 0) ⊎ ((row : List Range) × Row table37 row × (fits row t ≡ true) × (width t ≡ length row)) → (width t ≤ 4) × (width t ≤ length t)
+    go (inl e) = (omega arith, omega arith)
+    go (inr (row, w, f, e)) = let a = row-short refl w in let b = fit-length row t f in (omega arith, omega arith)
+
+-- at a place
+pub width-within : (s : List ℕ) (i : ℕ) → i ≤ length s → i + width (drop i s) ≤ length s
+width-within s i h = let a = width-most (drop i s) in let b = length-drop i s in omega arith
+
+-- ---- the check
+
+valid-skip : (i k : ℕ) (t : List ℕ) → k ≤ length t → validFrom i k t ≡ validFrom (i + k) 0 (drop k t)
+unfolding validFrom
+valid-skip i zero t l = ap (λ j. validFrom j 0 t) (omega arith)
+valid-skip i (suc k) [] l = absurd (omega arith)
+valid-skip i (suc k) (b ∷ t) l = valid-skip (suc i) k t (omega arith) ∙ ap (λ j. validFrom j 0 (drop k t)) (omega arith)
+
+-- no character stands at i
+pub valid-stop : (s : List ℕ) (i : ℕ) → i < length s → width (drop i s) ≡ 0 → validFrom i 0 (drop i s) ≡ i
+unfolding validFrom
+valid-stop s i h e =
+    let q = rows.here s i h in
+    ap (validFrom i 0) q ∙ rw (ap width (sym q) ∙ e, validFrom)
+
+-- one of w bytes does
+pub valid-next : (s : List ℕ) (i w : ℕ) → i < length s → width (drop i s) ≡ w → (w ≡ 0 → ⊥) → validFrom (i + w) 0 (drop (i + w) s) ≡ validFrom i 0 (drop i s)
+unfolding validFrom
+valid-next s i zero h e n = absurd (n refl)
+valid-next s i (suc k) h e n =
+    let q = rows.here s i h in
+    let a = width-within s i (omega arith) in
+    let b = length-drop (i + 1) s in
+    let p : validFrom i 0 (drop i s) ≡ validFrom (suc i) k (drop (i + 1) s) = ap (validFrom i 0) q ∙ rw (ap width (sym q) ∙ e, validFrom) in
+    let x : i + 1 + k ≡ i + suc k = omega arith in
+    let y : suc i + k ≡ i + suc k = omega arith in
+    let d : drop k (drop (i + 1) s) ≡ drop (i + suc k) s = drop-drop k (i + 1) s ∙ ap (λ j. drop j s) x in
+    sym (p ∙ valid-skip (suc i) k (drop (i + 1) s) (omega arith) ∙ ap (validFrom (suc i + k) 0) d ∙ ap (λ j. validFrom j 0 (drop (i + suc k) s)) y)
+
+pub valid-end : (s : List ℕ) (i : ℕ) → length s ≤ i → validFrom i 0 (drop i s) ≡ i
+unfolding validFrom
+valid-end s i h = rw (drop-of-length-le s h, validFrom)

@@ -1,0 +1,7 @@
+pub mod Quoted
+pub mod Ranges
+pub mod Tables
+pub mod Utf8
+pub mod Classes
+pub mod Text
+pub mod Promises
