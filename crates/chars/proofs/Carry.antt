@@ -23,6 +23,11 @@ carry f (x ∷ l) c h e = let k = and-eq-true-iff (f x) (every f l) .0 h in go (
     go true q e k r = rw (eqb-true c x q) k
     go false q e k r = r e
 
+-- a test that holds at every code of a list, and implies another
+pub every-sub : (f g : ℕ → Bool) (l : List ℕ) → every f l ≡ true → ((c : ℕ) → f c ≡ true → g c ≡ true) → every g l ≡ true
+every-sub f g [] h k = refl
+every-sub f g (x ∷ l) h k = let e = and-eq-true-iff (f x) (every f l) .0 h in rw (k x (e .0)) (every-sub f g l (e .1) k)
+
 -- what holds at none of the codes does not hold at one of them
 pub carry-not : (f : ℕ → Bool) (l : List ℕ) (c : ℕ) → every (λ x. not (f x)) l ≡ true → member l c ≡ true → f c ≡ false
 carry-not f l c h e = not-true (f c) (carry (λ x. not (f x)) l c h e)

@@ -1,5 +1,6 @@
 -- What the crate above needs to know of the character classes: each computed at the few characters that document 01 names.
 use Prim.Native.Nat.{ℕ, _≤_, _<_}
+use Prim.Native.String.{String}
 use mathlib.Core.Path.{_≡_, refl}
 use mathlib.Core.Bool.{true, false, not, _&&_, _||_, or-false}
 use native.Mathlib.Omega.{arith}
@@ -8,36 +9,69 @@ use lib.Dec.{eqb, ltb}
 use Rattle.chars.specs.Quoted.{between, codes, oneOf}
 use Rattle.chars.specs.Classes.{isIdStart, isIdChar, isOpSign, isPrintable, alphabetic, lowercase, uppercase, nd, alphaNotLetter}
 use Rattle.chars.proofs.Ranges.{between-out}
-use Rattle.chars.proofs.Carry.{carry, carry-not, no-member, each-not}
+use Rattle.chars.proofs.Carry.{every, every-sub, carry, carry-not, no-member, each-not}
 
--- ---- characters that document 01 names
+-- ---- operator signs
+
+abbrev pub signs : String
+signs = "!#%&*+-/:<=>?@\\^|~⇒"
+
+pub sign-is : (c : ℕ) → isOpSign c ≡ true → oneOf signs c ≡ true
+unfolding isOpSign
+sign-is c e = e
+
+-- none of the quoted characters is a sign, where none of them is quoted in `signs`
+pub sign-not : (t : String) → every (λ x. not (oneOf signs x)) (codes t) ≡ true → every (λ x. not (isOpSign x)) (codes t) ≡ true
+unfolding isOpSign
+sign-not t h = h
+
+pub no-sign : (t : String) → every (λ x. not (oneOf signs x)) (codes t) ≡ true → (c : ℕ) → oneOf t c ≡ true → isOpSign c ≡ false
+no-sign t h c e = carry-not isOpSign (codes t) c (sign-not t h) e
+
+pub sign-no-under : (c : ℕ) → isOpSign c ≡ true → oneOf "_" c ≡ false
+sign-no-under c e = carry-not (oneOf "_") (codes signs) c refl (sign-is c e)
+
+pub slash-sign : isOpSign 0x2F ≡ true
+unfolding isOpSign
+slash-sign = refl
+
+-- ---- id starts
+
+-- the characters with which pieces start that are no identifiers
+abbrev pub others : String
+others = " \t\n\r()[]{},;.`\"'0123456789!#%&*+-/:<=>?@\\^|~⇒"
+
+other-no-start : (c : ℕ) → oneOf others c ≡ true → not (isIdStart c) ≡ true
+unfolding isIdStart lowercase uppercase
+other-no-start c e = carry (λ x. not (isIdStart x)) (codes others) c refl e
+
+-- none of the quoted characters is an id start, where each of them is quoted in `others`
+pub start-not : (t : String) → every (oneOf others) (codes t) ≡ true → every (λ x. not (isIdStart x)) (codes t) ≡ true
+start-not t h = every-sub (oneOf others) (λ x. not (isIdStart x)) (codes t) h other-no-start
+
+pub no-start : (t : String) → every (oneOf others) (codes t) ≡ true → (c : ℕ) → oneOf t c ≡ true → isIdStart c ≡ false
+no-start t h c e = carry-not isIdStart (codes t) c (start-not t h) e
+
+pub slash-no-start : isIdStart 0x2F ≡ false
+unfolding isIdStart lowercase uppercase
+slash-no-start = refl
+
+pub sign-no-start : (c : ℕ) → isOpSign c ≡ true → isIdStart c ≡ false
+sign-no-start c e = no-start signs refl c (sign-is c e)
+
+-- ---- id characters
 
 -- `_` is no id character
 pub under-no-id : (c : ℕ) → oneOf "_" c ≡ true → isIdChar c ≡ false
 unfolding isIdChar alphabetic nd alphaNotLetter
 under-no-id c e = carry-not isIdChar (codes "_") c refl e
 
--- an operator sign is no id character, no `_` and no id start
+-- an operator sign is none either
 pub sign-no-id : (c : ℕ) → isOpSign c ≡ true → isIdChar c ≡ false
-unfolding isOpSign isIdChar alphabetic nd alphaNotLetter
-sign-no-id c e = carry-not isIdChar (codes "!#%&*+-/:<=>?@\\^|~⇒") c refl e
+unfolding isIdChar alphabetic nd alphaNotLetter
+sign-no-id c e = carry-not isIdChar (codes signs) c refl (sign-is c e)
 
-pub sign-no-under : (c : ℕ) → isOpSign c ≡ true → oneOf "_" c ≡ false
-unfolding isOpSign
-sign-no-under c e = carry-not (oneOf "_") (codes "!#%&*+-/:<=>?@\\^|~⇒") c refl e
-
-pub sign-no-start : (c : ℕ) → isOpSign c ≡ true → isIdStart c ≡ false
-unfolding isOpSign isIdStart lowercase uppercase
-sign-no-start c e = carry-not isIdStart (codes "!#%&*+-/:<=>?@\\^|~⇒") c refl e
-
--- `;` is no id start and no operator sign
-pub semi-no-start : (c : ℕ) → oneOf ";" c ≡ true → isIdStart c ≡ false
-unfolding isIdStart lowercase uppercase
-semi-no-start c e = carry-not isIdStart (codes ";") c refl e
-
-pub semi-no-sign : (c : ℕ) → oneOf ";" c ≡ true → isOpSign c ≡ false
-unfolding isOpSign
-semi-no-sign c e = carry-not isOpSign (codes ";") c refl e
+-- ---- characters that document 01 names
 
 -- the small Roman numeral one starts an identifier and never continues one
 pub roman-start : isIdStart 0x2170 ≡ true
@@ -65,7 +99,7 @@ module _ (c : ℕ) (h : 0x80 ≤ c) where
   pub wide-sign : isOpSign c ≡ true → c ≡ 0x21D2
   unfolding isOpSign
   wide-sign e =
-      let k = carry (λ x. ltb x 0x80 || eqb x 0x21D2) (codes "!#%&*+-/:<=>?@\\^|~⇒") c refl e in
+      let k = carry (λ x. ltb x 0x80 || eqb x 0x21D2) (codes signs) c refl (sign-is c e) in
       eqb-true c 0x21D2 (rw (le-ltb c 0x80 h) at k)
 
   -- no `$` or `_` is left, so up to U+FFFF the tables decide
@@ -96,7 +130,7 @@ module _ (c : ℕ) (h : 0xFFFF < c) where
 
   pub above-no-sign : isOpSign c ≡ false
   unfolding isOpSign
-  above-no-sign = no-member (ltb 0xFFFF) (codes "!#%&*+-/:<=>?@\\^|~⇒") c refl (le-leb 0x10000 c h)
+  above-no-sign = no-member (ltb 0xFFFF) (codes signs) c refl (le-leb 0x10000 c h)
 
   pub above-no-print : isPrintable c ≡ false
   unfolding isPrintable

@@ -171,3 +171,18 @@ module _ {A : Type 0} (s : List ℕ) (f : Text → A) (pass : (c : Char) (u : Te
   byte-by-byte i h e =
       let n = next-on s i h in
       back i (nextOf s i - (i + 1)) (i + 1) h (omega arith) (omega arith) ∙ sym (over i h e)
+
+-- a class at the character there
+pub head-at : (p : ℕ → Bool) (s : List ℕ) (i : ℕ) → i < length s → head p (from s i) ≡ p (codeAt s i)
+head-at p s i h = ap (head p) (at-char s i h)
+
+-- a run that goes on past one character, or stops there; f: what the loop found at its start
+module _ (p : ℕ → Bool) (s : List ℕ) (i : ℕ) (f : Text) where
+  pub runs-on : i < length s → p (codeAt s i) ≡ true → afterRun (head p) (from s i) ≡ f → afterRun (head p) (from s (nextOf s i)) ≡ f
+  runs-on h e q = run-next (head p) s i h (head-at p s i h ∙ e) ∙ q
+
+  pub runs-out : i < length s → p (codeAt s i) ≡ false → afterRun (head p) (from s i) ≡ f → i ≡ place (length s) f
+  runs-out h e q = run-stop (head p) s i h (head-at p s i h ∙ e) ∙ ap (place (length s)) q
+
+  pub runs-end : length s ≤ i → afterRun (head p) (from s i) ≡ f → length s ≡ place (length s) f
+  runs-end h q = run-end (head p) s i h ∙ ap (place (length s)) q

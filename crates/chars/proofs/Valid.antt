@@ -5,7 +5,7 @@ use mathlib.Core.Bool.{Bool, true, false, cond, _&&_}
 use mathlib.Core.Logic.{_⊎_, inl, inr}
 use mathlib.Core.List.{List, [], _∷_}
 use lib.ListN.{length, take, drop, length-drop}
-use lib.Seq.{take-nil}
+use lib.Seq.{take-nil, take-all, take-length}
 use lib.Dec.{leb, ltb}
 use native.Mathlib.Nat.{sub-zero}
 use native.Mathlib.Omega.{arith}
@@ -188,3 +188,21 @@ valid-most (WellFormed.char {row} w f g) m t l e =
 
 pub valid : (s : List ℕ) → LongestValid s (validPrefix s)
 valid s = let h = valid-good (length s) s (omega arith) in record { within = h .0; valid = h .1; most = λ m l w. valid-most w m s l refl }
+
+-- ---- what follows
+
+-- a text has one longest valid prefix
+pub longest-one : {s : List ℕ} {m n : ℕ} → LongestValid s m → LongestValid s n → m ≡ n
+longest-one {m} {n} h k = let a = h .most n (k .within) (k .valid) in let b = k .most m (h .within) (h .valid) in omega arith
+
+-- a text is well-formed where all of it is measured
+pub valid-all : (s : List ℕ) → WellFormed s → validPrefix s ≡ length s
+valid-all s w =
+    let v = valid s in
+    let w′ : WellFormed (take (length s) s) = rw take-length w in
+    let a = v .most (length s) (omega arith) w′ in
+    let b = v .within in
+    omega arith
+
+pub all-valid : (s : List ℕ) → length s ≤ validPrefix s → WellFormed s
+all-valid s l = let v = valid s in rw (take-all (validPrefix s) s l) at (v .valid)

@@ -4,12 +4,17 @@ use crate::tables::ALPHABETIC;
 use crate::tables::LOWERCASE;
 use crate::tables::ND;
 use crate::tables::UPPERCASE;
+use crate::text::Step;
+use crate::text::char_at;
 ghost use mathlib.Core.Path.{_≡_};
-ghost use Prim.Native.Nat.{_<_};
+ghost use Prim.Native.Nat.{_<_, _≤_};
 ghost use mathlib.Core.Bool.{true, not, _&&_};
 ghost use Rattle.chars.specs.Quoted.{between};
 ghost use Rattle.chars.specs.Ranges.{pairs, inRanges, ascendingFrom};
-ghost use Rattle.chars.specs.Classes.{isIdStart, isIdChar, isOpSign, isPrintable, alphabetic, alphaNotLetter};
+ghost use lib.ListN.{length};
+ghost use Rattle.chars.specs.Tables.{alphabeticTable, alphaNotLetterTable};
+ghost use Rattle.chars.specs.Classes.{isIdStart, isIdChar, isOpSign, isPrintable, alphabetic, alphaNotLetter, IdTables};
+ghost use Rattle.chars.specs.Text.{from, place, idChar, afterRun};
 
 // The last code that the tables speak of.
 const LAST: u32 = 0xFFFF;
@@ -128,22 +133,31 @@ pub fn is_id_char(c: u32) -> bool
     if c < 0x80 {
         return is_ascii_id_char(c);
     }
+    is_wide_id_char(c, &ALPHABETIC, &ALPHA_NOT_LETTER, &ND)
+}
+
+// The same past ASCII, by the tables that are lent.
+fn is_wide_id_char(c: u32, alphabetic: &[u16], marks: &[u16], digits: &[u16]) -> bool
+    requires { ⌜ (0x80 ≤ c) × IdTables (now alphabetic) (now marks) (now digits) ⌝ }
+    ensures { λ r. ⌜ r ≡ isIdChar c ⌝ }
+{
     if LAST < c {
         return false;
     }
     let k = c as u16;
-    if is_letter(k) {
+    if is_letter(k, alphabetic, marks) {
         return true;
     }
-    in_ranges(k, &ND)
+    in_ranges(k, digits)
 }
 
 // Whether k is Alphabetic outside ALPHA_NOT_LETTER.
-fn is_letter(k: u16) -> bool
+fn is_letter(k: u16, table: &[u16], marks: &[u16]) -> bool
+    requires { ⌜ (pairs (now table) ≡ alphabeticTable) × (pairs (now marks) ≡ alphaNotLetterTable) ⌝ }
     ensures { λ r. ⌜ r ≡ alphabetic k && not (alphaNotLetter k) ⌝ }
 {
-    if in_ranges(k, &ALPHABETIC) {
-        return !in_ranges(k, &ALPHA_NOT_LETTER);
+    if in_ranges(k, table) {
+        return !in_ranges(k, marks);
     }
     false
 }
@@ -160,4 +174,53 @@ fn is_ascii_id_char(c: u32) -> bool
         0x61..=0x7A => true,
         _ => false,
     }
+}
+
+// Where the run of id characters from a place on ends. A table is written out each time that it is lent: a run lends the three once, and
+// none while it is ASCII.
+pub fn id_run_end(s: &[u8], at: usize) -> usize
+    ensures { λ r. ⌜ r ≡ place (length (now (s .entry))) (afterRun idChar (from (now (s .entry)) at)) ⌝ }
+{
+    let mut i = at;
+    while i < s.len() {
+        let b = s[i];
+        if 0x80 <= b {
+            return wide_run_end(s, i, &ALPHABETIC, &ALPHA_NOT_LETTER, &ND);
+        }
+        if !is_ascii_id_char(b as u32) {
+            return i;
+        }
+        i += 1;
+    }
+    s.len()
+}
+
+// The same with the tables lent.
+fn wide_run_end(s: &[u8], at: usize, alphabetic: &[u16], marks: &[u16], digits: &[u16]) -> usize
+    requires { ⌜ IdTables (now alphabetic) (now marks) (now digits) ⌝ }
+    ensures { λ r. ⌜ r ≡ place (length (now (s .entry))) (afterRun idChar (from (now (s .entry)) at)) ⌝ }
+{
+    let mut i = at;
+    while i < s.len() {
+        let here = char_at(s, i);
+        let Step::Char { code, next } = here else {
+            return i;
+        };
+        if !is_lent_id_char(code, alphabetic, marks, digits) {
+            return i;
+        }
+        i = next;
+    }
+    s.len()
+}
+
+// Whether c may continue an identifier, by the tables that are lent.
+fn is_lent_id_char(c: u32, alphabetic: &[u16], marks: &[u16], digits: &[u16]) -> bool
+    requires { ⌜ IdTables (now alphabetic) (now marks) (now digits) ⌝ }
+    ensures { λ r. ⌜ r ≡ isIdChar c ⌝ }
+{
+    if c < 0x80 {
+        return is_ascii_id_char(c);
+    }
+    is_wide_id_char(c, alphabetic, marks, digits)
 }
