@@ -1,0 +1,74 @@
+-- `class_runs::print_runs` meets its contract. The run at hand begins at c or before, and what was walked lies between the start and c.
+-- Assumes nothing.
+use Prim.Native.Nat.{_+_, _-_, _≤_}
+use borrow.Author.Needs.{needs}
+use mathlib.Core.Logic.{⊎-elim}
+use mathlib.Core.Path.{_≡_}
+use native.Mathlib.Omega.{arith}
+use Rattle.class_runs.proofs.print_runs.Statement.{statement}
+use Rattle.class_runs.proofs.print_runs.Tie as tie
+
+abbrev Inv-loop : tie.InvT-loop
+Inv-loop k name from end walked₀ start₀ c₀ walked start c = (start ≤ c) × (walked + from ≡ c) × (walked ≤ end - from)
+
+abbrev μ-loop : tie.MeasureT-loop
+μ-loop k name from end walked₀ start₀ c₀ walked start c = end - c
+
+loop-holds : tie.Need-loop-holds Inv-loop μ-loop
+loop-holds c = search needs
+
+belongs-requires : tie.Need-belongs-requires Inv-loop μ-loop
+belongs-requires c κs = search needs
+
+sub-print-run : tie.Need-sub-print-run Inv-loop μ-loop
+sub-print-run c = search needs
+
+print-run-requires : tie.Need-print-run-requires Inv-loop μ-loop
+print-run-requires c κs = search needs
+
+add-start : tie.Need-add-start Inv-loop μ-loop
+add-start c = search needs
+
+add-c : tie.Need-add-c Inv-loop μ-loop
+add-c c = search needs
+
+add-walked : tie.Need-add-walked Inv-loop μ-loop
+add-walked c = search needs
+
+loop-less : tie.Need-loop-less Inv-loop μ-loop
+loop-less c = search needs
+
+loop-again : tie.Need-loop-again Inv-loop μ-loop
+loop-again c = ⊎-elim (λ w. omega arith) (λ w. omega arith) (c .if1 .came)
+
+sub-print-run-2 : tie.Need-sub-print-run-2 Inv-loop μ-loop
+sub-print-run-2 c = search needs
+
+print-run-requires-2 : tie.Need-print-run-requires-2 Inv-loop μ-loop
+print-run-requires-2 c κs = search needs
+
+returns : tie.Need-returns Inv-loop μ-loop
+returns c = search needs
+
+returns-2 : tie.Need-returns-2 Inv-loop μ-loop
+returns-2 c = search needs
+
+pub print-runs-spec : {M : Type 1} → statement M
+print-runs-spec =
+    tie.close
+    (tie.spec
+    Inv-loop
+    μ-loop
+    loop-holds
+    belongs-requires
+    sub-print-run
+    print-run-requires
+    add-start
+    add-c
+    add-walked
+    loop-less
+    loop-again
+    sub-print-run-2
+    print-run-requires-2
+    returns
+    returns-2)

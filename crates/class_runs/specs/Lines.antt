@@ -1,0 +1,13 @@
+-- What the lines of the program hold.
+use Prim.Native.Nat.{ℕ, _+_, _%_}
+use mathlib.Core.Bool.{Bool, cond}
+use lib.Dec.{eqb, ltb}
+use Rattle.chars.specs.Classes.{isIdStart, isIdChar, isOpSign, isPrintable}
+
+-- the class of number k
+unfoldable pub inClass : ℕ → ℕ → Bool
+inClass k c = cond (eqb k 0) (isIdStart c) (cond (eqb k 1) (isIdChar c) (cond (eqb k 2) (isOpSign c) (isPrintable c)))
+
+-- the last hexadecimal digit of n, in ASCII and upper case
+unfoldable pub glyph : ℕ → ℕ
+glyph n = cond (ltb (n % 16) 10) (48 + n % 16) (55 + n % 16)

@@ -1,0 +1,108 @@
+-- Document 01, the refusal table's order 20, 17, 18, 1 to 16, 19; "Host entry and text".
+use Prim.Native.Nat.{ℕ, _≤_, _<_}
+use mathlib.Core.Path.{_≡_}
+use mathlib.Core.Bool.{Bool, true, false, cond, not, _&&_}
+use mathlib.Core.List.{List, [], _++_}
+use lib.ListN.{length, drop, getD}
+use lib.Dec.{eqb, leb, ltb}
+use Rattle.chars.specs.Quoted.{between}
+use Rattle.chars.specs.Utf8.{WellFormed, LongestValid, validPrefix}
+use Rattle.token.specs.Kinds.{Token}
+use Rattle.token.specs.Reading.{Piece, Reading, Tokens}
+use Rattle.token.specs.Refusals.{Refused}
+use Rattle.token.specs.Answer.{Answer, answer}
+use Rattle.token.specs.Records.{le4, records, tokenCount, recordBytes}
+
+-- what the host sees afterwards: the number handed back, the records buffer and the answer block
+pub data Seen : Type 0 where
+  seen : ℕ → List ℕ → List ℕ → Seen
+
+abbrev pub numberSeen : Seen → ℕ
+numberSeen (seen j buffer block) = j
+
+abbrev pub bufferSeen : Seen → List ℕ
+bufferSeen (seen j buffer block) = buffer
+
+-- The block then holds four 4-byte little-endian numbers: refusal, place, token count, record bytes; unused ones 0.
+unfoldable pub blockOf : ℕ → ℕ → ℕ → ℕ → List ℕ
+blockOf j a count bytes = le4 j ++ le4 a ++ le4 count ++ le4 bytes
+
+-- 17: over 16,777,216 bytes
+abbrev pub mostBytes : ℕ
+mostBytes = 16777216
+
+-- ---- declared
+
+-- the tokens of the script's readings
+pub record TokensOf (script : List ℕ) (ts : List Token) : Type 0 where
+  pub pieces : List Piece
+  pub reading : Reading script pieces
+  pub tokens : Tokens script [] pieces ts
+
+-- What the host sees, by the refusal table and its order: 20, 17, 18, the first of 1 to 16 from the left, 19. Every refusal leaves the records
+-- buffer unchanged.
+pub data Sees (script buffer block : List ℕ) : Seen → Type 0 where
+  -- answer block isn't 16 bytes. After 20 the block is unchanged.
+  twenty : (length block ≡ 16 → ⊥) → Sees script buffer block (seen 20 buffer block)
+  -- over 16,777,216 bytes, at 0
+  seventeen : length block ≡ 16 → mostBytes < length script → Sees script buffer block (seen 17 buffer (blockOf 17 0 0 0))
+  -- not UTF-8, at the length of the longest valid prefix
+  eighteen : {n : ℕ} → length block ≡ 16 → length script ≤ mostBytes → LongestValid script n → n < length script
+      → Sees script buffer block (seen 18 buffer (blockOf 18 n 0 0))
+  -- 1 to 16
+  refused : {j a : ℕ} → length block ≡ 16 → length script ≤ mostBytes → WellFormed script → Refused script j a
+      → Sees script buffer block (seen j buffer (blockOf j a 0 0))
+  -- records need more than lent: carries the token count and bytes needed
+  nineteen : {ts : List Token} → length block ≡ 16 → length script ≤ mostBytes → WellFormed script → TokensOf script ts
+      → length buffer < recordBytes ts
+      → Sees script buffer block (seen 19 buffer (blockOf 19 0 (tokenCount ts) (recordBytes ts)))
+  -- 0 if accepted. Bytes past the records keep their values.
+  accepted : {ts : List Token} → length block ≡ 16 → length script ≤ mostBytes → WellFormed script → TokensOf script ts
+      → recordBytes ts ≤ length buffer
+      → Sees script buffer block (seen 0 (records ts ++ drop (recordBytes ts) buffer) (blockOf 0 0 (tokenCount ts) (recordBytes ts)))
+
+-- ---- computed
+
+-- the answer with `room` bytes lent: accepted, a refusal's number and place, or 19 with both counts
+pub data Verdict : Type 0 where
+  good : List Token → Verdict
+  bad : ℕ → ℕ → Verdict
+  short : List Token → Verdict
+
+-- 19: records need more than lent
+unfoldable pub judge : ℕ → Answer → Verdict
+judge room (Answer.accepted ts) = cond (leb (recordBytes ts) room) (good ts) (short ts)
+judge room (Answer.refused j a) = bad j a
+
+unfoldable pub verdict : List ℕ → ℕ → Verdict
+verdict script room =
+    let valid = validPrefix script in
+    let judged = judge room (answer script) in
+    let checked = cond (ltb valid (length script)) (bad 18 valid) judged in
+    cond (ltb mostBytes (length script)) (bad 17 0) checked
+
+-- the number, the buffer and the block that follow from it
+unfoldable pub seenOf : Verdict → List ℕ → Seen
+seenOf (good ts) buffer = seen 0 (records ts ++ drop (recordBytes ts) buffer) (blockOf 0 0 (tokenCount ts) (recordBytes ts))
+seenOf (bad j a) buffer = seen j buffer (blockOf j a 0 0)
+seenOf (short ts) buffer = seen 19 buffer (blockOf 19 0 (tokenCount ts) (recordBytes ts))
+
+unfoldable pub hostOf : List ℕ → List ℕ → List ℕ → Seen
+hostOf script buffer block =
+    let judged = seenOf (verdict script (length buffer)) buffer in
+    cond (eqb (length block) 16) judged (seen 20 buffer block)
+
+-- ---- token text
+
+-- A byte 0x80 to 0xBF at a place inside the script puts that place inside a character.
+abbrev pub inside : List ℕ → ℕ → Bool
+inside script i = ltb i (length script) && between 0x80 0xBF (getD script i 0)
+
+-- Token text is the script's bytes from start to end, as a part; at 21 the empty part at 0, and a separate yes or no tells the two apart.
+pub data Part : Type 0 where
+  part : Bool → ℕ → ℕ → Part
+
+-- 21: start past end, end past script, or either inside a character
+unfoldable pub tokenText : List ℕ → ℕ → ℕ → Part
+tokenText script a e =
+    cond (leb a e && leb e (length script) && not (inside script a) && not (inside script e)) (part true a e) (part false 0 0)

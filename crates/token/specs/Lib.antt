@@ -1,0 +1,12 @@
+pub mod Tests
+pub mod Kinds
+pub mod Shapes
+pub mod Reading
+pub mod Refusals
+pub mod Flags
+pub mod Answer
+pub mod Records
+pub mod Host
+pub mod Listing
+pub mod Examples
+pub mod Theorems

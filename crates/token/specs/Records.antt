@@ -1,0 +1,78 @@
+-- Document 01, "Records": a token's record as bytes, the records of a list of tokens, the token count and the record bytes.
+use Prim.Native.Nat.{ℕ, _+_, _/_, _%_}
+use mathlib.Core.Bool.{Bool, true, false}
+use mathlib.Core.List.{List, [], _∷_, _++_}
+use lib.ListN.{length}
+use Rattle.token.specs.Kinds.{kindNumber, Token}
+use Rattle.token.specs.declared.kinds.TokenKind.{TokenKind}
+use Rattle.token.specs.declared.kinds.TokenKind.the-variants as tk
+
+-- Little-endian
+unfoldable pub le2 : ℕ → List ℕ
+le2 x = x % 256 ∷ x / 256 % 256 ∷ []
+
+unfoldable pub le4 : ℕ → List ℕ
+le4 x = x % 256 ∷ x / 256 % 256 ∷ x / 65536 % 256 ∷ x / 16777216 % 256 ∷ []
+
+unfoldable pub le8 : ℕ → List ℕ
+le8 x = le4 (x % 4294967296) ++ le4 (x / 4294967296)
+
+abbrev pub bit : Bool → ℕ
+bit true = 1
+bit false = 0
+
+-- a value of a record, by how many bytes it takes
+pub data Value : Type 0 where
+  one four eight : ℕ → Value
+
+-- IntLit (+4: value), LongLit (+8: value), Str (+8: content start and end), Newline (+1: after-comment)
+abbrev pub valuesOf : TokenKind → List Value
+valuesOf tk.Ident = []
+valuesOf tk.OpId = []
+valuesOf tk.BacktickId = []
+valuesOf (tk.IntLit v) = four v ∷ []
+valuesOf (tk.LongLit v) = eight v ∷ []
+valuesOf (tk.Str a e) = four a ∷ four e ∷ []
+valuesOf tk.CharSym = []
+valuesOf tk.LParen = []
+valuesOf tk.RParen = []
+valuesOf tk.LBracket = []
+valuesOf tk.RBracket = []
+valuesOf tk.LBrace = []
+valuesOf tk.RBrace = []
+valuesOf tk.Comma = []
+valuesOf tk.Semi = []
+valuesOf tk.Dot = []
+valuesOf (tk.Newline mark) = one (bit mark) ∷ []
+valuesOf tk.Eof = []
+valuesOf (tk.Kw k) = []
+
+abbrev pub valueBytes : List Value → List ℕ
+valueBytes [] = []
+valueBytes (one v ∷ vs) = v ∷ valueBytes vs
+valueBytes (four v ∷ vs) = le4 v ++ valueBytes vs
+valueBytes (eight v ∷ vs) = le8 v ++ valueBytes vs
+
+unfoldable pub values : TokenKind → List ℕ
+values k = valueBytes (valuesOf k)
+
+-- 13 bytes without values
+unfoldable pub recordLength : TokenKind → ℕ
+recordLength k = 13 + length (values k)
+
+-- length (2 bytes, whole record), kind (2), start (4), end (4), cut (1), values
+unfoldable pub recordOf : Token → List ℕ
+recordOf t =
+    le2 (recordLength (t .kind)) ++ le2 (kindNumber (t .kind)) ++ le4 (t .start) ++ le4 (t .end) ++ (bit (t .cut) ∷ values (t .kind))
+
+unfoldable pub records : List Token → List ℕ
+records [] = []
+records (t ∷ ts) = recordOf t ++ records ts
+
+-- Its token count is how many records these are, its record bytes the sum of their lengths.
+abbrev pub tokenCount : List Token → ℕ
+tokenCount ts = length ts
+
+unfoldable pub recordBytes : List Token → ℕ
+recordBytes [] = 0
+recordBytes (t ∷ ts) = recordLength (t .kind) + recordBytes ts
