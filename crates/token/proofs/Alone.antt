@@ -11,21 +11,18 @@ use Rattle.chars.proofs.Bools.{clash}
 use Rattle.token.specs.Tests.{quote}
 use Rattle.token.specs.Kinds.{Kind, TokenType, isComment, isLineEnd, Token}
 use Rattle.token.specs.Reading.{Piece, endsQuote, Content, Valued, Tokens}
-use Rattle.token.specs.Records.{le2, le4, recordLength, recordOf, records, recordBytes}
+use Rattle.token.specs.Records.{recordLength, recordOf, records, recordBytes}
 use Rattle.token.specs.declared.kinds.TokenKind.{TokenKind}
 use Rattle.token.proofs.Contents.{ends-snoc}
+use Rattle.token.proofs.Stores.{length-record}
 
 -- ---- records
-
-record-length : (t : Token) → length (recordOf t) ≡ recordLength (t .kind)
-unfolding recordOf recordLength le2 le4
-record-length t = omega arith
 
 pub records-length : (ts : List Token) → length (records ts) ≡ recordBytes ts
 unfolding records recordBytes
 records-length [] = refl
 records-length (t ∷ ts) =
-    length-append (recordOf t) (records ts) ∙ ap (λ n. n + length (records ts)) (record-length t)
+    length-append (recordOf t) (records ts) ∙ ap (λ n. n + length (records ts)) (length-record t)
     ∙ ap (λ n. recordLength (t .kind) + n) (records-length ts)
 
 -- ---- content

@@ -104,7 +104,7 @@ digit-code (suc (suc (suc (suc (suc (suc (suc (suc zero)))))))) l = refl
 digit-code (suc (suc (suc (suc (suc (suc (suc (suc (suc zero))))))))) l = refl
 digit-code (suc (suc (suc (suc (suc (suc (suc (suc (suc (suc k)))))))))) l = absurd (omega arith)
 
-digit-one : (c : ℕ) → isDigit c ≡ true → oneOf "0123456789" c ≡ true
+pub digit-one : (c : ℕ) → isDigit c ≡ true → oneOf "0123456789" c ≡ true
 unfolding isDigit
 digit-one c e =
     let h = and-both (leb 48 c) (leb c 57) e in

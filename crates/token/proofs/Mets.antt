@@ -18,7 +18,7 @@ use Rattle.token.specs.Tests.{isDigit, isHexDigit, isAny, begins, quote,
 use Rattle.token.specs.Shapes.{One, Run, Times, both, Single, singleChar, tripleChar, Block, Name}
 use Rattle.token.specs.Refusals.{starts, BadEscape, Opens, InSingle, InTriple, WithinSingle, Met, isEscapeNumber, isSingleNumber, First}
 use Rattle.token.specs.Flags.{GapKind}
-use Rattle.token.specs.Answer.{Found, Start, startOf, scan, scanReturn, scanBlock, scanString, plainOf, escapedOf, scanTick, afterIdent, bad, hexes, afterSlash, wrong, inPlain, inPrefixed, inTriple, inString}
+use Rattle.token.specs.Answer.{Found, Start, startOf, scan, scanReturn, scanBlock, scanString, plainOf, escapedOf, scanCharSym, afterIdent, bad, hexes, afterSlash, wrong, inPlain, inPrefixed, inTriple, inString}
 use Rattle.token.specs.declared.kinds.TokenKind.the-variants as tk
 use Rattle.token.proofs.Runs.{run1-finds, run-suffix}
 use Rattle.token.proofs.Numbers.{one-drop, one-found, text-found, six-found}
@@ -286,7 +286,7 @@ triple-meets n p s m j (o, h, e, both {m = t} a w) f = go (triple-past p w)
 
 -- ---- the others
 
-tick-scan : (n : ℕ) (s : Text) → apostrophe s ≡ true → scan n s ≡ scanTick s
+tick-scan : (n : ℕ) (s : Text) → apostrophe s ≡ true → scan n s ≡ scanCharSym s
 tick-scan n s e = scan-by n s Start.charSym (starts-tick s (clear-head (oneOf "'") refl s e) e)
 
 other-scan : (n : ℕ) (c : Char) (r : Text) → starts (c ∷ r) ≡ false → scan n (c ∷ r) ≡ Found.stuck 3 (c ∷ r)

@@ -22,7 +22,7 @@ use Rattle.token.proofs.Runs.{run1-finds, run1-found}
 use Rattle.token.proofs.Operators.{Stood}
 
 -- reading digits gives their value and what follows their run
-read-is : (p : ℕ → Bool) (b v : ℕ) (s : Text) → readDigits p b v s ≡ read (valueFrom p b v s) (afterRun (head p) s)
+pub read-is : (p : ℕ → Bool) (b v : ℕ) (s : Text) → readDigits p b v s ≡ read (valueFrom p b v s) (afterRun (head p) s)
 unfolding readDigits valueFrom afterRun
 read-is p b v [] = refl
 read-is p b v (c ∷ s) = go (p (c .code)) refl (read-is p b (v * b + digitValue (c .code)) s)

@@ -15,7 +15,7 @@ use Rattle.token.specs.Kinds.{TokenType}
 use Rattle.token.specs.Shapes.{One, _then_, both, Character, Name, Symbol, TokenShape}
 use Rattle.token.specs.Reading.{Valued}
 use Rattle.token.specs.Refusals.{Met}
-use Rattle.token.specs.Answer.{Found, afterIdent, good, afterSlash, escapedOf, scanTick}
+use Rattle.token.specs.Answer.{Found, afterIdent, good, afterSlash, escapedOf, scanCharSym}
 use Rattle.token.specs.declared.kinds.TokenKind.the-variants as tk
 use Rattle.token.proofs.Runs.{run1-finds, run1-found}
 use Rattle.token.proofs.Numbers.{one-drop, one-found}
@@ -55,14 +55,14 @@ charAhead m = plainChar m && apostrophe (drop 1 m)
 abbrev pub semiAhead : Text → Bool
 semiAhead m = isAny ";" m && not (opSign (drop 1 m))
 
-pub scan-tick : (t : Char) (m : Text) → scanTick (t ∷ m)
+pub scan-tick : (t : Char) (m : Text) → scanCharSym (t ∷ m)
     ≡ cond (backslash m) (escapedOf (drop 1 m) (afterSlash (drop 1 m)))
     (cond (charAhead m) (Found.token tk.CharSym (drop 2 m))
     (cond (head isIdStart m) (Found.token tk.CharSym (afterIdent false (drop 1 m)))
     (cond (freeSign m) (Found.token tk.CharSym (afterRun freeSign m))
     (cond (semiAhead m) (Found.token tk.CharSym (drop 1 m))
     (Found.stuck 16 m)))))
-unfolding scanTick
+unfolding scanCharSym
 scan-tick t m = refl
 
 -- the plain character shape, from the test and back
@@ -111,14 +111,14 @@ name-is m r (inr (inr h)) = let q = one-found (isAny ";") m r (h .0) in NameIs.s
 
 -- ---- what it finds stands, or its refusal is met
 
-pub tick-stands : (n : ℕ) (s : Text) → apostrophe s ≡ true → Stood n s (scanTick s) ⊎ Fell s (scanTick s)
+pub tick-stands : (n : ℕ) (s : Text) → apostrophe s ≡ true → Stood n s (scanCharSym s) ⊎ Fell s (scanCharSym s)
 tick-stands n [] e = clash e
 tick-stands n (t ∷ m) e = go (backslash m) refl
   where
     Answer : Type 0
-    Answer = Stood n (t ∷ m) (scanTick (t ∷ m)) ⊎ Fell (t ∷ m) (scanTick (t ∷ m))
+    Answer = Stood n (t ∷ m) (scanCharSym (t ∷ m)) ⊎ Fell (t ∷ m) (scanCharSym (t ∷ m))
 
-    stood : (r : Text) → scanTick (t ∷ m) ≡ Found.token tk.CharSym r → TokenShape TokenType.charSym (t ∷ m) r → Stood n (t ∷ m) (scanTick (t ∷ m))
+    stood : (r : Text) → scanCharSym (t ∷ m) ≡ Found.token tk.CharSym r → TokenShape TokenType.charSym (t ∷ m) r → Stood n (t ∷ m) (scanCharSym (t ∷ m))
     stood r f h = record { type = TokenType.charSym; token = tk.CharSym; rest = r; found = f; shape = h; valued = Valued.charSym }
 
     -- an escape
@@ -180,7 +180,7 @@ tick-stands n (t ∷ m) e = go (backslash m) refl
 
 -- ---- what stands is what it finds
 
-pub char-found : (s r : Text) → Character s r → (apostrophe s ≡ true) × (scanTick s ≡ Found.token tk.CharSym r)
+pub char-found : (s r : Text) → Character s r → (apostrophe s ≡ true) × (scanCharSym s ≡ Found.token tk.CharSym r)
 char-found [] r (inl (both o w)) = clash (one-found apostrophe [] _ o .0)
 char-found [] r (inr (both o w)) = clash (one-found apostrophe [] _ o .0)
 char-found (t ∷ m) r h = (first h, go (char-is t m r h))
@@ -189,24 +189,24 @@ char-found (t ∷ m) r h = (first h, go (char-is t m r h))
     first (inl (both (One.one e) w)) = e
     first (inr (both (One.one e) w)) = e
 
-    go : CharIs t m r → scanTick (t ∷ m) ≡ Found.token tk.CharSym r
+    go : CharIs t m r → scanCharSym (t ∷ m) ≡ Found.token tk.CharSym r
     go (CharIs.escaped k x y z w) = scan-tick t m ∙ rw (x, y, z, w)
     go (CharIs.plain x y z) = scan-tick t m ∙ rw (y, x, z)
 
-pub symbol-found : (s r : Text) → Symbol s r → (apostrophe s ≡ true) × (scanTick s ≡ Found.token tk.CharSym r)
+pub symbol-found : (s r : Text) → Symbol s r → (apostrophe s ≡ true) × (scanCharSym s ≡ Found.token tk.CharSym r)
 symbol-found s r h = go s r (h .0) (h .1) (h .2)
   where
     go : (s r : Text) → (One apostrophe then Name) s r → ((q : Text) → Character s q → ⊥) → backslash (drop 1 s) ≡ false
-        → (apostrophe s ≡ true) × (scanTick s ≡ Found.token tk.CharSym r)
+        → (apostrophe s ≡ true) × (scanCharSym s ≡ Found.token tk.CharSym r)
     go s r (both (One.one {c = t} {s = m} e) w) nc k = (e, by (charAhead m) refl (name-is m r w))
       where
-        by : (b : Bool) → charAhead m ≡ b → NameIs m r → scanTick (t ∷ m) ≡ Found.token tk.CharSym r
+        by : (b : Bool) → charAhead m ≡ b → NameIs m r → scanCharSym (t ∷ m) ≡ Found.token tk.CharSym r
         by true f w = absurd (nc (drop 2 m) (char-stands t m e f))
         by false f (NameIs.word x y) = scan-tick t m ∙ rw (f, k, x, y)
         by false f (NameIs.run x y) = scan-tick t m ∙ rw (f, k, free-no-start m x, x, y)
         by false f (NameIs.semi x y z) = scan-tick t m ∙ rw (f, k, semi-no-start m x, semi-no-free m x, x, y, z)
 
-pub char-sym-found : (s r : Text) → TokenShape TokenType.charSym s r → (apostrophe s ≡ true) × (scanTick s ≡ Found.token tk.CharSym r)
+pub char-sym-found : (s r : Text) → TokenShape TokenType.charSym s r → (apostrophe s ≡ true) × (scanCharSym s ≡ Found.token tk.CharSym r)
 unfolding TokenShape
 char-sym-found s r (inl h) = char-found s r h
 char-sym-found s r (inr h) = symbol-found s r h

@@ -37,22 +37,22 @@ walk-rest n f c s r (h, l) =
     let q : r ≡ drop (length s - length r) s = h .tail ∙ ap (λ k. drop k (c ∷ s)) e in
     walk-skip n (length s - length r) f s ∙ ap (walk n 0 f) (sym q)
 
-walk-gap : (n : ℕ) (f : Gap) (c : Char) (s r : Text) (g : GapKind) → scan n (c ∷ s) ≡ Found.gap g r → Strict r (c ∷ s)
+pub walk-gap : (n : ℕ) (f : Gap) (c : Char) (s r : Text) (g : GapKind) → scan n (c ∷ s) ≡ Found.gap g r → Strict r (c ∷ s)
     → walk n 0 f (c ∷ s) ≡ gapBefore g (c .at) (place n r) (f .comment) (walk n 0 (push g f) r)
 unfolding walk
 walk-gap n f c s r g e h = rw (e, walk) (ap (gapBefore g (c .at) (place n r) (f .comment)) (walk-rest n (push g f) c s r h))
 
-walk-token : (n : ℕ) (f : Gap) (c : Char) (s r : Text) (t : TokenKind) → scan n (c ∷ s) ≡ Found.token t r → Strict r (c ∷ s)
+pub walk-token : (n : ℕ) (f : Gap) (c : Char) (s r : Text) (t : TokenKind) → scan n (c ∷ s) ≡ Found.token t r → Strict r (c ∷ s)
     → walk n 0 f (c ∷ s) ≡ before (record { kind = t; start = c .at; end = place n r; cut = cutOf f }) (walk n 0 fresh r)
 unfolding walk
 walk-token n f c s r t e h =
     rw (e, walk) (ap (before (record { kind = t; start = c .at; end = place n r; cut = cutOf f })) (walk-rest n fresh c s r h))
 
-walk-stuck : (n : ℕ) (f : Gap) (c : Char) (s q : Text) (j : ℕ) → scan n (c ∷ s) ≡ Found.stuck j q → walk n 0 f (c ∷ s) ≡ refused j (place n q)
+pub walk-stuck : (n : ℕ) (f : Gap) (c : Char) (s q : Text) (j : ℕ) → scan n (c ∷ s) ≡ Found.stuck j q → walk n 0 f (c ∷ s) ≡ refused j (place n q)
 unfolding walk
 walk-stuck n f c s q j e = rw (e, walk)
 
-walk-end : (n : ℕ) (f : Gap) → walk n 0 f [] ≡ accepted (record { kind = tk.Eof; start = n; end = n; cut = cutOf f } ∷ [])
+pub walk-end : (n : ℕ) (f : Gap) → walk n 0 f [] ≡ accepted (record { kind = tk.Eof; start = n; end = n; cut = cutOf f } ∷ [])
 unfolding walk
 walk-end n f = refl
 

@@ -226,8 +226,8 @@ abbrev pub escapedOf : Text → Esc → Found
 escapedOf m (good k) = tickNext (drop k m)
 escapedOf m (bad j q) = Found.stuck j q
 
-unfoldable pub scanTick : Text → Found
-scanTick s =
+unfoldable pub scanCharSym : Text → Found
+scanCharSym s =
     let m = drop 1 s in
     let escaped = escapedOf (drop 1 m) (afterSlash (drop 1 m)) in
     let word = Found.token tk.CharSym (afterIdent false (drop 1 m)) in
@@ -283,7 +283,7 @@ scanAs n Start.word s = scanIdent n s
 scanAs n Start.operator s = scanOperator s
 scanAs n Start.backtick s = scanBacktick n s
 scanAs n Start.string s = scanString n s
-scanAs n Start.charSym s = scanTick s
+scanAs n Start.charSym s = scanCharSym s
 scanAs n Start.other s = Found.stuck 3 s
 
 unfoldable pub scan : ℕ → Text → Found

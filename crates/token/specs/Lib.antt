@@ -10,3 +10,6 @@ pub mod Host
 pub mod Listing
 pub mod Examples
 pub mod Theorems
+pub mod Code
+pub mod Seek
+pub mod Measure

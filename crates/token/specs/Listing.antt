@@ -11,8 +11,8 @@ use Rattle.chars.specs.Utf8.{validFrom, width, codeOf}
 use Rattle.chars.specs.Text.{charsAt, from, afterRun}
 use Rattle.token.specs.Tests.{same, isDigit, isHexDigit, begins}
 use Rattle.token.specs.Kinds.{wordOf, runOf, kindNumber, Token}
-use Rattle.token.specs.Answer.{codesTo, scanReturn, scanLine, close, scanBlock, readDigits, scanNumber, hexes, digitsUpTo, afterSlash, inPlain, inPrefixed, inTriple, inString, strip, plainContent, scanString, orPrefixed, afterIdent, scanIdent, scanOperator, scanBacktick, scanTick, startOf, signOf, scan, walk, answer}
-use Rattle.token.specs.Records.{Value, one, four, eight, valuesOf, bit, le2, le4, le8, values, recordLength, recordOf, records, recordBytes}
+use Rattle.token.specs.Answer.{codesTo, scanReturn, scanLine, close, scanBlock, readDigits, scanNumber, hexes, digitsUpTo, afterSlash, inPlain, inPrefixed, inTriple, inString, strip, plainContent, scanString, orPrefixed, afterIdent, scanIdent, scanOperator, scanBacktick, scanCharSym, startOf, signOf, scan, walk, answer}
+use Rattle.token.specs.Records.{Value, one, four, eight, valuesOf, bit, le2, le4, le8, values, recordLength, headOf, recordOf, records, recordBytes}
 use Rattle.token.specs.Host.{Verdict, good, bad, short, judge, verdict, blockOf, seenOf, Seen, hostOf}
 
 -- a number in base ten, before the text t; the first argument bounds its digits
@@ -74,7 +74,7 @@ pub data Example : Type 0 where
 infix 70 _gives_
 -- Where this is unfolded, all of the computed definition is.
 unfoldable pub listed : List ℕ → List ℕ
-unfolding alphabetic lowercase uppercase nd alphaNotLetter width validFrom codeOf charsAt from isIdStart isIdChar isOpSign isPrintable isDigit isHexDigit begins wordOf runOf afterRun codesTo scanReturn scanLine close scanBlock readDigits scanNumber hexes digitsUpTo afterSlash inPlain inPrefixed inTriple inString strip plainContent scanString orPrefixed afterIdent scanIdent scanOperator scanBacktick scanTick startOf signOf scan walk answer values recordLength recordBytes le4 le8 judge verdict decimalFor shown listing
+unfolding alphabetic lowercase uppercase nd alphaNotLetter width validFrom codeOf charsAt from isIdStart isIdChar isOpSign isPrintable isDigit isHexDigit begins wordOf runOf afterRun codesTo scanReturn scanLine close scanBlock readDigits scanNumber hexes digitsUpTo afterSlash inPlain inPrefixed inTriple inString strip plainContent scanString orPrefixed afterIdent scanIdent scanOperator scanBacktick scanCharSym startOf signOf scan walk answer values recordLength recordBytes le4 le8 judge verdict decimalFor shown listing
 listed s = listing (verdict s (17 * length s + 13))
 
 abbrev pub holds : List Example → Bool
@@ -83,5 +83,5 @@ holds (_gives_ s t ∷ es) = cond (same (listed (script s)) (codes t)) (holds es
 
 -- the same for what a host sees
 unfoldable pub hosted : List ℕ → List ℕ → List ℕ → Seen
-unfolding listed le2 recordOf records blockOf seenOf hostOf
+unfolding listed le2 headOf recordOf records blockOf seenOf hostOf
 hosted s buffer answerBlock = hostOf s buffer answerBlock

@@ -60,10 +60,13 @@ values k = valueBytes (valuesOf k)
 unfoldable pub recordLength : TokenKind → ℕ
 recordLength k = 13 + length (values k)
 
--- length (2 bytes, whole record), kind (2), start (4), end (4), cut (1), values
+-- length (2 bytes, whole record), kind (2), start (4), end (4), cut (1)
+unfoldable pub headOf : Token → List ℕ
+headOf t = le2 (recordLength (t .kind)) ++ le2 (kindNumber (t .kind)) ++ le4 (t .start) ++ le4 (t .end) ++ (bit (t .cut) ∷ [])
+
+-- then the values
 unfoldable pub recordOf : Token → List ℕ
-recordOf t =
-    le2 (recordLength (t .kind)) ++ le2 (kindNumber (t .kind)) ++ le4 (t .start) ++ le4 (t .end) ++ (bit (t .cut) ∷ values (t .kind))
+recordOf t = headOf t ++ values (t .kind)
 
 unfoldable pub records : List Token → List ℕ
 records [] = []

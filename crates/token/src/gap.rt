@@ -1,7 +1,16 @@
-// What is kept of a gap while its pieces pass by: document 01, "Piece table", after-comment marks and cuts.
+// Gaps: blanks, comments and line ends, and what is kept of them for marks and cuts. Document 01, "Piece table".
+use crate::cursor::Cursor;
+use crate::cursor::byte_at;
+use crate::cursor::two_at;
 ghost use mathlib.Core.Path.{_≡_};
-ghost use mathlib.Core.Bool.{_||_};
+ghost use mathlib.Core.Bool.{true, not, _||_};
+ghost use Prim.Native.Nat.{_+_, _≤_};
+ghost use lib.ListN.{length, drop};
+ghost use Rattle.chars.specs.Text.{from, afterRun};
+ghost use Rattle.token.specs.Tests.{endOfLine, endsLine, opensLine, opensBlock};
 ghost use Rattle.token.specs.Flags.{GapKind, fresh, push, cutOf};
+ghost use Rattle.token.specs.Answer.{close};
+ghost use Rattle.token.specs.Code.{closedOf};
 
 pub struct Gap {
     pub newline: bool, // a line end of the gap came
@@ -68,5 +77,63 @@ impl Gap {
         ensures { λ r. ⌜ r ≡ cutOf self ⌝ }
     {
         either(self.cut, self.waits)
+    }
+}
+
+// Where a block comment ends, or that it is open at the end of script.
+pub enum Closed {
+    At(Cursor),
+    Open,
+}
+
+// Does an LF or a CR LF stand at a place?
+fn line_ends_at(s: &[u8], at: usize) -> bool
+    requires { ⌜ at ≤ length (now s) ⌝ }
+    ensures { λ r. ⌜ r ≡ endsLine (from (now (s .entry)) at) ⌝ }
+{
+    if byte_at(s, at) == 0x0A {
+        return true;
+    }
+    two_at(s, at, 0x0D, 0x0A)
+}
+
+impl Cursor {
+    // Past the line comment that begins there, up to the line end or the end of script.
+    pub fn consume_line_comment(self, s: &[u8]) -> Cursor
+        requires { ⌜ (self .at ≤ length (now s)) × (opensLine (from (now s) (self .at)) ≡ true) ⌝ }
+        ensures { λ r. ⌜ (r .at ≤ length (now (s .entry))) × (from (now (s .entry)) (r .at) ≡ afterRun (λ t. not (endOfLine t)) (drop 2 (from (now (s .entry)) (self .at)))) ⌝ }
+    {
+        let mut i = self.at + 2;
+        while i < s.len() {
+            if line_ends_at(s, i) {
+                return Cursor { at: i };
+            }
+            i += 1;
+        }
+        Cursor { at: i }
+    }
+
+    // Past the block comment that begins there. Nested ones are counted, so that any depth takes one pass and no stack.
+    pub fn consume_block_comment(self, s: &[u8]) -> Closed
+        requires { ⌜ (self .at ≤ length (now s)) × (opensBlock (from (now s) (self .at)) ≡ true) ⌝ }
+        ensures { λ r. ⌜ r ≡ closedOf (length (now (s .entry))) (close 0 0 (drop 2 (from (now (s .entry)) (self .at)))) ⌝ }
+    {
+        let mut i = self.at + 2;
+        let mut depth: usize = 0;
+        while i < s.len() {
+            if two_at(s, i, 0x2A, 0x2F) {
+                i += 2;
+                if depth == 0 {
+                    return Closed::At(Cursor { at: i });
+                }
+                depth -= 1;
+            } else if two_at(s, i, 0x2F, 0x2A) {
+                i += 2;
+                depth += 1;
+            } else {
+                i += 1;
+            }
+        }
+        Closed::Open
     }
 }

@@ -1,0 +1,48 @@
+-- `replay::holds_records` is safe and ends.
+-- Assumes nothing.
+use borrow.Author.Needs.{needs}
+use lib.ListN.{length-take}
+use native.Mathlib.Omega.{arith}
+use Rattle.replay.proofs.holds_records.Statement.{statement}
+use Rattle.replay.proofs.holds_records.Tie as tie
+
+returns : tie.Need-returns
+returns c = search needs
+
+slice-aggregate-stands-at : tie.Need-slice-aggregate-stands-at
+slice-aggregate-stands-at c = omega (arith, length-take (c .before .before .before .before .args .bytes) (c .before .before .before .before .args .lent .now))
+
+stands-at-requires : tie.Need-stands-at-requires
+stands-at-requires c κs = search needs
+
+returns-2 : tie.Need-returns-2
+returns-2 c = search needs
+
+sub-is-untouched : tie.Need-sub-is-untouched
+sub-is-untouched c = search needs
+
+part-is-untouched-start : tie.Need-part-is-untouched-start
+part-is-untouched-start c = search needs
+
+part-is-untouched-end : tie.Need-part-is-untouched-end
+part-is-untouched-end c = search needs
+
+is-untouched-requires : tie.Need-is-untouched-requires
+is-untouched-requires c κs = search needs
+
+returns-3 : tie.Need-returns-3
+returns-3 c = search needs
+
+pub holds-records-spec : {M : Type 1} → statement M
+holds-records-spec =
+    tie.close
+    (tie.spec
+    returns
+    slice-aggregate-stands-at
+    stands-at-requires
+    returns-2
+    sub-is-untouched
+    part-is-untouched-start
+    part-is-untouched-end
+    is-untouched-requires
+    returns-3)

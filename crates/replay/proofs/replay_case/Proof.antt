@@ -1,0 +1,88 @@
+-- `replay::replay_case` meets its contract: a case has 24 bytes or more.
+-- Assumes nothing.
+use borrow.Author.Needs.{needs}
+use lib.ListN.{length-take}
+use native.Mathlib.Omega.{arith}
+use Rattle.replay.proofs.replay_case.Statement.{statement}
+use Rattle.replay.proofs.replay_case.Tie as tie
+
+sub-left : tie.Need-sub-left
+sub-left c = search needs
+
+returns : tie.Need-returns
+returns c = search needs
+
+add-start : tie.Need-add-start
+add-start c = search needs
+
+number-at-requires : tie.Need-number-at-requires
+number-at-requires c κs = search needs
+
+sub-least : tie.Need-sub-least
+sub-least c = search needs
+
+least-requires : tie.Need-least-requires
+least-requires c κs = search needs
+
+add-end : tie.Need-add-end
+add-end c = search needs
+
+listed-bytes-requires : tie.Need-listed-bytes-requires
+listed-bytes-requires c κs = search needs
+
+sub-least-2 : tie.Need-sub-least-2
+sub-least-2 c = search needs
+
+least-requires-2 : tie.Need-least-requires-2
+least-requires-2 c κs = search needs
+
+add-number-at : tie.Need-add-number-at
+add-number-at c = search needs
+
+number-at-requires-2 : tie.Need-number-at-requires-2
+number-at-requires-2 c κs = search needs
+
+least-requires-3 : tie.Need-least-requires-3
+least-requires-3 c κs = search needs
+
+slice-relend-prefix-agrees : tie.Need-slice-relend-prefix-agrees
+slice-relend-prefix-agrees c = search needs
+
+slice-aggregate-agrees : tie.Need-slice-aggregate-agrees
+slice-aggregate-agrees c = omega (arith, length-take (c .before .least3 .result) (c .before .before .before .before .before .before .before .before .before .before .args .records .now))
+
+agrees-requires : tie.Need-agrees-requires
+agrees-requires c κs = search needs
+
+add-t10 : tie.Need-add-t10
+add-t10 c = search needs
+
+same-length : tie.Need-same-length
+same-length c = search needs
+
+returns-2 : tie.Need-returns-2
+returns-2 c = search needs
+
+pub replay-case-spec : {M : Type 1} → statement M
+replay-case-spec =
+    tie.close
+    (tie.spec
+    sub-left
+    returns
+    add-start
+    number-at-requires
+    sub-least
+    least-requires
+    add-end
+    listed-bytes-requires
+    sub-least-2
+    least-requires-2
+    add-number-at
+    number-at-requires-2
+    least-requires-3
+    slice-relend-prefix-agrees
+    slice-aggregate-agrees
+    agrees-requires
+    add-t10
+    same-length
+    returns-2)

@@ -1,0 +1,190 @@
+// Replays answers of the published tokenize. `rt check replay` runs it on `stdin`, which `compare/tokenize FOLDER --list` wrote, and holds
+// what it prints to `stdout`.
+//
+// Standard input holds cases, one directly after the other, up to its end. Numbers are four bytes each, little-endian. A case is
+//
+//     the script's length
+//     how many bytes are lent for the records
+//     the answer block that tokenize's answer gives: number, place, token count, record bytes
+//     the script
+//     where the number is 0, the records: as many bytes as the block says
+//
+// A case agrees when ergo_tokenize hands back the number, the block is the one listed, the records stand in the lent bytes, and every other
+// lent byte is as it was.
+use libc::STDIN_FILENO;
+use libc::STDOUT_FILENO;
+ghost use mathlib.Core.Path.{_≡_};
+ghost use Prim.Native.Nat.{_+_, _≤_, _<_};
+ghost use lib.ListN.{length};
+
+const HEAD_BYTES: usize = 24;
+
+// What each lent byte holds before a call.
+const UNTOUCHED: u8 = 0xA5;
+
+fn wide(x: u8) -> usize
+    ensures { λ r. ⌜ r < 256 ⌝ }
+{
+    x as usize
+}
+
+// The number whose four bytes start at a place; 0 where they do not all stand there.
+fn number_at(list: &[u8], at: usize) -> usize {
+    if list.len() < 4 {
+        return 0;
+    }
+    if at > list.len() - 4 {
+        return 0;
+    }
+    wide(list[at])
+        + wide(list[at + 1]) * 0x100
+        + wide(list[at + 2]) * 0x1_0000
+        + wide(list[at + 3]) * 0x100_0000
+}
+
+fn least(a: usize, b: usize) -> usize
+    ensures { λ r. ⌜ r ≤ b ⌝ }
+{
+    if a < b { a } else { b }
+}
+
+fn fill(lent: &mut [u8]) {
+    let mut i: usize = 0;
+    while i < lent.len() {
+        lent[i] = UNTOUCHED;
+        i += 1;
+    }
+}
+
+// Whether the bytes of the list from a place on are those of part.
+fn stands_at(list: &[u8], at: usize, part: &[u8]) -> bool {
+    if part.len() > list.len() {
+        return false;
+    }
+    if at > list.len() - part.len() {
+        return false;
+    }
+    let mut i: usize = 0;
+    while i < part.len() {
+        if list[at + i] != part[i] {
+            return false;
+        }
+        i += 1;
+    }
+    true
+}
+
+fn is_untouched(rest: &[u8]) -> bool {
+    let mut i: usize = 0;
+    while i < rest.len() {
+        if rest[i] != UNTOUCHED {
+            return false;
+        }
+        i += 1;
+    }
+    true
+}
+
+// Whether the lent bytes hold the records that the list has from a place on, and behind them what they held before.
+fn holds_records(list: &[u8], at: usize, bytes: usize, lent: &[u8]) -> bool {
+    if bytes > lent.len() {
+        return false;
+    }
+    if !stands_at(list, at, &lent[..bytes]) {
+        return false;
+    }
+    is_untouched(&lent[bytes..])
+}
+
+// How many record bytes the case at a place lists.
+fn listed_bytes(list: &[u8], at: usize) -> usize
+    requires { ⌜ at + 24 ≤ length (now list) ⌝ }
+{
+    if number_at(list, at + 8) == 0 {
+        return number_at(list, at + 20);
+    }
+    0
+}
+
+// Whether the tokenizer answers the script as the case at a place says. The script stands before `end`, and the records from there on.
+fn agrees(list: &[u8], at: usize, end: usize, bytes: usize, lent: &mut [u8]) -> bool
+    requires { ⌜ at + 24 ≤ end ⌝ }
+    requires { ⌜ end ≤ length (now list) ⌝ }
+{
+    let start = at + HEAD_BYTES;
+    let mut block = [UNTOUCHED; 16];
+    fill(lent);
+    let number = token::host::ergo_tokenize(&list[start..end], lent, &mut block);
+    if number as usize != number_at(list, at + 8) {
+        return false;
+    }
+    if !stands_at(list, at + 8, &block) {
+        return false;
+    }
+    holds_records(list, end, bytes, lent)
+}
+
+// Where the next case starts, and whether this one agrees.
+struct Replayed {
+    next: usize,
+    agrees: bool,
+}
+
+// The case at a place. One that the end of the list cuts short does not agree.
+fn replay_case(list: &[u8], at: usize, records: &mut [u8]) -> Replayed
+    requires { ⌜ at < length (now list) ⌝ }
+    ensures { λ r. ⌜ at < r .next ⌝ }
+{
+    let left = list.len() - at;
+    if left < HEAD_BYTES {
+        return Replayed {
+            next: list.len(),
+            agrees: false,
+        };
+    }
+    let start = at + HEAD_BYTES;
+    let end = start + least(number_at(list, at), list.len() - start);
+    let bytes = least(listed_bytes(list, at), list.len() - end);
+    let lent = least(number_at(list, at + 4), records.len());
+    let same = agrees(list, at, end, bytes, &mut records[..lent]);
+    Replayed {
+        next: end + bytes,
+        agrees: same,
+    }
+}
+
+fn print_result(scripts: u64, differ: u64) {
+    io::print_decimal(STDOUT_FILENO, scripts);
+    io::write_all(STDOUT_FILENO, b" scripts replayed, ");
+    io::print_decimal(STDOUT_FILENO, differ);
+    io::write_all(STDOUT_FILENO, b" differ\n");
+}
+
+fn replay(list: &[u8], records: &mut [u8]) {
+    let mut at: usize = 0;
+    let mut scripts: u64 = 0;
+    let mut differ: u64 = 0;
+    while at < list.len() {
+        let one = replay_case(list, at, records);
+        scripts = std::num::wrapping_add_u64(scripts, 1);
+        if !one.agrees {
+            differ = std::num::wrapping_add_u64(differ, 1);
+        }
+        at = one.next;
+    }
+    print_result(scripts, differ);
+}
+
+// Room for the list.
+fn list_space() -> [u8; 1048576]
+    ensures { λ r. ⌜ 1048576 ≡ length r ⌝ }
+{
+    [0; 1048576]
+}
+
+fn main() {
+    let mut list = list_space();
+    let mut records = io::large_buffer();
+    let n = io::read_full(STDIN_FILENO, &mut list);
+    replay(&list[..n], &mut records);
+}

@@ -1,0 +1,142 @@
+-- Comments, byte by byte.
+use Prim.Native.Nat.{ℕ, zero, suc, _+_, _-_, _≤_, _<_}
+use mathlib.Core.Path.{_≡_, refl, sym, _∙_, ap}
+use mathlib.Core.Bool.{Bool, true, false, cond, not, _&&_, _||_}
+use mathlib.Core.List.{List, [], _∷_}
+use mathlib.Core.Option.{Option, none, some}
+use lib.ListN.{length, drop, getD}
+use lib.Dec.{eqb, ltb}
+use native.Mathlib.Omega.{arith}
+use borrow.Author.Tests.{ltb-true, ltb-false, eqb-true, eq-eqb, ne-eqb}
+use Rattle.chars.specs.Text.{Char, Text, from, place, afterRun}
+use Rattle.chars.proofs.Bools.{clash, and-both}
+use Rattle.chars.proofs.Places.{at-char, at-ascii, at-end, place-from, byte-by-byte, codeAt}
+use Rattle.token.specs.Tests.{startsWith, begins, endsLine, endOfLine, opensLine, opensBlock, closesBlock}
+use Rattle.token.specs.Answer.{close}
+use Rattle.token.specs.Code.{cursorAt, closedOf}
+use Rattle.token.specs.declared.gap.Closed.the-variants as closed
+use Rattle.token.proofs.Bytes.{two-bytes, one-byte, inside}
+use Rattle.token.proofs.Cursors.{run-past, run-here, run-none}
+
+-- ---- two ASCII characters at a place
+
+pub record Pair (s : List ℕ) (i x y : ℕ) : Type 0 where
+  pub text : from s i ≡ record { code = x; at = i } ∷ record { code = y; at = i + 1 } ∷ from s (i + 2)
+  pub within : i + 2 ≤ length s
+
+pub pair-at : (s : List ℕ) (i x y : ℕ) → 1 ≤ x → x < 0x80 → 1 ≤ y → y < 0x80 → eqb (getD s i 0) x && eqb (getD s (i + 1) 0) y ≡ true → Pair s i x y
+pair-at s i x y a b c d e =
+    let k = and-both (eqb (getD s i 0) x) (eqb (getD s (i + 1) 0) y) e in
+    let p = eqb-true (getD s i 0) x (k .0) in
+    let q = eqb-true (getD s (i + 1) 0) y (k .1) in
+    let g = inside s i (omega arith) in
+    let h = inside s (i + 1) (omega arith) in
+    let m : i + 1 + 1 ≡ i + 2 = omega arith in
+    record {
+      text =
+        at-ascii s i g (omega arith)
+        ∙ ap (λ z. record { code = z; at = i } ∷ from s (i + 1)) p
+        ∙ ap (λ u. record { code = x; at = i } ∷ u)
+        (at-ascii s (i + 1) h (omega arith) ∙ ap (λ z. record { code = z; at = i + 1 } ∷ from s (i + 1 + 1)) q ∙ ap (λ j. record { code = y; at = i + 1 } ∷ from s j) m);
+      within = omega arith
+    }
+
+pub pair-past : {s : List ℕ} {i x y : ℕ} → Pair s i x y → from s (i + 2) ≡ drop 2 (from s i)
+pair-past h = sym (ap (drop 2) (h .text))
+
+-- the three openings and closings
+pub opens-line : (s : List ℕ) (i : ℕ) → opensLine (from s i) ≡ eqb (getD s i 0) 0x2F && eqb (getD s (i + 1) 0) 0x2F
+unfolding begins
+opens-line s i = two-bytes 0x2F 0x2F (omega arith) (omega arith) (omega arith) (omega arith) s i
+
+pub opens-block : (s : List ℕ) (i : ℕ) → opensBlock (from s i) ≡ eqb (getD s i 0) 0x2F && eqb (getD s (i + 1) 0) 0x2A
+unfolding begins
+opens-block s i = two-bytes 0x2F 0x2A (omega arith) (omega arith) (omega arith) (omega arith) s i
+
+pub closes-block : (s : List ℕ) (i : ℕ) → closesBlock (from s i) ≡ eqb (getD s i 0) 0x2A && eqb (getD s (i + 1) 0) 0x2F
+unfolding begins
+closes-block s i = two-bytes 0x2A 0x2F (omega arith) (omega arith) (omega arith) (omega arith) s i
+
+-- a line end
+pub ends-line : (s : List ℕ) (i : ℕ) → endsLine (from s i) ≡ eqb (getD s i 0) 0x0A || (eqb (getD s i 0) 0x0D && eqb (getD s (i + 1) 0) 0x0A)
+unfolding begins
+ends-line s i =
+    ap (λ b. b || startsWith (0x0D ∷ 0x0A ∷ []) (from s i)) (one-byte 0x0A (omega arith) (omega arith) s i)
+    ∙ ap (λ b. eqb (getD s i 0) 0x0A || b) (two-bytes 0x0D 0x0A (omega arith) (omega arith) (omega arith) (omega arith) s i)
+
+-- ---- characters past ASCII open and close nothing
+
+module _ (c : Char) (u : Text) (h : 0x80 ≤ c .code) where
+  other : (x : ℕ) → x < 0x80 → eqb (c .code) x ≡ false
+  other x l = ne-eqb (c .code) x (λ e. absurd (omega arith))
+
+  wide-line : endsLine (c ∷ u) ≡ false
+  unfolding begins
+  wide-line = rw (other 0x0A (omega arith), other 0x0D (omega arith))
+
+  wide-opens : opensBlock (c ∷ u) ≡ false
+  unfolding begins
+  wide-opens = rw (other 0x2F (omega arith))
+
+  wide-closes : closesBlock (c ∷ u) ≡ false
+  unfolding begins
+  wide-closes = rw (other 0x2A (omega arith))
+
+-- ---- line comments
+
+abbrev inLine : Text → Bool
+inLine t = not (endOfLine t)
+
+wide-run : (c : Char) (u : Text) → 0x80 ≤ c .code → afterRun inLine (c ∷ u) ≡ afterRun inLine u
+unfolding afterRun
+wide-run c u h = rw (wide-line c u h)
+
+module _ (s : List ℕ) (i : ℕ) (f : Text) where
+  pub line-stop : i < length s → endsLine (from s i) ≡ true → afterRun inLine (from s i) ≡ f → from s i ≡ f
+  line-stop h e q = let t = at-char s i h in run-here inLine s i f _ _ t (ap inLine t ∙ ap not (sym (ap endsLine t) ∙ e)) q
+
+  pub line-on : i < length s → endsLine (from s i) ≡ false → afterRun inLine (from s i) ≡ f → afterRun inLine (from s (i + 1)) ≡ f
+  line-on h e q = go (ltb (getD s i 0) 0x80) refl
+    where
+      go : (b : Bool) → ltb (getD s i 0) 0x80 ≡ b → afterRun inLine (from s (i + 1)) ≡ f
+      go true l = let t = at-ascii s i h (ltb-true (getD s i 0) 0x80 l) in run-past inLine s i f _ _ t (ap inLine t ∙ ap not (sym (ap endsLine t) ∙ e)) q
+      go false l = byte-by-byte s (afterRun inLine) wide-run i h (ltb-false (getD s i 0) 0x80 l) ∙ q
+
+  pub line-end : length s ≤ i → afterRun inLine (from s i) ≡ f → from s i ≡ f
+  line-end h q = run-none inLine s i f h q
+
+-- ---- block comments
+
+-- a character that neither opens nor closes is passed
+pass : (d : ℕ) (c : Char) (u : Text) → closesBlock (c ∷ u) ≡ false → opensBlock (c ∷ u) ≡ false → close d 0 (c ∷ u) ≡ close d 0 u
+unfolding close
+pass d c u x y = rw (x, y)
+
+module _ (s : List ℕ) (i : ℕ) (f : Option Text) where
+  pub block-close : Pair s i 0x2A 0x2F → close 0 0 (from s i) ≡ f → closed.At (cursorAt (i + 2)) ≡ closedOf (length s) f
+  unfolding close closedOf begins
+  block-close h q =
+      let e : close 0 0 (from s i) ≡ some (from s (i + 2)) = ap (close 0 0) (h .text) in
+      let p = place-from s (i + 2) (h .within) in
+      sym (ap (closedOf (length s)) (sym q ∙ e) ∙ ap (λ j. closed.At (cursorAt j)) p)
+
+  pub block-less : (d : ℕ) → Pair s i 0x2A 0x2F → close (suc d) 0 (from s i) ≡ f → close d 0 (from s (i + 2)) ≡ f
+  unfolding close begins
+  block-less d h q = sym (ap (close (suc d) 0) (h .text)) ∙ q
+
+  pub block-more : (d : ℕ) → Pair s i 0x2F 0x2A → close d 0 (from s i) ≡ f → close (suc d) 0 (from s (i + 2)) ≡ f
+  unfolding close begins
+  block-more d h q = sym (ap (close d 0) (h .text)) ∙ q
+
+  pub block-on : (d : ℕ) → i < length s → closesBlock (from s i) ≡ false → opensBlock (from s i) ≡ false → close d 0 (from s i) ≡ f → close d 0 (from s (i + 1)) ≡ f
+  block-on d h a b q = go (ltb (getD s i 0) 0x80) refl
+    where
+      go : (b : Bool) → ltb (getD s i 0) 0x80 ≡ b → close d 0 (from s (i + 1)) ≡ f
+      go true l =
+          let t = at-ascii s i h (ltb-true (getD s i 0) 0x80 l) in
+          sym (ap (close d 0) t ∙ pass d _ _ (sym (ap closesBlock t) ∙ a) (sym (ap opensBlock t) ∙ b)) ∙ q
+      go false l = byte-by-byte s (close d 0) (λ c u w. pass d c u (wide-closes c u w) (wide-opens c u w)) i h (ltb-false (getD s i 0) 0x80 l) ∙ q
+
+  pub block-end : (d : ℕ) → length s ≤ i → close d 0 (from s i) ≡ f → closed.Open ≡ closedOf (length s) f
+  unfolding close closedOf
+  block-end d h q = ap (closedOf (length s)) (sym (ap (close d 0) (at-end s i h)) ∙ q)

@@ -1,0 +1,315 @@
+-- Digit runs. One fact over the base serves numbers and escapes: a digit is an ASCII character, so that a run is walked on its bytes.
+use Prim.Native.Nat.{ℕ, zero, suc, _+_, _*_, _-_, _/_, _≤_, _<_}
+use mathlib.Core.Path.{_≡_, refl, sym, _∙_, ap}
+use mathlib.Core.Bool.{Bool, true, false, cond, _&&_, _||_}
+use mathlib.Core.Logic.{_⊎_, inl, inr}
+use mathlib.Core.List.{List, [], _∷_}
+use lib.ListN.{length, drop, getD, length-drop}
+use lib.Dec.{eqb, leb, ltb}
+use native.Mathlib.Nat.{le-div-iff-mul-le, div-lt-iff-lt-mul, le-mul-of-pos-right}
+use native.Mathlib.Omega.{arith}
+use borrow.Author.Tests.{ltb-true, ltb-false, leb-true, leb-false, le-leb, lt-leb, eqb-true}
+use Rattle.chars.specs.Quoted.{between, codes, oneOf}
+use Rattle.chars.specs.Text.{Text, from, place, head, afterRun}
+use Rattle.chars.proofs.Bools.{clash, and-both}
+use Rattle.chars.proofs.Ranges.{between-in, between-out, in-between}
+use Rattle.chars.proofs.Texts.{chars-length}
+use Rattle.chars.proofs.Places.{Ascii, head-byte, at-ascii, place-from}
+use Rattle.token.specs.Tests.{isDigit, isHexDigit, digitValue, begins, hexDigit, hexAhead, longSuffix}
+use Rattle.token.specs.Shapes.{valueFrom}
+use Rattle.token.specs.Answer.{Found, read, readDigits, numberOf, scanNumber}
+use Rattle.token.specs.Code.{cursorAt, pieceOf, digitIn, upTo, valueOf, intOr}
+use Rattle.token.specs.declared.kinds.TokenKind.the-variants as tk
+use Rattle.token.specs.declared.piece.Piece.the-variants as piece
+use Rattle.token.specs.declared.digits.Value.the-variants as value
+use Rattle.token.proofs.Bytes.{any-byte, ascii-list, inside, past, two-bytes}
+use Rattle.token.proofs.Runs.{after-next, after-stop}
+use Rattle.token.proofs.Numbers.{read-is}
+
+-- ---- the digits of a base
+
+module _ (base b : ℕ) where
+  kinds : (x y z : Bool) → isDigit b ≡ x → between 0x41 0x46 b ≡ y → between 0x61 0x66 b ≡ z → digitIn base b ≡ cond (eqb base 16) (x || y || z) x
+  unfolding digitIn isHexDigit
+  kinds x y z p q r = rw (p, q, r)
+
+  pub digit-low : 0x30 ≤ b → b ≤ 0x39 → digitIn base b ≡ true
+  unfolding isDigit
+  digit-low h k = kinds true false false (between-in 0x30 0x39 b h k) (between-out 0x41 0x46 b (λ l. omega arith)) (between-out 0x61 0x66 b (λ l. omega arith)) ∙ go (eqb base 16)
+    where
+      go : (t : Bool) → cond t true true ≡ true
+      go true = refl
+      go false = refl
+
+  letter : (t : Bool) → cond t true false ≡ t
+  letter true = refl
+  letter false = refl
+
+  pub digit-upper : 0x41 ≤ b → b ≤ 0x46 → digitIn base b ≡ eqb base 16
+  unfolding isDigit
+  digit-upper h k = kinds false true false (between-out 0x30 0x39 b (λ l. omega arith)) (between-in 0x41 0x46 b h k) (between-out 0x61 0x66 b (λ l. omega arith)) ∙ letter (eqb base 16)
+
+  pub digit-lower : 0x61 ≤ b → b ≤ 0x66 → digitIn base b ≡ eqb base 16
+  unfolding isDigit
+  digit-lower h k = kinds false false true (between-out 0x30 0x39 b (λ l. omega arith)) (between-out 0x41 0x46 b (λ l. omega arith)) (between-in 0x61 0x66 b h k) ∙ letter (eqb base 16)
+
+  pub no-digit : (0x30 ≤ b → 0x39 < b) → (0x41 ≤ b → 0x46 < b) → (0x61 ≤ b → 0x66 < b) → digitIn base b ≡ false
+  unfolding isDigit
+  no-digit h k l = kinds false false false (between-out 0x30 0x39 b h) (between-out 0x41 0x46 b k) (between-out 0x61 0x66 b l) ∙ go (eqb base 16)
+    where
+      go : (t : Bool) → cond t false false ≡ false
+      go true = refl
+      go false = refl
+
+  -- a digit of either base is a hex digit
+  pub digit-hex : digitIn base b ≡ true → digitIn 16 b ≡ true
+  unfolding digitIn isHexDigit
+  digit-hex e = go (eqb base 16) e
+    where
+      go : (t : Bool) → cond t (isHexDigit b) (isDigit b) ≡ true → isHexDigit b ≡ true
+      go true e = e
+      go false e = rw e
+
+pub digits-ascii : (base : ℕ) → Ascii (digitIn base)
+digits-ascii base = record {
+  none = no-digit base 0 (λ l. omega arith) (λ l. omega arith) (λ l. omega arith);
+  wide = λ c w. no-digit base c (λ l. omega arith) (λ l. omega arith) (λ l. omega arith);
+}
+
+-- where a hex digit lies
+pub hex-lies : (b : ℕ) → digitIn 16 b ≡ true → (0x30 ≤ b) × (0x39 < b → 0x41 ≤ b) × (0x46 < b → 0x61 ≤ b) × (b ≤ 0x66)
+unfolding digitIn isHexDigit isDigit
+hex-lies b e = go (between 0x30 0x39 b) (between 0x41 0x46 b) (between 0x61 0x66 b) refl refl refl e
+  where
+    go : (x y z : Bool) → between 0x30 0x39 b ≡ x → between 0x41 0x46 b ≡ y → between 0x61 0x66 b ≡ z → x || y || z ≡ true
+        → (0x30 ≤ b) × (0x39 < b → 0x41 ≤ b) × (0x46 < b → 0x61 ≤ b) × (b ≤ 0x66)
+    go true y z p q r e = let k = in-between 0x30 0x39 b p in (omega arith, λ l. omega arith, λ l. omega arith, omega arith)
+    go false true z p q r e = let k = in-between 0x41 0x46 b q in (omega arith, λ l. omega arith, λ l. omega arith, omega arith)
+    go false false true p q r e = let k = in-between 0x61 0x66 b r in (omega arith, λ l. omega arith, λ l. omega arith, omega arith)
+    go false false false p q r e = clash e
+
+-- ---- runs of a class
+
+module _ (p : ℕ → Bool) where
+  none-up : (m : ℕ) (t : Text) → head p t ≡ false → upTo p m t ≡ t
+  unfolding upTo
+  none-up zero t e = refl
+  none-up (suc m) [] e = refl
+  none-up (suc m) (c ∷ t) e = rw (e, upTo)
+
+  pub up-full : (m : ℕ) (t : Text) → m ≤ 0 → upTo p m t ≡ t
+  unfolding upTo
+  up-full zero t h = refl
+  up-full (suc m) t h = absurd (omega arith)
+
+  none-run : (t : Text) → head p t ≡ false → afterRun (head p) t ≡ t
+  unfolding afterRun
+  none-run [] e = refl
+  none-run (c ∷ t) e = after-stop (head p) c t e
+
+  -- no character of the class follows its run
+  after-none : (t : Text) → head p (afterRun (head p) t) ≡ false
+  unfolding afterRun
+  after-none [] = refl
+  after-none (c ∷ t) = go (p (c .code)) refl (after-none t)
+    where
+      go : (b : Bool) → p (c .code) ≡ b → head p (afterRun (head p) t) ≡ false → head p (afterRun (head p) (c ∷ t)) ≡ false
+      go true e h = ap (head p) (after-next (head p) c t e) ∙ h
+      go false e h = ap (head p) (after-stop (head p) c t e) ∙ e
+
+  -- a count that the text does not reach stops nothing
+  up-run : (m : ℕ) (t : Text) → length t ≤ m → upTo p m t ≡ afterRun (head p) t
+  unfolding upTo afterRun
+  up-run zero [] h = refl
+  up-run zero (c ∷ t) h = absurd (omega arith)
+  up-run (suc m) [] h = refl
+  up-run (suc m) (c ∷ t) h = go (p (c .code)) refl (up-run m t (omega arith))
+    where
+      go : (b : Bool) → p (c .code) ≡ b → upTo p m t ≡ afterRun (head p) t → upTo p (suc m) (c ∷ t) ≡ afterRun (head p) (c ∷ t)
+      go true e h = (rw (e, upTo) h) ∙ sym (after-next (head p) c t e)
+      go false e h = (rw (e, upTo)) ∙ sym (after-stop (head p) c t e)
+
+  value-none : (base v : ℕ) (t : Text) → head p t ≡ false → valueFrom p base v t ≡ v
+  unfolding valueFrom
+  value-none base v [] e = refl
+  value-none base v (c ∷ t) e = rw (e, valueFrom)
+
+from-most : (s : List ℕ) (i : ℕ) → length (from s i) ≤ length s
+unfolding from
+from-most s i = let h = chars-length i 0 (drop i s) in let k = length-drop i s in omega arith
+
+-- a class of ASCII characters, at a place of a script
+module _ (p : ℕ → Bool) (a : Ascii p) where
+  low : (b : ℕ) → p b ≡ true → (1 ≤ b) × (b < 0x80)
+  low zero e = clash (sym (a .none) ∙ e)
+  low (suc b) e = (omega arith, go (ltb (suc b) 0x80) refl)
+    where
+      go : (t : Bool) → ltb (suc b) 0x80 ≡ t → suc b < 0x80
+      go true q = ltb-true (suc b) 0x80 q
+      go false q = clash (sym (a .wide (suc b) (ltb-false (suc b) 0x80 q)) ∙ e)
+
+  module _ (s : List ℕ) (i : ℕ) where
+    pub class-at : p (getD s i 0) ≡ true → (i < length s) × (from s i ≡ record { code = getD s i 0; at = i } ∷ from s (i + 1))
+    class-at e = let h = low (getD s i 0) e in let k = inside s i (h .0) in (k, at-ascii s i k (h .1))
+
+    pub up-stop : (m : ℕ) → p (getD s i 0) ≡ false → upTo p m (from s i) ≡ from s i
+    up-stop m e = none-up p m (from s i) (head-byte p a s i ∙ e)
+
+    pub up-next : (m : ℕ) → 1 ≤ m → p (getD s i 0) ≡ true → upTo p (m - 1) (from s (i + 1)) ≡ upTo p m (from s i)
+    unfolding upTo
+    up-next zero h e = absurd (omega arith)
+    up-next (suc m) h e =
+        let z : suc m - 1 ≡ m = omega arith in
+        rw z (sym (ap (upTo p (suc m)) (class-at e .1) ∙ rw (e, upTo)))
+
+    -- where a run's end lies further on a character of the class stands
+    pub run-goes : (end : ℕ) → i < end → end ≤ length s → from s end ≡ afterRun (head p) (from s i) → p (getD s i 0) ≡ true
+    run-goes end h k q = go (p (getD s i 0)) refl
+      where
+        go : (b : Bool) → p (getD s i 0) ≡ b → b ≡ true
+        go true e = refl
+        go false e =
+            let same : from s end ≡ from s i = q ∙ none-run p (from s i) (head-byte p a s i ∙ e) in
+            let z : end ≡ i = sym (place-from s end k) ∙ ap (place (length s)) same ∙ place-from s i (omega arith) in
+            absurd (omega arith)
+
+    pub run-past : (t : Text) → p (getD s i 0) ≡ true → t ≡ afterRun (head p) (from s i) → t ≡ afterRun (head p) (from s (i + 1))
+    run-past t e q = q ∙ ap (afterRun (head p)) (class-at e .1) ∙ after-next (head p) _ _ e
+
+    pub value-next : (base v : ℕ) → p (getD s i 0) ≡ true
+        → valueFrom p base v (from s i) ≡ valueFrom p base (v * base + digitValue (getD s i 0)) (from s (i + 1))
+    unfolding valueFrom
+    value-next base v e = ap (valueFrom p base v) (class-at e .1) ∙ rw (e, valueFrom)
+
+    -- at its end a run has no more value
+    pub value-done : (base v : ℕ) → from s i ≡ afterRun (head p) (from s i) → valueFrom p base v (from s i) ≡ v
+    value-done base v q = value-none p base v (from s i) (ap (head p) q ∙ after-none p (from s i))
+
+-- ---- values in any base and below any limit
+
+module _ (p : ℕ → Bool) (base : ℕ) (h : 1 ≤ base) where
+  -- more digits make no smaller number
+  pub no-less : (t : Text) (v : ℕ) → v ≤ valueFrom p base v t
+  unfolding valueFrom
+  no-less [] v = omega arith
+  no-less (c ∷ t) v = go (p (c .code)) refl (no-less t (v * base + digitValue (c .code)))
+    where
+      go : (b : Bool) → p (c .code) ≡ b → v * base + digitValue (c .code) ≤ valueFrom p base (v * base + digitValue (c .code)) t → v ≤ valueFrom p base v (c ∷ t)
+      go true e k = rw (e, valueFrom) (let m = le-mul-of-pos-right v h in omega (arith, m))
+      go false e k = rw (e, valueFrom) (omega arith)
+
+  -- the test before a digit is taken
+  pub stays : (limit v d : ℕ) → d ≤ limit → v ≤ (limit - d) / base → v * base + d ≤ limit
+  stays limit v d k q = let m = le-div-iff-mul-le h .0 q in omega (arith, m)
+
+  pub passes : (limit v d : ℕ) → d ≤ limit → (limit - d) / base < v → limit < v * base + d
+  passes limit v d k q = let m = div-lt-iff-lt-mul h .0 q in omega (arith, m)
+
+pub base-some : (base : ℕ) → (base ≡ 10) ⊎ (base ≡ 16) → 1 ≤ base
+base-some base (inl e) = omega arith
+base-some base (inr e) = omega arith
+
+pub fits : (v : ℕ) → v ≤ 9223372036854775807 → value.Of v ≡ valueOf v
+unfolding valueOf
+fits v h = rw (le-leb v 9223372036854775807 h)
+
+pub over : (v : ℕ) → 9223372036854775807 < v → value.Over ≡ valueOf v
+unfolding valueOf
+over v h = rw (lt-leb v 9223372036854775807 h)
+
+pub fitted : (w v : ℕ) → value.Of w ≡ valueOf v → (w ≡ v) × (v ≤ 9223372036854775807)
+unfolding valueOf
+fitted w v e = go (leb v 9223372036854775807) refl e
+  where
+    go : (b : Bool) → leb v 9223372036854775807 ≡ b → value.Of w ≡ cond b (value.Of v) value.Over → (w ≡ v) × (v ≤ 9223372036854775807)
+    go true q e = (cc, leb-true v 9223372036854775807 q)
+    go false q e = absurd (let z : _≡_ {A = ℕ} 0 1 = cc in omega arith)
+
+pub overs : (v : ℕ) → value.Over ≡ valueOf v → 9223372036854775807 < v
+unfolding valueOf
+overs v e = go (leb v 9223372036854775807) refl e
+  where
+    go : (b : Bool) → leb v 9223372036854775807 ≡ b → value.Over ≡ cond b (value.Of v) value.Over → 9223372036854775807 < v
+    go true q e = absurd (let z : _≡_ {A = ℕ} 0 1 = cc in omega arith)
+    go false q e = leb-false v 9223372036854775807 q
+
+-- ---- numbers
+
+module _ (p : ℕ → Bool) (s : List ℕ) (at end : ℕ) (q : from s end ≡ upTo p (length s) (from s at)) where
+  -- no run has more characters than the script has bytes
+  pub walked : from s end ≡ afterRun (head p) (from s at)
+  walked = q ∙ up-run p (length s) (from s at) (from-most s at)
+
+  pub digits-read : (base : ℕ) → read (valueFrom p base 0 (from s at)) (from s end) ≡ readDigits p base 0 (from s at)
+  digits-read base = ap (read (valueFrom p base 0 (from s at))) walked ∙ sym (read-is p base 0 (from s at))
+
+-- the number that begins at start, whose digits of the value v end at end
+module _ (s : List ℕ) (start end v : ℕ) (h : start ≤ length s) where
+  pub long-piece : v ≤ 9223372036854775807 → oneOf "Ll" (getD s end 0) ≡ true
+      → piece.Token (tk.LongLit v) (cursorAt (end + 1)) ≡ pieceOf (length s) (numberOf (from s start) (read v (from s end)))
+  unfolding pieceOf
+  long-piece k e =
+      let c = class-at (oneOf "Ll") (ascii-list (codes "Ll") refl) s end e in
+      let q : longSuffix (from s end) ≡ true = any-byte "Ll" refl s end ∙ e in
+      let r : place (length s) (drop 1 (from s end)) ≡ end + 1 = ap (λ t. place (length s) (drop 1 t)) (c .1) ∙ place-from s (end + 1) (omega arith) in
+      rw (q, le-leb v 9223372036854775807 k, r)
+
+  pub int-piece : end ≤ length s → oneOf "Ll" (getD s end 0) ≡ false
+      → intOr start v (cursorAt end) ≡ pieceOf (length s) (numberOf (from s start) (read v (from s end)))
+  unfolding pieceOf intOr
+  int-piece k e =
+      let q : longSuffix (from s end) ≡ false = any-byte "Ll" refl s end ∙ e in
+      rw q (go (leb v 2147483647))
+    where
+      go : (b : Bool) → cond b (piece.Token (tk.IntLit v) (cursorAt end)) (piece.Refused 6 start)
+          ≡ pieceOf (length s) (cond b (Found.token (tk.IntLit v) (from s end)) (Found.stuck 6 (from s start)))
+      go true = rw (place-from s end k)
+      go false = rw (place-from s start h)
+
+  pub over-piece : 9223372036854775807 < v → piece.Refused 6 start ≡ pieceOf (length s) (numberOf (from s start) (read v (from s end)))
+  unfolding pieceOf
+  over-piece k = rw (lt-leb v 9223372036854775807 k, lt-leb v 2147483647 (omega arith)) (go (longSuffix (from s end)))
+    where
+      go : (b : Bool) → piece.Refused 6 start ≡ pieceOf (length s) (cond b (Found.stuck 6 (from s start)) (Found.stuck 6 (from s start)))
+      go true = rw (place-from s start h)
+      go false = rw (place-from s start h)
+
+-- ---- `0x`
+
+module _ (s : List ℕ) (i : ℕ) where
+  abbrev zeroX : Bool
+  zeroX = eqb (getD s i 0) 0x30 && eqb (getD s (i + 1) 0) 0x78
+
+  zero-x : begins "0x" (from s i) ≡ zeroX
+  unfolding begins
+  zero-x = two-bytes 0x30 0x78 (omega arith) (omega arith) (omega arith) (omega arith) s i
+
+  past-zero-x : zeroX ≡ true → (i + 2 ≤ length s) × (drop 2 (from s i) ≡ from s (i + 2))
+  past-zero-x e =
+      let b = and-both (eqb (getD s i 0) 0x30) (eqb (getD s (i + 1) 0) 0x78) e in
+      let x = eqb-true (getD s i 0) 0x30 (b .0) in
+      let y = eqb-true (getD s (i + 1) 0) 0x78 (b .1) in
+      let n = inside s i (omega arith) in
+      let m = inside s (i + 1) (omega arith) in
+      let z : i + 1 + 1 ≡ i + 2 = omega arith in
+      (omega arith, ap (drop 2) (at-ascii s i n (omega arith)) ∙ past s (i + 1) m (omega arith) ∙ ap (from s) z)
+
+  -- `0x` and a hex digit, by their bytes
+  pub hex-bytes : hexAhead (from s i) ≡ eqb (getD s i 0) 0x30 && eqb (getD s (i + 1) 0) 0x78 && digitIn 16 (getD s (i + 2) 0)
+  unfolding digitIn
+  hex-bytes = go zeroX refl
+    where
+      go : (t : Bool) → zeroX ≡ t → begins "0x" (from s i) && hexDigit (drop 2 (from s i)) ≡ zeroX && digitIn 16 (getD s (i + 2) 0)
+      go true e = rw (zero-x, e) (ap (head (digitIn 16)) (past-zero-x e .1) ∙ head-byte (digitIn 16) (digits-ascii 16) s (i + 2))
+      go false e = rw (zero-x, e)
+
+  pub hex-text : hexAhead (from s i) ≡ true → (i + 2 ≤ length s) × (drop 2 (from s i) ≡ from s (i + 2))
+  hex-text e = past-zero-x (sym zero-x ∙ and-both (begins "0x" (from s i)) (hexDigit (drop 2 (from s i))) e .0)
+
+  pub hex-number : hexAhead (from s i) ≡ true → numberOf (from s i) (readDigits (digitIn 16) 16 0 (from s (i + 2))) ≡ scanNumber (from s i)
+  unfolding scanNumber digitIn
+  hex-number e = ap (λ t. numberOf (from s i) (readDigits (digitIn 16) 16 0 t)) (sym (hex-text e .1)) ∙ sym (rw e)
+
+  pub dec-number : hexAhead (from s i) ≡ false → numberOf (from s i) (readDigits (digitIn 10) 10 0 (from s i)) ≡ scanNumber (from s i)
+  unfolding scanNumber digitIn
+  dec-number e = sym (rw e)

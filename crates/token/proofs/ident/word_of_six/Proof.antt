@@ -1,0 +1,45 @@
+-- One word, in two parts.
+use mathlib.Core.Path.{sym, ap, _∙_}
+use mathlib.Core.Bool.{cond, _&&_}
+use mathlib.Core.Option.{some, none}
+use Prim.Native.Nat.{_+_}
+use Rattle.chars.specs.Quoted.{codes}
+use Rattle.token.specs.Code.{keywordOf, standsAt}
+use Rattle.token.proofs.WordLaws.{of-six, two-stand}
+use Rattle.token.specs.declared.kinds.Kw.the-variants as kw
+use borrow.Author.Needs.{needs}
+use Rattle.token.proofs.ident.word_of_six.Statement.{statement}
+use Rattle.token.proofs.ident.word_of_six.Tie as tie
+
+four-at-requires : tie.Need-four-at-requires
+four-at-requires c κs = search needs
+
+add-two-at : tie.Need-add-two-at
+add-two-at c = search needs
+
+two-at-requires : tie.Need-two-at-requires
+two-at-requires c κs = search needs
+
+keyword-if-requires : tie.Need-keyword-if-requires
+keyword-if-requires c κs = search needs
+
+returns : tie.Need-returns
+returns c =
+    let s = c .before .before .before .before .before .args .s .now in
+    let i = c .before .before .before .before .before .args .at in
+    let a = sym (c .before .before .before .four-at .ensures) ∙ c .before .before .if1 .taken in
+    let q = of-six s i ∙ ap (λ z. cond (z && standsAt (codes "rn") s (i + 4)) (some kw.Return) none) a in
+    c .keyword-if .ensures ∙ ap (λ z. keywordOf (cond z (some kw.Return) none)) (c .before .two-at .ensures ∙ two-stand 0x72 0x6E s (i + 4)) ∙ ap keywordOf (sym q)
+
+returns-2 : tie.Need-returns-2
+unfolding keywordOf
+returns-2 c =
+    let s = c .before .before .before .args .s .now in
+    let i = c .before .before .before .args .at in
+    let a = sym (c .before .four-at .ensures) ∙ c .if1 .left in
+    sym (ap keywordOf (of-six s i ∙ ap (λ z. cond (z && standsAt (codes "rn") s (i + 4)) (some kw.Return) none) a))
+
+pub word-of-six-spec : {M : Type 1} → statement M
+word-of-six-spec =
+    tie.close
+    (tie.spec four-at-requires add-two-at two-at-requires keyword-if-requires returns returns-2)

@@ -1,0 +1,154 @@
+use mathlib.Core.Path.{_≡_, refl, sym, _∙_, ap}
+use mathlib.Core.Bool.{true, false}
+use mathlib.Core.List.{[], _∷_}
+use native.Mathlib.Omega.{arith}
+use borrow.Author.Tests.{eq-eqb, ne-eqb}
+use Prim.Native.Nat.{_≤_, _<_}
+use mathlib.Core.Logic.{⊎-elim}
+use lib.ListN.{length, getD}
+use Rattle.chars.specs.Quoted.{oneOf}
+use Rattle.token.specs.Tests.{begins, isDigit}
+use Rattle.token.specs.Answer.{signOf}
+use Rattle.token.specs.Code.{pieceOf}
+use Rattle.token.proofs.Bytes.{any-byte, one-byte}
+use Rattle.token.proofs.Lexes.{sign-at, number-at, backtick-at, string-at, charsym-at, wordless-none, keyed, no-digit-byte, is-digit-byte}
+-- imports of the template ends
+use borrow.Author.Needs.{needs}
+use Rattle.token.proofs.lexer.lex_token.Statement.{statement}
+use Rattle.token.proofs.lexer.lex_token.Tie as tie
+use Rattle.token.proofs.lexer.lex_token.Reads as reads
+use Rattle.token.proofs.lexer.lex_token.Lts as lts
+use Rattle.token.proofs.charsym.lex_char_sym.Reads as lex-char-sym-reads
+use Rattle.token.proofs.digits.lex_number.Reads as lex-number-reads
+use Rattle.token.proofs.ident.lex_backtick.Reads as lex-backtick-reads
+use Rattle.token.proofs.lexer.lex_word.Reads as lex-word-reads
+use Rattle.token.proofs.string.lex_plain_string.Reads as lex-plain-string-reads
+
+-- src/lexer.rt:60:29
+add-t6 : tie.Need-add-t6
+add-t6 c = search needs
+
+-- src/lexer.rt:61:13
+shared-slice-read-b : tie.Need-shared-slice-read-b
+shared-slice-read-b c = search needs
+
+-- src/lexer.rt:72:17
+lex-backtick-requires : tie.Need-lex-backtick-requires
+lex-backtick-requires c κs = (omega arith, any-byte "`" refl ((c .before .before .before .args) .s .now) ((c .before .before .before .args) .c .at) ∙ rw ((c .match) .keys10))
+
+-- src/lexer.rt:73:17
+lex-plain-string-requires : tie.Need-lex-plain-string-requires
+unfolding begins
+lex-plain-string-requires c κs =     (omega arith, one-byte 0x22 (omega arith) (omega arith) ((c .before .before .before .args) .s .now) ((c .before .before .before .args) .c .at) ∙ eq-eqb _ _ ((c .match) .keys11))
+
+-- src/lexer.rt:74:17
+lex-char-sym-requires : tie.Need-lex-char-sym-requires
+lex-char-sym-requires c κs = (omega arith, any-byte "'" refl ((c .before .before .before .args) .s .now) ((c .before .before .before .args) .c .at) ∙ rw ((c .match) .keys12))
+
+-- src/lexer.rt:75:24
+lex-number-requires : tie.Need-lex-number-requires
+lex-number-requires c κs = search needs
+
+-- src/lexer.rt:76:14
+lex-word-requires : tie.Need-lex-word-requires
+lex-word-requires c κs =
+    let s = (c .before .before .before .before .args) .s .now in
+    let i = (c .before .before .before .before .args) .c .at in
+    let b = getD s i 0 in
+    let k : keyed b ≡ false = rw (ne-eqb b 0x28 ((c .before .match) .rest .0 .0 .0 .0 .0 .0 .0 .0 .0 .0 .0 .1), ne-eqb b 0x29 ((c .before .match) .rest .0 .0 .0 .0 .0 .0 .0 .0 .0 .0 .1), ne-eqb b 0x5B ((c .before .match) .rest .0 .0 .0 .0 .0 .0 .0 .0 .0 .1), ne-eqb b 0x5D ((c .before .match) .rest .0 .0 .0 .0 .0 .0 .0 .0 .1), ne-eqb b 0x7B ((c .before .match) .rest .0 .0 .0 .0 .0 .0 .0 .1), ne-eqb b 0x7D ((c .before .match) .rest .0 .0 .0 .0 .0 .0 .1), ne-eqb b 0x2C ((c .before .match) .rest .0 .0 .0 .0 .0 .1), ne-eqb b 0x3B ((c .before .match) .rest .0 .0 .0 .0 .1), ne-eqb b 0x2E ((c .before .match) .rest .0 .0 .0 .1), ne-eqb b 0x60 ((c .before .match) .rest .0 .0 .1), ne-eqb b 0x22 ((c .before .match) .rest .0 .1), ne-eqb b 0x27 ((c .before .match) .rest .1)) in
+    let d : isDigit b ≡ false = ⊎-elim (λ w. no-digit-byte b (λ l. omega arith)) (λ w. no-digit-byte b (λ l. omega arith)) ((c .if1) .came) in
+    ((c .before .before .before .before .pre) .0, wordless-none s i k d ((c .before .before .before .before .pre) .1), (c .before .before .before .before .pre) .2)
+
+-- src/lexer.rt:55:1
+returns : tie.Need-returns
+unfolding signOf
+returns c =     sign-at ((c .before .before .before .args) .s .now) ((c .before .before .before .args) .c .at) ((c .before .before .before .pre) .0) 0x28 _ ((c .match) .keys1) (omega arith) refl refl
+
+-- src/lexer.rt:55:1
+returns-2 : tie.Need-returns-2
+unfolding signOf
+returns-2 c =     sign-at ((c .before .before .before .args) .s .now) ((c .before .before .before .args) .c .at) ((c .before .before .before .pre) .0) 0x29 _ ((c .match) .keys2) (omega arith) refl refl
+
+-- src/lexer.rt:55:1
+returns-3 : tie.Need-returns-3
+unfolding signOf
+returns-3 c =     sign-at ((c .before .before .before .args) .s .now) ((c .before .before .before .args) .c .at) ((c .before .before .before .pre) .0) 0x5B _ ((c .match) .keys3) (omega arith) refl refl
+
+-- src/lexer.rt:55:1
+returns-4 : tie.Need-returns-4
+unfolding signOf
+returns-4 c =     sign-at ((c .before .before .before .args) .s .now) ((c .before .before .before .args) .c .at) ((c .before .before .before .pre) .0) 0x5D _ ((c .match) .keys4) (omega arith) refl refl
+
+-- src/lexer.rt:55:1
+returns-5 : tie.Need-returns-5
+unfolding signOf
+returns-5 c =     sign-at ((c .before .before .before .args) .s .now) ((c .before .before .before .args) .c .at) ((c .before .before .before .pre) .0) 0x7B _ ((c .match) .keys5) (omega arith) refl refl
+
+-- src/lexer.rt:55:1
+returns-6 : tie.Need-returns-6
+unfolding signOf
+returns-6 c =     sign-at ((c .before .before .before .args) .s .now) ((c .before .before .before .args) .c .at) ((c .before .before .before .pre) .0) 0x7D _ ((c .match) .keys6) (omega arith) refl refl
+
+-- src/lexer.rt:55:1
+returns-7 : tie.Need-returns-7
+unfolding signOf
+returns-7 c =     sign-at ((c .before .before .before .args) .s .now) ((c .before .before .before .args) .c .at) ((c .before .before .before .pre) .0) 0x2C _ ((c .match) .keys7) (omega arith) refl refl
+
+-- src/lexer.rt:55:1
+returns-8 : tie.Need-returns-8
+unfolding signOf
+returns-8 c =     sign-at ((c .before .before .before .args) .s .now) ((c .before .before .before .args) .c .at) ((c .before .before .before .pre) .0) 0x3B _ ((c .match) .keys8) (omega arith) refl refl
+
+-- src/lexer.rt:55:1
+returns-9 : tie.Need-returns-9
+unfolding signOf
+returns-9 c =     sign-at ((c .before .before .before .args) .s .now) ((c .before .before .before .args) .c .at) ((c .before .before .before .pre) .0) 0x2E _ ((c .match) .keys9) (omega arith) refl refl
+
+-- src/lexer.rt:55:1
+returns-10 : tie.Need-returns-10
+returns-10 c = (c .lex-backtick) .ensures ∙ ap (pieceOf (length ((c .before .before .before .before .args) .s .now))) (sym (backtick-at ((c .before .before .before .before .args) .s .now) ((c .before .before .before .before .args) .c .at) ((c .before .before .before .before .pre) .0) (any-byte "`" refl ((c .before .before .before .before .args) .s .now) ((c .before .before .before .before .args) .c .at) ∙ rw ((c .before .match) .keys10))))
+
+-- src/lexer.rt:55:1
+returns-11 : tie.Need-returns-11
+unfolding begins
+returns-11 c =     (c .lex-plain-string) .ensures ∙ ap (pieceOf (length ((c .before .before .before .before .args) .s .now))) (sym (string-at ((c .before .before .before .before .args) .s .now) ((c .before .before .before .before .args) .c .at) ((c .before .before .before .before .pre) .0) (one-byte 0x22 (omega arith) (omega arith) ((c .before .before .before .before .args) .s .now) ((c .before .before .before .before .args) .c .at) ∙ eq-eqb _ _ ((c .before .match) .keys11))))
+
+-- src/lexer.rt:55:1
+returns-12 : tie.Need-returns-12
+returns-12 c = (c .lex-char-sym) .ensures ∙ ap (pieceOf (length ((c .before .before .before .before .args) .s .now))) (sym (charsym-at ((c .before .before .before .before .args) .s .now) ((c .before .before .before .before .args) .c .at) ((c .before .before .before .before .pre) .0) (any-byte "'" refl ((c .before .before .before .before .args) .s .now) ((c .before .before .before .before .args) .c .at) ∙ rw ((c .before .match) .keys12))))
+
+-- src/lexer.rt:55:1
+returns-13 : tie.Need-returns-13
+returns-13 c =
+    let b = getD ((c .before .before .before .before .before .before .args) .s .now) ((c .before .before .before .before .before .before .args) .c .at) 0 in
+    (c .lex-number) .ensures ∙ ap (pieceOf (length ((c .before .before .before .before .before .before .args) .s .now))) (sym (number-at ((c .before .before .before .before .before .before .args) .s .now) ((c .before .before .before .before .before .before .args) .c .at) ((c .before .before .before .before .before .before .pre) .0) (is-digit-byte b (omega arith) (omega arith))))
+
+-- src/lexer.rt:55:1
+returns-14 : tie.Need-returns-14
+returns-14 c = search needs
+
+pub lex-token-spec : {M : Type 1} → statement M
+lex-token-spec =
+    tie.close
+    (tie.spec
+    add-t6
+    shared-slice-read-b
+    lex-backtick-requires
+    lex-plain-string-requires
+    lex-char-sym-requires
+    lex-number-requires
+    lex-word-requires
+    returns
+    returns-2
+    returns-3
+    returns-4
+    returns-5
+    returns-6
+    returns-7
+    returns-8
+    returns-9
+    returns-10
+    returns-11
+    returns-12
+    returns-13
+    returns-14)

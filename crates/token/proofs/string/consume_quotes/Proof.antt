@@ -1,0 +1,53 @@
+-- The run of quotes from here on is the run from the start on.
+use Prim.Native.Nat.{_≤_, _-_}
+use mathlib.Core.Path.{_≡_, refl, _∙_}
+use native.Mathlib.Omega.{arith}
+use lib.ListN.{length}
+use Rattle.chars.specs.Text.{from, afterRun}
+use Rattle.token.specs.Tests.{quote}
+use Rattle.token.proofs.StringLaws.{quotes-next, quotes-stop, quotes-end}
+use Rattle.token.proofs.string.consume_quotes.Statement.{statement}
+use Rattle.token.proofs.string.consume_quotes.Tie as tie
+
+abbrev Inv-loop : tie.InvT-loop
+Inv-loop s i₀ i = (i ≤ length s) × (afterRun quote (from s i) ≡ afterRun quote (from s i₀))
+
+abbrev μ-loop : tie.MeasureT-loop
+μ-loop s i₀ i = length s - i
+
+loop-holds : tie.Need-loop-holds Inv-loop μ-loop
+loop-holds c = ((c .pre), refl)
+
+shared-slice-read-if1 : tie.Need-shared-slice-read-if1 Inv-loop μ-loop
+shared-slice-read-if1 c = c .before .loop-test .taken
+
+returns : tie.Need-returns Inv-loop μ-loop
+returns c = (c .before .before .before .loop .inv .0, quotes-stop (c .before .before .before .before .args .s .now) _ (c .before .before .loop-test .taken) (c .if1 .taken) ∙ c .before .before .before .loop .inv .1)
+
+add-i : tie.Need-add-i Inv-loop μ-loop
+add-i c = let h = c .before .before .loop-test .taken in omega arith
+
+loop-less : tie.Need-loop-less Inv-loop μ-loop
+loop-less c = let h = c .before .before .loop-test .taken in omega arith
+
+loop-again : tie.Need-loop-again Inv-loop μ-loop
+loop-again c =
+    let h = c .before .before .loop-test .taken in
+    (omega arith, quotes-next (c .before .before .before .before .args .s .now) _ h (c .if1 .left) ∙ c .before .before .before .loop .inv .1)
+
+returns-2 : tie.Need-returns-2 Inv-loop μ-loop
+returns-2 c = (c .before .loop .inv .0, quotes-end (c .before .before .args .s .now) _ (c .loop-test .left) ∙ c .before .loop .inv .1)
+
+pub consume-quotes-spec : {M : Type 1} → statement M
+consume-quotes-spec =
+    tie.close
+    (tie.spec
+    Inv-loop
+    μ-loop
+    loop-holds
+    shared-slice-read-if1
+    returns
+    add-i
+    loop-less
+    loop-again
+    returns-2)

@@ -1,0 +1,63 @@
+-- The run from here on is the run from the start on.
+use Prim.Native.Nat.{_≤_, _-_}
+use mathlib.Core.Path.{_≡_, refl, sym, _∙_}
+use native.Mathlib.Omega.{arith}
+use borrow.Author.Needs.{needs}
+use borrow.Author.Tests.{not-true, not-false}
+use lib.ListN.{length}
+use Rattle.chars.specs.Text.{from, head, afterRun}
+use Rattle.token.specs.Code.{isOrdinary}
+use Rattle.token.proofs.StringLaws.{walk-on, skips, ordinary-byte, skip-stop, skip-end}
+use Rattle.token.proofs.string.skip_ordinary.Statement.{statement}
+use Rattle.token.proofs.string.skip_ordinary.Tie as tie
+
+abbrev Inv-loop : tie.InvT-loop
+Inv-loop s i₀ i = (i₀ ≤ i) × (i ≤ length s) × (afterRun (head isOrdinary) (from s i) ≡ afterRun (head isOrdinary) (from s i₀))
+
+abbrev μ-loop : tie.MeasureT-loop
+μ-loop s i₀ i = length s - i
+
+loop-holds : tie.Need-loop-holds Inv-loop μ-loop
+loop-holds c = (omega arith, (c .before .pre), refl)
+
+shared-slice-read-is-ordinary : tie.Need-shared-slice-read-is-ordinary Inv-loop μ-loop
+shared-slice-read-is-ordinary c = c .before .loop-test .taken
+
+is-ordinary-requires : tie.Need-is-ordinary-requires Inv-loop μ-loop
+is-ordinary-requires c κs = search needs
+
+returns : tie.Need-returns Inv-loop μ-loop
+returns c =
+    let s = c .before .before .before .before .before .before .args .s .now in
+    (c .before .before .before .before .loop .inv .0, c .before .before .before .before .loop .inv .1, skip-stop s _ (c .before .before .before .loop-test .taken) (sym (c .before .is-ordinary .ensures) ∙ not-true _ (c .if1 .taken)) ∙ c .before .before .before .before .loop .inv .2)
+
+add-i : tie.Need-add-i Inv-loop μ-loop
+add-i c = let h = c .before .before .before .loop-test .taken in omega arith
+
+loop-less : tie.Need-loop-less Inv-loop μ-loop
+loop-less c = let h = c .before .before .before .loop-test .taken in omega arith
+
+loop-again : tie.Need-loop-again Inv-loop μ-loop
+loop-again c =
+    let s = c .before .before .before .before .before .before .args .s .now in
+    let h = c .before .before .before .loop-test .taken in
+    let e = ordinary-byte s _ h ∙ sym (c .before .is-ordinary .ensures) ∙ not-false _ (c .if1 .left) in
+    (omega (arith, c .before .before .before .before .loop .inv .0), omega arith, walk-on _ _ skips s _ h e ∙ c .before .before .before .before .loop .inv .2)
+
+returns-2 : tie.Need-returns-2 Inv-loop μ-loop
+returns-2 c = (c .before .loop .inv .0, c .before .loop .inv .1, skip-end (c .before .before .before .args .s .now) _ (c .loop-test .left) ∙ c .before .loop .inv .2)
+
+pub skip-ordinary-spec : {M : Type 1} → statement M
+skip-ordinary-spec =
+    tie.close
+    (tie.spec
+    Inv-loop
+    μ-loop
+    loop-holds
+    shared-slice-read-is-ordinary
+    is-ordinary-requires
+    returns
+    add-i
+    loop-less
+    loop-again
+    returns-2)

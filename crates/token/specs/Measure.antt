@@ -1,0 +1,29 @@
+-- What measuring and writing make of the answer.
+use Prim.Native.Nat.{ℕ, _+_, _≤_}
+use mathlib.Core.Path.{_≡_}
+use mathlib.Core.Bool.{Bool, true, false}
+use mathlib.Core.List.{List, []}
+use lib.ListN.{length}
+use Rattle.token.specs.Kinds.{Token}
+use Rattle.token.specs.Answer.{Answer, accepted, refused}
+use Rattle.token.specs.Records.{recordBytes}
+use Rattle.token.specs.declared.records.Measured.{Measured}
+use Rattle.token.specs.declared.records.Measured.the-variants as measured
+
+-- token count and record bytes after c tokens and b bytes that were counted before, or the refusal
+unfoldable pub measuredOf : ℕ → ℕ → Answer → Measured
+measuredOf c b (accepted ts) = measured.Total (c + length ts) (b + recordBytes ts)
+measuredOf c b (refused j a) = measured.Stopped j a
+
+abbrev pub isAccepted : Answer → Bool
+isAccepted (accepted ts) = true
+isAccepted (refused j a) = false
+
+abbrev pub tokensIn : Answer → List Token
+tokensIn (accepted ts) = ts
+tokensIn (refused j a) = []
+
+-- the script is accepted, and its records fit into so many bytes
+pub record Fits (w : Answer) (room : ℕ) : Type 0 where
+  pub accepts : isAccepted w ≡ true
+  pub fits : recordBytes (tokensIn w) ≤ room

@@ -1,0 +1,123 @@
+/* ErgoScript tokens as records: the two functions of crates/token, for C and C++. `rt staticlib token` makes the library,
+ * target/staticlib/libtoken.a, for x86-64 Linux. It allocates nothing, keeps nothing between calls and calls nothing: calls from several threads at
+ * once are fine as long as no two of them lend the same bytes for writing.
+ *
+ * All places are byte offsets from 0 into the script. All numbers in records and answer block are unsigned and little-endian. */
+#ifndef ERGO_TOKEN_H
+#define ERGO_TOKEN_H
+
+#include <stddef.h>
+#include <stdint.h>
+
+#ifdef __cplusplus
+extern "C" {
+#endif
+
+/* Tokenizes the n bytes at script. On acceptance (the answer is 0) the records stand at the start of the m bytes at records, and the bytes past
+ * them keep their values. On every refusal (the answer is the refusal's number) all m bytes keep their values.
+ *
+ * The k bytes at answer are the answer block; k must be ERGO_ANSWER_BYTES. It gets four numbers of 4 bytes each:
+ *
+ *     at 0   the number that is handed back
+ *     at 4   the place of the refusal, for 1 to 16 and 18
+ *     at 8   the token count, line ends and Eof included, for 0 and 19
+ *     at 12  the record bytes: how many all records take, for 0 and 19
+ *
+ * and 0 where nothing is to be said. With any other k the block keeps its values.
+ *
+ * The buffer: ERGO_RECORD_BOUND(n) bytes are enough for every script of n bytes. To learn the exact need, call with m = 0: an acceptable
+ * script is answered 19, with token count and record bytes in the block. A second call with that many bytes is then accepted.
+ *
+ * Length 0 with any pointer, NULL included, is passed as an empty slice. That was run from C; nothing in the proof speaks of pointers. The
+ * three parts of memory must be readable, the last two also writable, for their lengths, and must not overlap: the proof takes that from
+ * the caller. */
+uint32_t ergo_tokenize(const uint8_t *script, size_t n, uint8_t *records, size_t m, uint8_t *answer, size_t k);
+
+/* Whether the bytes of the script from start to end (end not included) are a text: 0 if so, else ERGO_TOKEN_TEXT (21). A token's text is then
+ * script + start, of end - start bytes. It is 21 where start is past end, end is past n, or either lies inside a character: on a byte 0x80 to
+ * 0xBF. The start and end of every record are answered 0. */
+uint32_t ergo_token_text(const uint8_t *script, size_t n, uint32_t start, uint32_t end);
+
+#define ERGO_SCRIPT_LIMIT 16777216u /* bytes: a longer script is refused by 17 */
+#define ERGO_ANSWER_BYTES 16u
+#define ERGO_RECORD_BOUND(n) (17u * (size_t)(n) + 13u)
+
+/* A record, of 13 bytes and its values:
+ *
+ *     at 0   2 bytes  length of the whole record, values included: the next record starts so many bytes on
+ *     at 2   2 bytes  kind
+ *     at 4   4 bytes  start
+ *     at 8   4 bytes  end, not included
+ *     at 12  1 byte   cut: 1 if, since the last token that is no line end, a block comment stands behind a line end and, past spaces and tabs,
+ *                     is not followed by a line end; else 0. Always 0 for line ends.
+ *     at 13           the values, by kind
+ *
+ * Records come in the order of the script, blanks and comments left out; the last is Eof. */
+#define ERGO_RECORD_HEAD 13u
+
+enum ergo_kind {
+    ERGO_IDENT = 1,
+    ERGO_OP_ID = 2,       /* a run of operator signs that is no keyword */
+    ERGO_BACKTICK_ID = 3, /* start and end take in the backticks */
+    ERGO_INT_LIT = 4,     /* at 13, 4 bytes: the value, at most 2147483647 */
+    ERGO_LONG_LIT = 5,    /* at 13, 8 bytes: the value, at most 9223372036854775807 */
+    ERGO_STR = 6,         /* at 13, 4 bytes: content start; at 17, 4 bytes: content end. Escapes are checked, not decoded */
+    ERGO_CHAR_SYM = 7,    /* 'c' or 'symbol, with its quotes */
+    ERGO_L_PAREN = 8,
+    ERGO_R_PAREN = 9,
+    ERGO_L_BRACKET = 10,
+    ERGO_R_BRACKET = 11,
+    ERGO_L_BRACE = 12,
+    ERGO_R_BRACE = 13,
+    ERGO_COMMA = 14,
+    ERGO_SEMI = 15,
+    ERGO_DOT = 16,
+    ERGO_NEWLINE = 17, /* at 13, 1 byte: 1 if a comment stands between it and the line end before it in the same gap, or the gap's start */
+    ERGO_EOF = 18,     /* starts and ends at the script's length */
+    ERGO_KW_CASE = 32,
+    ERGO_KW_ELSE = 33,
+    ERGO_KW_FALSE = 34,
+    ERGO_KW_FUNCTION = 35,
+    ERGO_KW_IF = 36,
+    ERGO_KW_MATCH = 37,
+    ERGO_KW_RETURN = 38,
+    ERGO_KW_THEN = 39,
+    ERGO_KW_TRUE = 40,
+    ERGO_KW_COLON = 41,     /* : */
+    ERGO_KW_FAT_ARROW = 42, /* => */
+    ERGO_KW_ASSIGN = 43,    /* = */
+    ERGO_KW_HASH = 44,      /* # */
+    ERGO_KW_AT = 45         /* @ */
+};
+
+/* The numbers handed back, each with the place that the block gives and what the script's author, or for 17 to 21 the host's, should do. */
+enum ergo_number {
+    ERGO_ACCEPTED = 0,
+    ERGO_LONE_CR = 1,            /* the CR: end lines by LF or CR LF; a CR alone may stand only in strings, comments and backticks */
+    ERGO_OPEN_COMMENT = 2,       /* its outermost start: close the block comment; each inner one needs a close of its own */
+    ERGO_UNEXPECTED = 3,         /* the character: no token starts with it; take it out, or put it into a string or backticks */
+    ERGO_OPEN_BACKTICK = 4,      /* its start: close the backtick */
+    ERGO_EMPTY_BACKTICK = 5,     /* its start: put a name between the backticks */
+    ERGO_NUMBER_TOO_LARGE = 6,   /* its start: append L, up to 9223372036854775807, or write a smaller number */
+    ERGO_OPEN_STRING = 7,        /* the script's end: close the string */
+    ERGO_LINE_END_IN_STRING = 8, /* the LF: close the string on its line, or use three quotes */
+    ERGO_OPEN_TRIPLE = 9,        /* the script's end: close the string by three quotes */
+    ERGO_TRIPLE_BACKSLASH = 10,  /* the backslash: a string in three quotes holds none; use a string in single ones */
+    ERGO_INTERPOLATION = 11,     /* the $: ${ in a prefixed string is not supported; join strings instead */
+    ERGO_ESCAPE_AT_END = 12,     /* the script's end: finish the escape and the string or character */
+    ERGO_UNICODE_ESCAPE = 13,    /* where the hex digit lacks: \u takes exactly four */
+    ERGO_ESCAPE = 14,            /* the character after the backslash: write \b \t \n \f \r \' \" \] , one to three digits, or \u and four hex digits */
+    ERGO_OPEN_CHARACTER = 15,    /* where the ' lacks: close the character right after its escape */
+    ERGO_QUOTE = 16,             /* after the ': write a character and ', or a symbol */
+    ERGO_TOO_LONG = 17,          /* 0: the script has more than ERGO_SCRIPT_LIMIT bytes; hand over a shorter one */
+    ERGO_NOT_UTF8 = 18,          /* the length of the longest valid prefix: hand the script over in UTF-8 */
+    ERGO_SHORT_BUFFER = 19,      /* 0: lend as many bytes as the block says at 12 */
+    ERGO_ANSWER_BLOCK = 20,      /* none, and the block is unchanged: lend a block of ERGO_ANSWER_BYTES bytes */
+    ERGO_TOKEN_TEXT = 21         /* of ergo_token_text only: ask for a start and an end as they stand in a record of this script */
+};
+
+#ifdef __cplusplus
+}
+#endif
+
+#endif
