@@ -36,3 +36,4 @@ pub mod Theorems
 pub mod Mets
 pub mod Alone
 pub mod Hosts
+pub mod TextLaws

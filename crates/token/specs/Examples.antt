@@ -6,7 +6,7 @@ use mathlib.Core.List.{List, [], _∷_, _++_, map}
 use lib.ListN.{length, replicate}
 use lib.Dec.{ltb}
 use Rattle.chars.specs.Quoted.{codes}
-use Rattle.token.specs.Host.{bad, verdict, seen, part, tokenText}
+use Rattle.token.specs.Host.{bad, verdict, seen, hasText, textOf, textNumber}
 use Rattle.token.specs.Listing.{script, Example, _gives_, listed, hosted, holds}
 
 abbrev pub marked : List Example
@@ -130,10 +130,10 @@ unfolding hosted
 lent-27 = refl
 
 -- 21: `ab`, 1 to 3
-pub text-21 : tokenText (script "ab") 1 3 ≡ part false 0 0
-unfolding tokenText
+pub text-21 : textNumber (script "ab") 1 3 ≡ 21
+unfolding hasText
 text-21 = refl
 
-pub text-ok : tokenText (script "ab") 1 2 ≡ part true 1 2
-unfolding tokenText
+pub text-ok : textOf (script "ab") 1 2 ≡ script "b"
+unfolding textOf hasText
 text-ok = refl

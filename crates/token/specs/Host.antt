@@ -1,9 +1,9 @@
 -- Document 01, the refusal table's order 20, 17, 18, 1 to 16, 19; "Host entry and text".
-use Prim.Native.Nat.{ℕ, _≤_, _<_}
+use Prim.Native.Nat.{ℕ, _-_, _≤_, _<_}
 use mathlib.Core.Path.{_≡_}
 use mathlib.Core.Bool.{Bool, true, false, cond, not, _&&_}
 use mathlib.Core.List.{List, [], _++_}
-use lib.ListN.{length, drop, getD}
+use lib.ListN.{length, take, drop, getD}
 use lib.Dec.{eqb, leb, ltb}
 use Rattle.chars.specs.Quoted.{between}
 use Rattle.chars.specs.Utf8.{WellFormed, LongestValid, validPrefix}
@@ -98,11 +98,14 @@ hostOf script buffer block =
 abbrev pub inside : List ℕ → ℕ → Bool
 inside script i = ltb i (length script) && between 0x80 0xBF (getD script i 0)
 
--- Token text is the script's bytes from start to end, as a part; at 21 the empty part at 0, and a separate yes or no tells the two apart.
-pub data Part : Type 0 where
-  part : Bool → ℕ → ℕ → Part
+-- 21: start past end, end past script, or either inside a character. The separate yes or no.
+unfoldable pub hasText : List ℕ → ℕ → ℕ → Bool
+hasText script a e = leb a e && leb e (length script) && not (inside script a) && not (inside script e)
 
--- 21: start past end, end past script, or either inside a character
-unfoldable pub tokenText : List ℕ → ℕ → ℕ → Part
-tokenText script a e =
-    cond (leb a e && leb e (length script) && not (inside script a) && not (inside script e)) (part true a e) (part false 0 0)
+-- Token text is the script's bytes from start to end, as a part; at 21 the empty part at 0.
+unfoldable pub textOf : List ℕ → ℕ → ℕ → List ℕ
+textOf script a e = cond (hasText script a e) (take (e - a) (drop a script)) []
+
+-- the number for hosts
+abbrev pub textNumber : List ℕ → ℕ → ℕ → ℕ
+textNumber script a e = cond (hasText script a e) 0 21

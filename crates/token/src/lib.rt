@@ -11,3 +11,4 @@ pub mod lexer; // one step over a script: the gap, then one token
 pub mod store; // stores into lent bytes
 pub mod records; // the records, measured first and then written
 pub mod host; // the host's entry
+pub mod text; // token text
