@@ -31,6 +31,13 @@ no-sign t h c e = carry-not isOpSign (codes t) c (sign-not t h) e
 pub sign-no-under : (c : ℕ) → isOpSign c ≡ true → oneOf "_" c ≡ false
 sign-no-under c e = carry-not (oneOf "_") (codes signs) c refl (sign-is c e)
 
+pub sign-no-semi : (c : ℕ) → isOpSign c ≡ true → oneOf ";" c ≡ false
+sign-no-semi c e = carry-not (oneOf ";") (codes signs) c refl (sign-is c e)
+
+pub nul-no-sign : isOpSign 0 ≡ false
+unfolding isOpSign
+nul-no-sign = refl
+
 pub slash-sign : isOpSign 0x2F ≡ true
 unfolding isOpSign
 slash-sign = refl

@@ -27,7 +27,7 @@ pub suffix-trans : {q r s : Text} → Suffix q r → Suffix r s → Suffix q s
 suffix-trans {q} {r} {s} h k =
     let e : length s - length r + (length r - length q) ≡ length s - length q = omega arith in
     let d : drop (length r - length q) (drop (length s - length r) s) ≡ drop (length s - length q) s =
-        drop-drop (length r - length q) (length s - length r) s ∙ ap (λ n. drop n s) e in
+    drop-drop (length r - length q) (length s - length r) s ∙ ap (λ n. drop n s) e in
     record { within = omega arith; tail = h .tail ∙ ap (drop (length r - length q)) (k .tail) ∙ d }
 
 pub suffix-same : {q r s : Text} → Suffix q s → Suffix r s → length q ≡ length r → q ≡ r

@@ -48,7 +48,7 @@ three a b p q ha hb hp hq o (x ∷ y ∷ z ∷ t) e =
     record {
       first = omega arith;
       others = λ k l m. tails k l m (f .0) (g .0) (g .1) (h .0) (h .1);
-      code = ⊎-elim (λ u. omega arith) (λ u. omega arith) o
+      code = ⊎-elim (λ u. omega arith) (λ u. omega arith) o;
     }
   where
     tails : (k : ℕ) → 1 ≤ k → k < 3 → a ≤ x → p ≤ y → y ≤ q → 0x80 ≤ z → z ≤ 0xBF → (0x80 ≤ getD (x ∷ y ∷ z ∷ t) k 0) × (getD (x ∷ y ∷ z ∷ t) k 0 ≤ 0xBF)
@@ -71,7 +71,7 @@ four a b p q ha hb hp hq o (x ∷ y ∷ z ∷ v ∷ t) e =
     record {
       first = omega arith;
       others = λ k l m. tails k l m (g .0) (g .1) (h .0) (h .1) (i .0) (i .1);
-      code = ⊎-elim (λ u. omega arith) (λ u. omega arith) o
+      code = ⊎-elim (λ u. omega arith) (λ u. omega arith) o;
     }
   where
     tails : (k : ℕ) → 1 ≤ k → k < 4 → p ≤ y → y ≤ q → 0x80 ≤ z → z ≤ 0xBF → 0x80 ≤ v → v ≤ 0xBF → (0x80 ≤ getD (x ∷ y ∷ z ∷ v ∷ t) k 0) × (getD (x ∷ y ∷ z ∷ v ∷ t) k 0 ≤ 0xBF)

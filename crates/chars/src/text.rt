@@ -1,6 +1,5 @@
 // A script read character by character.
 use crate::utf8::Decoded;
-
 ghost use mathlib.Core.Path.{_≡_};
 ghost use Rattle.chars.specs.Text.{stepAt};
 

@@ -34,11 +34,11 @@ pair-at s i x y a b c d e =
     let m : i + 1 + 1 ≡ i + 2 = omega arith in
     record {
       text =
-        at-ascii s i g (omega arith)
-        ∙ ap (λ z. record { code = z; at = i } ∷ from s (i + 1)) p
-        ∙ ap (λ u. record { code = x; at = i } ∷ u)
-        (at-ascii s (i + 1) h (omega arith) ∙ ap (λ z. record { code = z; at = i + 1 } ∷ from s (i + 1 + 1)) q ∙ ap (λ j. record { code = y; at = i + 1 } ∷ from s j) m);
-      within = omega arith
+          at-ascii s i g (omega arith)
+          ∙ ap (λ z. record { code = z; at = i } ∷ from s (i + 1)) p
+          ∙ ap (λ u. record { code = x; at = i } ∷ u)
+          (at-ascii s (i + 1) h (omega arith) ∙ ap (λ z. record { code = z; at = i + 1 } ∷ from s (i + 1 + 1)) q ∙ ap (λ j. record { code = y; at = i + 1 } ∷ from s j) m);
+      within = omega arith;
     }
 
 pub pair-past : {s : List ℕ} {i x y : ℕ} → Pair s i x y → from s (i + 2) ≡ drop 2 (from s i)

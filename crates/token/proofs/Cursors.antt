@@ -30,7 +30,7 @@ here s i code next e =
       text = at-char s i (t .0) ∙ ap (λ c. record { code = c; at = i } ∷ from s (nextOf s i)) (t .1) ∙ ap (λ j. record { code = code; at = i } ∷ from s j) (t .2);
       in-script = t .0;
       on = omega (arith, t .2);
-      within = omega (arith, t .2)
+      within = omega (arith, t .2);
     }
 
 pub peek-char : (s : List ℕ) (i code next : ℕ) → step.Char code next ≡ stepAt s i → peeked.Char code (cursorAt next) ≡ peekAt s i

@@ -63,7 +63,7 @@ module _ (s buf blk : List ℕ) where
       let y = records-length (w .0) in
       let z : length (records (w .0)) ≤ length buf = omega arith in
       let f : out ≡ records (w .0) ++ drop (recordBytes (w .0)) buf =
-          o ∙ ap (λ v. sets buf 0 (records (tokensIn v))) (w .1) ∙ sets-front buf (records (w .0)) z ∙ ap (λ k. records (w .0) ++ drop k buf) y in
+      o ∙ ap (λ v. sets buf 0 (records (tokensIn v))) (w .1) ∙ sets-front buf (records (w .0)) z ∙ ap (λ k. records (w .0) ++ drop k buf) y in
       ap (λ u. seen 0 u blk) f
       ∙ ap (seen 0 (records (w .0) ++ drop (recordBytes (w .0)) buf)) (q ∙ ap (λ u. blockOf 0 0 u b) (w .2) ∙ ap (blockOf 0 0 (length (w .0))) (w .3))
       ∙ sym (ap (λ v. seenOf (judge (length buf) v) buf) (w .1) ∙ rw (le-leb (recordBytes (w .0)) (length buf) x))

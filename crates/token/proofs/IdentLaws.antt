@@ -24,7 +24,7 @@ use Rattle.token.specs.declared.kinds.Kw.{Kw}
 use Rattle.token.specs.declared.kinds.TokenKind.{TokenKind}
 use Rattle.token.specs.declared.kinds.TokenKind.the-variants as tk
 use Rattle.token.specs.declared.piece.Piece.the-variants as piece
-use Rattle.token.proofs.Bytes.{any-byte, inside, one-byte, two-bytes}
+use Rattle.token.proofs.Bytes.{any-byte, inside, one-byte}
 use Rattle.token.proofs.Runs.{after-next, after-stop, run-after, run-suffix}
 use Rattle.token.proofs.Idents.{ident-finds, start-rest, rest-suffix}
 
@@ -134,20 +134,6 @@ module _ (p : ℕ → Bool) (s : List ℕ) (i : ℕ) where
       go : (b : Bool) → head p (from s i) ≡ b → j ≡ cond b (nextOf s i) i → (i < length s) × (head p (from s i) ≡ true) × (nextOf s i ≡ j)
       go true h e = (head-inside p s i h, h, sym e)
       go false h e = absurd (n e)
-
-pub no-sign-0 : isOpSign 0 ≡ false
-unfolding isOpSign
-no-sign-0 = refl
-
--- ---- comments' openings
-
-pub opens-line : (s : List ℕ) (i : ℕ) → begins "//" (from s i) ≡ eqb (getD s i 0) 0x2F && eqb (getD s (i + 1) 0) 0x2F
-unfolding begins
-opens-line s i = two-bytes 0x2F 0x2F (omega arith) (omega arith) (omega arith) (omega arith) s i
-
-pub opens-block : (s : List ℕ) (i : ℕ) → begins "/*" (from s i) ≡ eqb (getD s i 0) 0x2F && eqb (getD s (i + 1) 0) 0x2A
-unfolding begins
-opens-block s i = two-bytes 0x2F 0x2A (omega arith) (omega arith) (omega arith) (omega arith) s i
 
 pub quote-byte : (s : List ℕ) (i : ℕ) → quote (from s i) ≡ eqb (getD s i 0) 0x22
 unfolding begins

@@ -70,11 +70,11 @@ module _ (s : List ℕ) (i : ℕ) (h : i < length s) where
   unfolding pieceOf
   sign-at x k e l o q =
       let a : from s i ≡ record { code = x; at = i } ∷ from s (i + 1) =
-          at-ascii s i h (rw e l) ∙ ap (λ z. record { code = z; at = i } ∷ from s (i + 1)) e in
+      at-ascii s i h (rw e l) ∙ ap (λ z. record { code = z; at = i } ∷ from s (i + 1)) e in
       let b : isAny "()[]{},;." t ≡ true = ap (isAny "()[]{},;.") a ∙ o in
       let z = clear-head (oneOf "()[]{},;.") refl t b in
       let f : scan n t ≡ Found.token k (from s (i + 1)) =
-          scan-by n t Start.sign (starts-sign t z b) ∙ ap (λ u. Found.token (signOf u) (drop 1 u)) a ∙ ap (λ y. Found.token y (from s (i + 1))) q in
+      scan-by n t Start.sign (starts-sign t z b) ∙ ap (λ u. Found.token (signOf u) (drop 1 u)) a ∙ ap (λ y. Found.token y (from s (i + 1))) q in
       sym (ap (pieceOf n) f ∙ ap (λ j. piece.Token k (cursorAt j)) (place-from s (i + 1) (omega arith)))
 
   -- another kind of start
@@ -375,7 +375,7 @@ module _ (s : List ℕ) (i : ℕ) (g : Gap) (h : i < length s) where
       let t : from s i ≡ record { code = 0x0A; at = i } ∷ from s (i + 1) = at-ascii s i h (rw e (omega arith)) ∙ ap (λ z. record { code = z; at = i } ∷ from s (i + 1)) e in
       let b : isAny "\n" (from s i) ≡ true = ap (isAny "\n") t in
       let f : scan m (from s i) ≡ Found.gap GapKind.lineEnd (from s (i + 1)) =
-          scan-by m (from s i) Start.lf (starts-lf (from s i) (clear-head (oneOf "\n") refl (from s i) b) b) ∙ ap (λ u. Found.gap GapKind.lineEnd (drop 1 u)) t in
+      scan-by m (from s i) Start.lf (starts-lf (from s i) (clear-head (oneOf "\n") refl (from s i) b) b) ∙ ap (λ u. Found.gap GapKind.lineEnd (drop 1 u)) t in
       let w = seek-end m g _ _ (from s (i + 1)) (ap (scan m) (sym t) ∙ f) in
       sym (ap (λ u. nextOf m (seek m 0 g u)) t ∙ ap (nextOf m) w ∙ ap (λ j. next.LineEnd i (cursorAt j) (g .comment) (push GapKind.lineEnd g)) (place-from s (i + 1) (omega arith)))
 
@@ -404,7 +404,7 @@ module _ (s : List ℕ) (i : ℕ) (g : Gap) (h : i < length s) where
       → passed.To e f ≡ passedOf m g (scan m (from s i))
   unfolding scanLine
   pass-line e f y l o q =
-    ap (passed.To e) y ∙ (
+      ap (passed.To e) y ∙ (
       let w : scan m (from s i) ≡ Found.gap GapKind.lineComment (from s (e .at)) = scan-by m (from s i) Start.line (starts-line (from s i) o) ∙ ap (Found.gap GapKind.lineComment) (sym q) in
       sym (ap (passedOf m g) w ∙ ap (λ j. passed.To (cursorAt j) (push GapKind.lineComment g)) (place-from s (e .at) l)))
 

@@ -97,11 +97,11 @@ writing-turn v (accepted ts) t all out next w l e h q p =
       accepts = refl;
       room = omega arith;
       brings =
-        ap (λ x. sets x (w + l) (records ts)) q
-        ∙ ap (λ x. sets (sets out w (recordOf t)) x (records ts)) (sym m)
-        ∙ sym (sets-append out w (recordOf t) (records ts))
-        ∙ sym (ap (λ x. sets out w (records (tokensIn x))) e)
-        ∙ h .brings
+          ap (λ x. sets x (w + l) (records ts)) q
+          ∙ ap (λ x. sets (sets out w (recordOf t)) x (records ts)) (sym m)
+          ∙ sym (sets-append out w (recordOf t) (records ts))
+          ∙ sym (ap (λ x. sets out w (records (tokensIn x))) e)
+          ∙ h .brings;
     }
 writing-turn v (refused j a) t all out next w l e h q p = clash (sym (ap isAccepted e) ∙ h .accepts)
 

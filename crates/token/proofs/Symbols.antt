@@ -11,7 +11,7 @@ use Rattle.chars.specs.Quoted.{codes, oneOf}
 use Rattle.chars.specs.Classes.{isIdStart, isOpSign, isPrintable}
 use Rattle.chars.specs.Text.{Char, Text, from, place, afterRun}
 use Rattle.chars.proofs.Bools.{and-both}
-use Rattle.chars.proofs.Carry.{no-member}
+use Rattle.chars.proofs.ClassLaws.{sign-no-semi}
 use Rattle.chars.proofs.Texts.{TextOf, text-drop, text-place}
 use Rattle.chars.proofs.Places.{at-end, place-from}
 use Rattle.token.specs.Tests.{begins, backslash, apostrophe, opSign, freeSign, opensComment, plainChar}
@@ -93,10 +93,6 @@ symbol-at : (c : Char) (r t : Text) → t ≡ c ∷ r
     (cond (oneOf ";" (c .code) && not (opSign r)) (Found.token tk.CharSym r) (Found.stuck 16 t)))
 unfolding symbolOf
 symbol-at c r t e = rw e
-
-sign-no-semi : (c : ℕ) → isOpSign c ≡ true → oneOf ";" c ≡ false
-unfolding isOpSign
-sign-no-semi c e = no-member isOpSign (codes ";") c refl e
 
 pub no-symbol : (t : Text) → t ≡ [] → symbolOf t ≡ Found.stuck 16 t
 unfolding symbolOf

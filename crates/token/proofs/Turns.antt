@@ -111,13 +111,13 @@ module _ (s : List ℕ) (i : ℕ) (g : Gap) where
           let o = later-place s i r (some-left s i r h) h in
           record {
             walked =
-              w ∙ ap (λ z. before (record { kind = z; start = place n p; end = place n r; cut = d }) (walk n 0 fresh r)) b1
-              ∙ ap (λ z. before (record { kind = k; start = z; end = place n r; cut = d }) (walk n 0 fresh r)) b2
-              ∙ ap (λ z. before (record { kind = k; start = a; end = z; cut = d }) (walk n 0 fresh r)) b5
-              ∙ ap (λ z. before (record { kind = k; start = a; end = e .at; cut = z }) (walk n 0 fresh r)) b4
-              ∙ ap (λ z. before (record { kind = k; start = a; end = e .at; cut = cut }) (walk n 0 fresh z)) (sym (left-at s i r (h .0)) ∙ ap (from s) b5);
+                w ∙ ap (λ z. before (record { kind = z; start = place n p; end = place n r; cut = d }) (walk n 0 fresh r)) b1
+                ∙ ap (λ z. before (record { kind = k; start = z; end = place n r; cut = d }) (walk n 0 fresh r)) b2
+                ∙ ap (λ z. before (record { kind = k; start = a; end = z; cut = d }) (walk n 0 fresh r)) b5
+                ∙ ap (λ z. before (record { kind = k; start = a; end = e .at; cut = z }) (walk n 0 fresh r)) b4
+                ∙ ap (λ z. before (record { kind = k; start = a; end = e .at; cut = cut }) (walk n 0 fresh z)) (sym (left-at s i r (h .0)) ∙ ap (from s) b5);
             on = omega arith;
-            within = omega arith
+            within = omega arith;
           }
       go (Sought.lineEnd p r m h) w q = absurd (let z : _≡_ {A = ℕ} 0 1 = cc in omega arith)
       go (Sought.ends d) w q = absurd (let z : _≡_ {A = ℕ} 0 1 = cc in omega arith)
@@ -138,13 +138,13 @@ module _ (s : List ℕ) (i : ℕ) (g : Gap) where
           let o = later-place s i r (some-left s i r y) y in
           record {
             walked =
-              w ∙ ap (λ z. before (record { kind = tk.Newline z; start = place n p; end = place n r; cut = false }) (walk n 0 v r)) b4
-              ∙ ap (λ z. before (record { kind = tk.Newline mark; start = z; end = place n r; cut = false }) (walk n 0 v r)) b2
-              ∙ ap (λ z. before (record { kind = tk.Newline mark; start = a; end = z; cut = false }) (walk n 0 v r)) b5
-              ∙ ap (λ z. before (record { kind = tk.Newline mark; start = a; end = e .at; cut = false }) (walk n 0 z r)) b6
-              ∙ ap (λ z. before (record { kind = tk.Newline mark; start = a; end = e .at; cut = false }) (walk n 0 h z)) (sym (left-at s i r (y .0)) ∙ ap (from s) b5);
+                w ∙ ap (λ z. before (record { kind = tk.Newline z; start = place n p; end = place n r; cut = false }) (walk n 0 v r)) b4
+                ∙ ap (λ z. before (record { kind = tk.Newline mark; start = z; end = place n r; cut = false }) (walk n 0 v r)) b2
+                ∙ ap (λ z. before (record { kind = tk.Newline mark; start = a; end = z; cut = false }) (walk n 0 v r)) b5
+                ∙ ap (λ z. before (record { kind = tk.Newline mark; start = a; end = e .at; cut = false }) (walk n 0 z r)) b6
+                ∙ ap (λ z. before (record { kind = tk.Newline mark; start = a; end = e .at; cut = false }) (walk n 0 h z)) (sym (left-at s i r (y .0)) ∙ ap (from s) b5);
             on = omega arith;
-            within = omega arith
+            within = omega arith;
           }
       go (Sought.token y p r d) w q = absurd (let z : _≡_ {A = ℕ} 0 1 = cc in omega arith)
       go (Sought.ends d) w q = absurd (let z : _≡_ {A = ℕ} 0 1 = cc in omega arith)

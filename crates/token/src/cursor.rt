@@ -1,6 +1,5 @@
 // A place in a script, and what stands there.
 use chars::text::Step;
-
 ghost use mathlib.Core.Path.{_≡_};
 ghost use Prim.Native.Nat.{_+_, _≤_};
 ghost use mathlib.Core.Bool.{_&&_};

@@ -3,19 +3,21 @@ use crate::records::Measured;
 use crate::records::measure;
 use crate::records::write;
 use crate::store::put_block;
-
 ghost use mathlib.Core.Path.{_≡_};
 ghost use lib.ListN.{length};
 ghost use Prim.Native.Nat.{_≤_};
 ghost use Rattle.token.specs.Answer.{answer as answerTo};
 ghost use Rattle.token.specs.Host.{seen, seenOf, judge as verdictOf, hostOf};
+ghost use Rattle.token.specs.Theorems.{HostTheorems};
 
 pub const MOST_BYTES: usize = 16777216;
 
 // The number is 0 where the script is accepted: then the records stand at the buffer's start. Every refusal leaves the buffer as it was.
+// The first clause gives the number and every lent byte for all lengths; the second says what follows: the three demands.
 #[no_mangle]
 pub extern "C" fn ergo_tokenize(script: &[u8], records: &mut [u8], answer: &mut [u8]) -> u32
     ensures { λ r. ⌜ seen r (now (records .exit)) (now (answer .exit)) ≡ hostOf (now (script .entry)) (now (records .entry)) (now (answer .entry)) ⌝ }
+    ensures { λ r. ⌜ HostTheorems (now (script .entry)) (now (records .entry)) (now (answer .entry)) ⌝ }
 {
     if answer.len() != 16 {
         return 20;

@@ -7,7 +7,6 @@ use crate::gap::Closed;
 use crate::gap::Gap;
 use crate::kinds::TokenKind;
 use crate::piece::Piece;
-
 ghost use mathlib.Core.Path.{_≡_};
 ghost use mathlib.Core.Bool.{true, false};
 ghost use Prim.Native.Nat.{_+_, _≤_, _<_};

@@ -5,7 +5,6 @@ use crate::kinds::TokenKind;
 use crate::lexer::Next;
 use crate::lexer::advance;
 use crate::store::put_record;
-
 ghost use mathlib.Core.Path.{_≡_};
 ghost use Prim.Native.Nat.{_≤_};
 ghost use lib.ListN.{length};

@@ -5,19 +5,14 @@ use lib.Dec.{eqb}
 use Rattle.chars.specs.Quoted.{member}
 use Rattle.chars.proofs.Carry.{hits, misses}
 use Rattle.token.proofs.Bytes.{swapped}
--- imports of the template ends
 use Rattle.token.proofs.cursor.is_blank.Statement.{statement}
 use Rattle.token.proofs.cursor.is_blank.Tie as tie
-use Rattle.token.proofs.cursor.is_blank.Reads as reads
-use Rattle.token.proofs.cursor.is_blank.Lts as lts
 
--- src/cursor.rt:91:1
 returns : tie.Need-returns
-returns c = sym (swapped ((c .before .args) .b) 0x20 0x09 ∙ hits (0x09 ∷ 0x20 ∷ []) ((c .before .args) .b) ((c .match) .keys1))
+returns c = sym (swapped (c .before .args .b) 0x20 0x09 ∙ hits (0x09 ∷ 0x20 ∷ []) (c .before .args .b) (c .match .keys1))
 
--- src/cursor.rt:91:1
 returns-2 : tie.Need-returns-2
-returns-2 c = sym (swapped ((c .before .args) .b) 0x20 0x09 ∙ misses (0x09 ∷ 0x20 ∷ []) ((c .before .args) .b) ((c .match) .rest .1))
+returns-2 c = sym (swapped (c .before .args .b) 0x20 0x09 ∙ misses (0x09 ∷ 0x20 ∷ []) (c .before .args .b) (c .match .rest .1))
 
 pub is-blank-spec : {M : Type 1} → statement M
 is-blank-spec = tie.close (tie.spec returns returns-2)

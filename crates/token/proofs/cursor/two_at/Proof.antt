@@ -2,33 +2,26 @@ use mathlib.Core.Path.{_≡_, sym, _∙_, ap}
 use mathlib.Core.Bool.{_&&_}
 use lib.Dec.{eqb}
 use borrow.Author.Tests.{eq-eqb, ne-eqb}
--- imports of the template ends
 use borrow.Author.Needs.{needs}
 use Rattle.token.proofs.cursor.two_at.Statement.{statement}
 use Rattle.token.proofs.cursor.two_at.Tie as tie
-use Rattle.token.proofs.cursor.two_at.Reads as reads
-use Rattle.token.proofs.cursor.two_at.Lts as lts
-use Rattle.token.proofs.cursor.byte_at.Reads as byte-at-reads
 
--- src/cursor.rt:40:8
 byte-at-requires : tie.Need-byte-at-requires
 byte-at-requires c κs = search needs
 
--- src/cursor.rt:41:27
 add-byte-at : tie.Need-add-byte-at
 add-byte-at c = search needs
 
--- src/cursor.rt:41:16
 byte-at-requires-2 : tie.Need-byte-at-requires-2
 byte-at-requires-2 c κs = search needs
 
--- src/cursor.rt:41:9
 returns : tie.Need-returns
-returns c = simp (eq-eqb _ _ (sym ((c .before .before .byte-at) .ensures) ∙ (c .before .if1) .taken), ← (c .byte-at2) .ensures)
+returns c =
+    let byte-at = c .before .before .byte-at in
+    simp (eq-eqb _ _ (sym (byte-at .ensures) ∙ c .before .if1 .taken), ← c .byte-at2 .ensures)
 
--- src/cursor.rt:36:1
 returns-2 : tie.Need-returns-2
-returns-2 c = simp (ne-eqb _ _ (λ e. (c .if1) .left ((c .before .byte-at) .ensures ∙ e)))
+returns-2 c = simp (ne-eqb _ _ (λ e. c .if1 .left (c .before .byte-at .ensures ∙ e)))
 
 pub two-at-spec : {M : Type 1} → statement M
 two-at-spec =

@@ -1,63 +1,67 @@
 use mathlib.Core.Path.{_≡_, refl, sym, _∙_, ap}
 use native.Mathlib.Omega.{arith}
+use Rattle.token.proofs.Hosts.{host-theorems}
 use Rattle.token.proofs.Entries.{entry-none, entry-long, entry-invalid, entry-judged}
--- imports of the template ends
 use borrow.Author.Needs.{needs}
 use Rattle.token.proofs.host.ergo_tokenize.Statement.{statement}
 use Rattle.token.proofs.host.ergo_tokenize.Tie as tie
-use Rattle.token.proofs.host.ergo_tokenize.Reads as reads
-use Rattle.token.proofs.host.ergo_tokenize.Lts as lts
-use Rattle.chars.proofs.utf8.valid_prefix.Reads as valid-prefix-reads
-use Rattle.token.proofs.host.judge.Reads as judge-reads
-use Rattle.token.proofs.store.put_block.Reads as put-block-reads
 
--- src/host.rt:21:9
 returns : tie.Need-returns
-returns c = entry-none ((c .before .before .before .before .args) .script .now) ((c .before .before .before .before .args) .records .now) ((c .before .before .before .before .args) .answer .now) ((c .if1) .taken)
+returns c =
+    let args = c .before .before .before .before .args in
+    (entry-none (args .script .now) (args .records .now) (args .answer .now) (c .if1 .taken), host-theorems (args .script .now) (args .records .now) (args .answer .now))
 
--- src/host.rt:24:9
 put-block-requires : tie.Need-put-block-requires
 put-block-requires c κs = search needs
 
--- src/host.rt:25:9
 same-length : tie.Need-same-length
 same-length c = search needs
 
--- src/host.rt:25:9
 returns-2 : tie.Need-returns-2
-returns-2 c = entry-long ((c .before .before .before .before .before .before .before .before .before .args) .script .now) ((c .before .before .before .before .before .before .before .before .before .args) .records .now) ((c .before .before .before .before .before .before .before .before .before .args) .answer .now) ((c .before .before .before .before .before .if1) .left) _ ((c .before .before .before .before .if2) .taken) ((c .before .before .put-block) .ensures)
+returns-2 c =
+    let args = c .before .before .before .before .before .before .before .before .before .args in
+    let if1 = c .before .before .before .before .before .if1 in
+    let if2 = c .before .before .before .before .if2 in
+    let put-block = c .before .before .put-block in
+    (entry-long (args .script .now) (args .records .now) (args .answer .now) (if1 .left) _ (if2 .taken) (put-block .ensures), host-theorems (args .script .now) (args .records .now) (args .answer .now))
 
--- src/host.rt:27:9
 valid-prefix-requires : tie.Need-valid-prefix-requires
 valid-prefix-requires c κs = search needs
 
--- src/host.rt:29:9
 put-block-requires-2 : tie.Need-put-block-requires-2
 put-block-requires-2 c κs = search needs
 
--- src/host.rt:30:9
 same-length-2 : tie.Need-same-length-2
 same-length-2 c = search needs
 
--- src/host.rt:30:9
 returns-3 : tie.Need-returns-3
-returns-3 c = entry-invalid ((c .before .before .before .before .before .before .before .before .before .before .before .args) .script .now) ((c .before .before .before .before .before .before .before .before .before .before .before .args) .records .now) ((c .before .before .before .before .before .before .before .before .before .before .before .args) .answer .now) ((c .before .before .before .before .before .before .before .if1) .left) _ _ ((c .before .before .before .before .before .before .if2) .left) ((c .before .before .before .before .before .valid-prefix) .ensures .0) ((c .before .before .before .before .if3) .taken) ((c .before .before .put-block2) .ensures)
+returns-3 c =
+    let args = c .before .before .before .before .before .before .before .before .before .before .before .args in
+    let if1 = c .before .before .before .before .before .before .before .if1 in
+    let if2 = c .before .before .before .before .before .before .if2 in
+    let valid-prefix = c .before .before .before .before .before .valid-prefix in
+    let if3 = c .before .before .before .before .if3 in
+    let put-block2 = c .before .before .put-block2 in
+    (entry-invalid (args .script .now) (args .records .now) (args .answer .now) (if1 .left) _ _ (if2 .left) (valid-prefix .ensures .0) (if3 .taken) (put-block2 .ensures), host-theorems (args .script .now) (args .records .now) (args .answer .now))
 
--- src/host.rt:32:5
 judge-requires : tie.Need-judge-requires
 judge-requires c κs = search needs
 
--- src/host.rt:16:1
 same-length-3 : tie.Need-same-length-3
 same-length-3 c = search needs
 
--- src/host.rt:16:1
 same-length-4 : tie.Need-same-length-4
 same-length-4 c = search needs
 
--- src/host.rt:16:1
 returns-4 : tie.Need-returns-4
-returns-4 c = entry-judged ((c .before .before .before .before .before .before .before .before .before .before .before .before .before .before .args) .script .now) ((c .before .before .before .before .before .before .before .before .before .before .before .before .before .before .args) .records .now) ((c .before .before .before .before .before .before .before .before .before .before .before .before .before .before .args) .answer .now) ((c .before .before .before .before .before .before .before .before .before .before .if1) .left) _ _ ((c .before .before .before .before .before .before .before .before .before .if2) .left) ((c .before .before .before .before .before .before .before .before .valid-prefix) .ensures .0) ((c .before .before .before .before .before .before .before .if3) .left) ((c .before .before .before .before .judge) .ensures)
+returns-4 c =
+    let args = c .before .before .before .before .before .before .before .before .before .before .before .before .before .before .args in
+    let if1 = c .before .before .before .before .before .before .before .before .before .before .if1 in
+    let if2 = c .before .before .before .before .before .before .before .before .before .if2 in
+    let valid-prefix = c .before .before .before .before .before .before .before .before .valid-prefix in
+    let if3 = c .before .before .before .before .before .before .before .if3 in
+    let judge = c .before .before .before .before .judge in
+    (entry-judged (args .script .now) (args .records .now) (args .answer .now) (if1 .left) _ _ (if2 .left) (valid-prefix .ensures .0) (if3 .left) (judge .ensures), host-theorems (args .script .now) (args .records .now) (args .answer .now))
 
 pub ergo-tokenize-spec : {M : Type 1} → statement M
 ergo-tokenize-spec =

@@ -3,7 +3,7 @@ use mathlib.Core.Path.{sym, ap, _∙_}
 use mathlib.Core.Bool.{_||_}
 use Rattle.token.specs.Tests.{begins}
 use Rattle.chars.specs.Text.{from}
-use Rattle.token.proofs.IdentLaws.{opens-line, opens-block}
+use Rattle.token.proofs.Comments.{opens-line, opens-block}
 use borrow.Author.Needs.{needs}
 use Rattle.token.proofs.ident.opens_comment.Statement.{statement}
 use Rattle.token.proofs.ident.opens_comment.Tie as tie

@@ -5,7 +5,8 @@ use native.Mathlib.Omega.{arith}
 use Rattle.chars.specs.Classes.{isOpSign}
 use Rattle.chars.specs.Text.{from, head}
 use Rattle.chars.proofs.Places.{at-end, ascii-next, head-at, step-text, step-none}
-use Rattle.token.proofs.IdentLaws.{head-inside, head-low, no-sign-0, past-on, past-off}
+use Rattle.chars.proofs.ClassLaws.{nul-no-sign}
+use Rattle.token.proofs.IdentLaws.{head-inside, head-low, past-on, past-off}
 use borrow.Author.Needs.{needs}
 use Rattle.token.proofs.ident.sign_end.Statement.{statement}
 use Rattle.token.proofs.ident.sign_end.Tie as tie
@@ -24,7 +25,7 @@ add-result c =
     let s = c .before .before .before .before .before .args .s .now in
     let i = c .before .before .before .before .before .args .at in
     let b = c .before .before .before .byte-at .ensures in
-    let e = head-low isOpSign s i no-sign-0 (omega arith) ∙ ap isOpSign (sym b) ∙ sym (c .before .is-op-char .ensures) ∙ c .if2 .taken in
+    let e = head-low isOpSign s i nul-no-sign (omega arith) ∙ ap isOpSign (sym b) ∙ sym (c .before .is-op-char .ensures) ∙ c .if2 .taken in
     let l = head-inside isOpSign s i e in
     omega arith
 
@@ -33,7 +34,7 @@ returns c =
     let s = c .before .before .before .before .before .args .s .now in
     let i = c .before .before .before .before .before .args .at in
     let b = c .before .before .before .byte-at .ensures in
-    let e = head-low isOpSign s i no-sign-0 (omega arith) ∙ ap isOpSign (sym b) ∙ sym (c .before .is-op-char .ensures) ∙ c .if2 .taken in
+    let e = head-low isOpSign s i nul-no-sign (omega arith) ∙ ap isOpSign (sym b) ∙ sym (c .before .is-op-char .ensures) ∙ c .if2 .taken in
     past-on isOpSign s i (i + 1) e (sym (ascii-next s i (head-inside isOpSign s i e) (omega arith)))
 
 returns-2 : tie.Need-returns-2
@@ -41,7 +42,7 @@ returns-2 c =
     let s = c .before .before .before .before .before .args .s .now in
     let i = c .before .before .before .before .before .args .at in
     let b = c .before .before .before .byte-at .ensures in
-    past-off isOpSign s i (head-low isOpSign s i no-sign-0 (omega arith) ∙ ap isOpSign (sym b) ∙ sym (c .before .is-op-char .ensures) ∙ c .if2 .left)
+    past-off isOpSign s i (head-low isOpSign s i nul-no-sign (omega arith) ∙ ap isOpSign (sym b) ∙ sym (c .before .is-op-char .ensures) ∙ c .if2 .left)
 
 char-at-requires : tie.Need-char-at-requires
 char-at-requires c κs = search needs

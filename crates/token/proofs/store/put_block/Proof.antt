@@ -26,7 +26,7 @@ returns c =
     let place = count .before .before .before .before in
     let number = place .before .before .before .before in
     put-sixteen _ _ _ _ _ _ _ _ _ (number .before .before .before .pre)
-        (number .put4 .ensures) (place .put42 .ensures) (count .put43 .ensures) (bytes .put44 .ensures)
+    (number .put4 .ensures) (place .put42 .ensures) (count .put43 .ensures) (bytes .put44 .ensures)
 
 pub put-block-spec : {M : Type 1} → statement M
 put-block-spec =

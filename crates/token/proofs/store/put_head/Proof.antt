@@ -63,7 +63,7 @@ returns c =
     let number = start .before .before .before .before in
     let size = number .before .before .before .before .before in
     put-thirteen _ _ _ _ _ _ _ _ _ _ (size .before .length .ensures) (number .before .number .ensures) (c .bit-of .ensures)
-        (size .put2 .ensures) (number .put22 .ensures) (start .put4 .ensures) (end .put42 .ensures)
+    (size .put2 .ensures) (number .put22 .ensures) (start .put4 .ensures) (end .put42 .ensures)
 
 pub put-head-spec : {M : Type 1} → statement M
 put-head-spec =

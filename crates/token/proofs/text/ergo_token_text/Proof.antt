@@ -1,23 +1,15 @@
-
--- imports of the template ends
 use borrow.Author.Needs.{needs}
 use Rattle.token.proofs.text.ergo_token_text.Statement.{statement}
 use Rattle.token.proofs.text.ergo_token_text.Tie as tie
-use Rattle.token.proofs.text.ergo_token_text.Reads as reads
-use Rattle.token.proofs.text.ergo_token_text.Lts as lts
-use Rattle.token.proofs.text.has_text.Reads as has-text-reads
 
--- src/text.rt:50:8
 has-text-requires : tie.Need-has-text-requires
 has-text-requires c κs = search needs
 
--- src/text.rt:51:9
 returns : tie.Need-returns
-returns c = simp (← (c .before .has-text) .ensures, (c .if1) .taken)
+returns c = simp (← c .before .has-text .ensures, c .if1 .taken)
 
--- src/text.rt:46:1
 returns-2 : tie.Need-returns-2
-returns-2 c = simp (← (c .before .has-text) .ensures, (c .if1) .left)
+returns-2 c = simp (← c .before .has-text .ensures, c .if1 .left)
 
 pub ergo-token-text-spec : {M : Type 1} → statement M
 ergo-token-text-spec = tie.close (tie.spec has-text-requires returns returns-2)

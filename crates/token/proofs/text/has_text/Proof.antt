@@ -2,41 +2,38 @@ use mathlib.Core.Path.{sym, _∙_, ap}
 use mathlib.Core.Bool.{_&&_, not, and-false}
 use borrow.Author.Tests.{lt-leb, le-leb}
 use Rattle.token.specs.Host.{hasText}
--- imports of the template ends
 use borrow.Author.Needs.{needs}
 use Rattle.token.proofs.text.has_text.Statement.{statement}
 use Rattle.token.proofs.text.has_text.Tie as tie
-use Rattle.token.proofs.text.has_text.Reads as reads
-use Rattle.token.proofs.text.has_text.Lts as lts
-use Rattle.token.proofs.text.is_inside.Reads as is-inside-reads
 
--- src/text.rt:24:9
 returns : tie.Need-returns
 unfolding hasText
-returns c =     simp (lt-leb _ _ ((c .if1) .taken))
+returns c = simp (lt-leb _ _ (c .if1 .taken))
 
--- src/text.rt:27:9
 returns-2 : tie.Need-returns-2
 unfolding hasText
-returns-2 c =     simp (le-leb _ _ ((c .before .if1) .left), lt-leb _ _ ((c .if2) .taken))
+returns-2 c = simp (le-leb _ _ (c .before .if1 .left), lt-leb _ _ (c .if2 .taken))
 
--- src/text.rt:29:8
 is-inside-requires : tie.Need-is-inside-requires
 is-inside-requires c κs = search needs
 
--- src/text.rt:30:9
 returns-3 : tie.Need-returns-3
 unfolding hasText
-returns-3 c =     simp (le-leb _ _ ((c .before .before .before .if1) .left), le-leb _ _ ((c .before .before .if2) .left), ← (c .before .is-inside) .ensures, (c .if3) .taken)
+returns-3 c =
+    let if1 = c .before .before .before .if1 in
+    let if2 = c .before .before .if2 in
+    simp (le-leb _ _ (if1 .left), le-leb _ _ (if2 .left), ← c .before .is-inside .ensures, c .if3 .taken)
 
--- src/text.rt:32:6
 is-inside-requires-2 : tie.Need-is-inside-requires-2
 is-inside-requires-2 c κs = search needs
 
--- src/text.rt:20:1
 returns-4 : tie.Need-returns-4
 unfolding hasText
-returns-4 c =     simp (le-leb _ _ ((c .before .before .before .before .if1) .left), le-leb _ _ ((c .before .before .before .if2) .left), ← (c .before .before .is-inside) .ensures, (c .before .if3) .left, ← (c .is-inside2) .ensures)
+returns-4 c =
+    let if1 = c .before .before .before .before .if1 in
+    let if2 = c .before .before .before .if2 in
+    let is-inside = c .before .before .is-inside in
+    simp (le-leb _ _ (if1 .left), le-leb _ _ (if2 .left), ← is-inside .ensures, c .before .if3 .left, ← c .is-inside2 .ensures)
 
 pub has-text-spec : {M : Type 1} → statement M
 has-text-spec =
