@@ -67,3 +67,8 @@ valid-next s i (suc k) h e n =
 pub valid-end : (s : List ℕ) (i : ℕ) → length s ≤ i → validFrom i 0 (drop i s) ≡ i
 unfolding validFrom
 valid-end s i h = rw (drop-of-length-le s h, validFrom)
+
+-- an ASCII byte is a character of one byte
+pub valid-ascii : (s : List ℕ) (i : ℕ) → i < length s → getD s i 0 < 0x80 → validFrom (i + 1) 0 (drop (i + 1) s) ≡ validFrom i 0 (drop i s)
+valid-ascii s i h l =
+    valid-next s i 1 h (ap width (rows.here s i h) ∙ sym (rows.row-00 (getD s i 0) (drop (i + 1) s) (omega arith) (omega arith))) (λ e. absurd (omega arith))

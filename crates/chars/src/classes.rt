@@ -13,7 +13,7 @@ ghost use Rattle.chars.specs.Quoted.{between};
 ghost use Rattle.chars.specs.Ranges.{pairs, inRanges, ascendingFrom};
 ghost use lib.ListN.{length};
 ghost use Rattle.chars.specs.Tables.{alphabeticTable, alphaNotLetterTable};
-ghost use Rattle.chars.specs.Classes.{isIdStart, isIdChar, isOpSign, isPrintable, alphabetic, alphaNotLetter, IdTables};
+ghost use Rattle.chars.specs.Classes.{isIdStart, isIdChar, isOpSign, isPrintable, lowercase, uppercase, alphabetic, alphaNotLetter, IdTables};
 ghost use Rattle.chars.specs.Text.{from, place, idChar, afterRun};
 
 // The last code that the tables speak of.
@@ -93,7 +93,8 @@ pub fn is_printable_char(c: u32) -> bool
     c < 0xFFF0
 }
 
-// Whether c may start an identifier. ASCII reaches no table.
+// Whether c may start an identifier. A table is written to the stack where a function that lends it begins, so that ASCII has to be
+// answered before such a function is called.
 pub fn is_id_start(c: u32) -> bool
     ensures { λ r. ⌜ r ≡ isIdStart c ⌝ }
 {
@@ -107,9 +108,21 @@ pub fn is_id_start(c: u32) -> bool
         return false;
     }
     let k = c as u16;
-    if in_ranges(k, &LOWERCASE) {
+    if is_lowercase(k) {
         return true;
     }
+    is_uppercase(k)
+}
+
+fn is_lowercase(k: u16) -> bool
+    ensures { λ r. ⌜ r ≡ lowercase k ⌝ }
+{
+    in_ranges(k, &LOWERCASE)
+}
+
+fn is_uppercase(k: u16) -> bool
+    ensures { λ r. ⌜ r ≡ uppercase k ⌝ }
+{
     in_ranges(k, &UPPERCASE)
 }
 
@@ -133,10 +146,18 @@ pub fn is_id_char(c: u32) -> bool
     if c < 0x80 {
         return is_ascii_id_char(c);
     }
+    is_id_char_past_ascii(c)
+}
+
+// The same past ASCII.
+fn is_id_char_past_ascii(c: u32) -> bool
+    requires { ⌜ 0x80 ≤ c ⌝ }
+    ensures { λ r. ⌜ r ≡ isIdChar c ⌝ }
+{
     is_wide_id_char(c, &ALPHABETIC, &ALPHA_NOT_LETTER, &ND)
 }
 
-// The same past ASCII, by the tables that are lent.
+// The same by the tables that are lent.
 fn is_wide_id_char(c: u32, alphabetic: &[u16], marks: &[u16], digits: &[u16]) -> bool
     requires { ⌜ (0x80 ≤ c) × IdTables (now alphabetic) (now marks) (now digits) ⌝ }
     ensures { λ r. ⌜ r ≡ isIdChar c ⌝ }
@@ -176,8 +197,7 @@ fn is_ascii_id_char(c: u32) -> bool
     }
 }
 
-// Where the run of id characters from a place on ends. A table is written out each time that it is lent: a run lends the three once, and
-// none while it is ASCII.
+// Where the run of id characters from a place on ends: a run lends the three tables once, and none while it is ASCII.
 pub fn id_run_end(s: &[u8], at: usize) -> usize
     ensures { λ r. ⌜ r ≡ place (length (now (s .entry))) (afterRun idChar (from (now (s .entry)) at)) ⌝ }
 {
@@ -185,7 +205,7 @@ pub fn id_run_end(s: &[u8], at: usize) -> usize
     while i < s.len() {
         let b = s[i];
         if 0x80 <= b {
-            return wide_run_end(s, i, &ALPHABETIC, &ALPHA_NOT_LETTER, &ND);
+            return lend_run_end(s, i);
         }
         if !is_ascii_id_char(b as u32) {
             return i;
@@ -193,6 +213,13 @@ pub fn id_run_end(s: &[u8], at: usize) -> usize
         i += 1;
     }
     s.len()
+}
+
+// The same past ASCII: lends the tables.
+fn lend_run_end(s: &[u8], at: usize) -> usize
+    ensures { λ r. ⌜ r ≡ place (length (now (s .entry))) (afterRun idChar (from (now (s .entry)) at)) ⌝ }
+{
+    wide_run_end(s, at, &ALPHABETIC, &ALPHA_NOT_LETTER, &ND)
 }
 
 // The same with the tables lent.

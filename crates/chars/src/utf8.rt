@@ -126,11 +126,15 @@ pub fn valid_prefix(s: &[u8]) -> usize
 {
     let mut i = 0;
     while i < s.len() {
-        let w = width_at(s, i);
-        if w == 0 {
-            return i;
+        if s[i] < 0x80 {
+            i += 1;
+        } else {
+            let w = width_at(s, i);
+            if w == 0 {
+                return i;
+            }
+            i += w;
         }
-        i += w;
     }
     i
 }
