@@ -1,11 +1,14 @@
 // Compares crates/token, by its exports ergo_tokenize and ergo_token_text, with the published tokenize of token.rs, and writes the list of
-// answers that crates/replay replays. Built and run by compare/tokenize.
+// answers that crates/replay replays and the listings that crates/listing_cases prints. Built and run by compare/tokenize.
 //
 //     tokenize [--count N] [--seed S]   compare, and print how many scripts were compared and how many differed; exit status 1 if any differed
 //     tokenize --list                   print what crates/replay/stdin is to hold; only the published tokenize is asked
+//     tokenize --cases                  print what crates/listing_cases/stdin is to hold
+//     tokenize --listing                print its listings, for crates/listing_cases/stdout; only the published tokenize is asked
 //
 // Refusals 1 to 16 and every record byte are judged by tokenize; 17 to 21, the answer block and the bytes past the records by what
 // document 01 says of them.
+mod listing;
 mod scripts;
 
 use published::error::ParseError;
@@ -583,7 +586,7 @@ fn compare_all(count: u64, seed: u64) {
 
 #[cfg(not(linked))]
 fn compare_all(_count: u64, _seed: u64) {
-    eprintln!("tokenize: built without the static library; only --list is there");
+    eprintln!("tokenize: built without the static library; only --list, --cases and --listing are there");
     std::process::exit(2);
 }
 
@@ -660,8 +663,11 @@ fn main() {
     let (mut count, mut seed) = (100_000, 1);
     let mut args = std::env::args().skip(1);
     while let Some(option) = args.next() {
-        if option == "--list" {
-            return print_list();
+        match option.as_str() {
+            "--list" => return print_list(),
+            "--cases" => return listing::print_cases(),
+            "--listing" => return listing::print_listings(),
+            _ => {}
         }
         let value = args.next().and_then(|text| text.parse().ok());
         match (option.as_str(), value) {

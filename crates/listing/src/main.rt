@@ -1,0 +1,19 @@
+// The listing program. Document 01, "Host entry and text": it takes up to 3,000 bytes on standard input (more prints `long`) and prints kind,
+// start, end, cut and values, or `refused N at P`. `rt check listing` runs it on `stdin`, document 01's example, and holds what it prints to
+// `stdout`, the lines that document 01 gives.
+use libc::STDIN_FILENO;
+ghost use mathlib.Core.Path.{_≡_};
+ghost use lib.ListN.{length};
+
+// One byte more than a listing takes.
+fn script_space() -> [u8; 3001]
+    ensures { λ r. ⌜ 3001 ≡ length r ⌝ }
+{
+    [0; 3001]
+}
+
+fn main() {
+    let mut script = script_space();
+    let n = io::read_full(STDIN_FILENO, &mut script);
+    listing_text::print_listing(&script[..n]);
+}

@@ -1,0 +1,82 @@
+// Listings of many scripts: for each case a line `-- K`, counted from 1, and the script's listing. `rt check listing_cases` runs it on `stdin`
+// and holds what it prints to `stdout`; `compare/tokenize FOLDER --listing` wrote both, the listings by the published tokenize alone.
+//
+// Standard input holds cases, one directly after the other. A case is four decimal digits, the script's length, a line feed, and the script.
+use libc::STDIN_FILENO;
+use libc::STDOUT_FILENO;
+ghost use mathlib.Core.Path.{_≡_};
+ghost use lib.ListN.{length};
+ghost use Prim.Native.Nat.{_+_, _<_, _≤_};
+ghost use Rattle.listing_cases.specs.Cases.{digit as digitOf, scriptLength, caseEnd};
+
+const HEAD_BYTES: usize = 5;
+
+fn wide(x: u8) -> usize
+    ensures { λ r. ⌜ r ≡ x ⌝ }
+    ensures { λ r. ⌜ r < 256 ⌝ }
+{
+    x as usize
+}
+
+fn digit(list: &[u8], at: usize) -> usize
+    requires { ⌜ at < length (now list) ⌝ }
+    ensures { λ r. ⌜ r ≡ digitOf (now (list .entry)) at ⌝ }
+    ensures { λ r. ⌜ r < 256 ⌝ }
+{
+    let code = wide(list[at]);
+    if code < 0x30 {
+        return 0;
+    }
+    code - 0x30
+}
+
+fn script_length(list: &[u8], at: usize) -> usize
+    requires { ⌜ at + 5 ≤ length (now list) ⌝ }
+    ensures { λ r. ⌜ r ≡ scriptLength (now (list .entry)) at ⌝ }
+    ensures { λ r. ⌜ r < 1000000 ⌝ }
+{
+    digit(list, at) * 1000
+        + digit(list, at + 1) * 100
+        + digit(list, at + 2) * 10
+        + digit(list, at + 3)
+}
+
+// Where the script of the case at a place ends.
+fn case_end(list: &[u8], at: usize) -> usize
+    requires { ⌜ at + 5 ≤ length (now list) ⌝ }
+    ensures { λ r. ⌜ r ≡ caseEnd (now (list .entry)) at ⌝ }
+    ensures { λ r. ⌜ at + 5 ≤ r ⌝ }
+    ensures { λ r. ⌜ r ≤ length (now (list .entry)) ⌝ }
+{
+    let start = at + HEAD_BYTES;
+    let length = script_length(list, at);
+    if length < list.len() - start {
+        return start + length;
+    }
+    list.len()
+}
+
+fn print_case(number: u64, script: &[u8]) {
+    io::write_all(STDOUT_FILENO, b"-- ");
+    io::print_decimal(STDOUT_FILENO, number);
+    io::write_all(STDOUT_FILENO, b"\n");
+    listing_text::print_listing(script);
+}
+
+fn print_cases(list: &[u8]) {
+    let mut at: usize = 0;
+    let mut number: u64 = 0;
+    while list.len() - at >= HEAD_BYTES {
+        let start = at + HEAD_BYTES;
+        let end = case_end(list, at);
+        number = std::num::wrapping_add_u64(number, 1);
+        print_case(number, &list[start..end]);
+        at = end;
+    }
+}
+
+fn main() {
+    let mut list = io::large_buffer();
+    let n = io::read_full(STDIN_FILENO, &mut list);
+    print_cases(&list[..n]);
+}
