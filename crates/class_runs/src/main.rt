@@ -8,7 +8,8 @@ use chars::classes::is_printable_char;
 use libc::STDOUT_FILENO;
 ghost use mathlib.Core.Path.{_≡_};
 ghost use Prim.Native.Nat.{_-_};
-ghost use Rattle.class_runs.specs.Lines.{glyph, inClass};
+ghost use lib.ListN.{length};
+ghost use Rattle.class_runs.specs.Lines.{glyph, inClass, runText};
 
 // Whether c belongs to the class of number k.
 fn belongs(k: u32, c: u32) -> bool
@@ -30,9 +31,11 @@ fn hex_digit(n: u32) -> u8
     if d < 10 { 48 + d } else { 55 + d }
 }
 
-// Writes one run: the name of the class, the first character and the last.
-fn print_run(name: &[u8], first: u32, last: u32) {
-    let text = [
+// What follows the name of the class in the line of a run: the first character and the last.
+fn run_text(first: u32, last: u32) -> [u8; 11]
+    ensures { λ r. ⌜ (r ≡ runText first last) × (11 ≡ length r) ⌝ }
+{
+    [
         b' ',
         hex_digit(first / 4096),
         hex_digit(first / 256),
@@ -44,9 +47,7 @@ fn print_run(name: &[u8], first: u32, last: u32) {
         hex_digit(last / 16),
         hex_digit(last),
         b'\n',
-    ];
-    io::write_all(STDOUT_FILENO, name);
-    io::write_all(STDOUT_FILENO, &text);
+    ]
 }
 
 // Writes the runs of class k among the characters from `from` up to `end`, not included, and counts those characters. The run at hand is
@@ -60,7 +61,8 @@ fn print_runs(k: u32, name: &[u8], from: u32, end: u32) -> u32
     while c < end {
         if !belongs(k, c) {
             if start < c {
-                print_run(name, start, c - 1);
+                io::write_all(STDOUT_FILENO, name);
+                io::write_all(STDOUT_FILENO, &run_text(start, c - 1));
             }
             start = c + 1;
         }
@@ -68,7 +70,8 @@ fn print_runs(k: u32, name: &[u8], from: u32, end: u32) -> u32
         walked += 1;
     }
     if start < c {
-        print_run(name, start, c - 1);
+        io::write_all(STDOUT_FILENO, name);
+        io::write_all(STDOUT_FILENO, &run_text(start, c - 1));
     }
     walked
 }

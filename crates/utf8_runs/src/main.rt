@@ -6,7 +6,7 @@ use libc::STDOUT_FILENO;
 ghost use mathlib.Core.Path.{_≡_};
 ghost use Prim.Native.Nat.{_≤_};
 ghost use lib.ListN.{length};
-ghost use Rattle.utf8_runs.specs.Sequences.{bytesOf, tallied};
+ghost use Rattle.utf8_runs.specs.Sequences.{bytesOf, rows, tallied, walked};
 
 const EDGES: [u8; 4] = [0x7F, 0x80, 0xBF, 0xC0];
 
@@ -40,6 +40,7 @@ fn tally(counts: &mut [u32; 5], answer: usize)
 // Counts the answers for the sequences of n bytes that begin with a.
 fn walk(n: usize, a: u8, tails: u32, counts: &mut [u32; 5], all: &mut [u32; 5])
     requires { ⌜ n ≤ 4 ⌝ }
+    ensures { λ _. ⌜ (now (counts .exit) ≡ walked n a tails (now (counts .entry))) × (now (all .exit) ≡ walked n a tails (now (all .entry))) ⌝ }
 {
     let mut k: u32 = 0;
     while k < tails {
@@ -57,8 +58,10 @@ fn wide(x: u32) -> u64
     x as u64
 }
 
-// Writes the counts, and ends the line.
-fn print_counts(counts: &[u32; 5]) {
+// Writes the counts, and ends the line. Hands back how many numbers it wrote.
+fn print_counts(counts: &[u32; 5]) -> usize
+    ensures { λ r. ⌜ r ≡ 5 ⌝ }
+{
     let mut i: usize = 0;
     while i < 5 {
         io::write_all(STDOUT_FILENO, b" ");
@@ -66,11 +69,14 @@ fn print_counts(counts: &[u32; 5]) {
         i += 1;
     }
     io::write_all(STDOUT_FILENO, b"\n");
+    i
 }
 
-// Writes the lines of length n. For each first byte there are as many sequences as `tails` says.
-fn print_rows(n: usize, tails: u32)
+// Writes the lines of length n, and hands back the counts of the last, for all first bytes. For each first byte there are as many sequences
+// as `tails` says.
+fn print_rows(n: usize, tails: u32) -> [u32; 5]
     requires { ⌜ n ≤ 4 ⌝ }
+    ensures { λ r. ⌜ r ≡ rows n tails 256 ⌝ }
 {
     let mut all = [0u32; 5];
     let mut a: u32 = 0;
@@ -86,6 +92,7 @@ fn print_rows(n: usize, tails: u32)
     io::print_decimal(STDOUT_FILENO, n as u64);
     io::write_all(STDOUT_FILENO, b" all");
     print_counts(&all);
+    all
 }
 
 fn main() {

@@ -1,12 +1,12 @@
--- `utf8_runs::print_counts` is safe and ends.
+-- `utf8_runs::print_counts` meets its contract.
 -- Assumes nothing.
-use Prim.Native.Nat.{_-_}
+use Prim.Native.Nat.{_-_, _≤_}
 use borrow.Author.Needs.{needs}
 use Rattle.utf8_runs.proofs.print_counts.Statement.{statement}
 use Rattle.utf8_runs.proofs.print_counts.Tie as tie
 
 abbrev Inv-loop : tie.InvT-loop
-Inv-loop counts i₀ t3 t4 i = Unit
+Inv-loop counts i₀ t3 t4 i = i ≤ 5
 
 abbrev μ-loop : tie.MeasureT-loop
 μ-loop counts i₀ t3 t4 i = 5 - i

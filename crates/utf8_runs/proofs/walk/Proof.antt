@@ -1,20 +1,38 @@
--- `utf8_runs::walk` is safe and ends. Nothing has to hold from turn to turn; the part that is lent has n bytes of the four.
+-- `utf8_runs::walk` meets its contract: what was counted is that of the sequences passed. The part that is lent has n bytes of the four.
 -- Assumes nothing.
-use Prim.Native.Nat.{_-_}
+use Prim.Native.Nat.{ℕ, _+_, _-_, _≤_}
 use borrow.Author.Needs.{needs}
-use lib.ListN.{length-take}
+use lib.ListN.{take, length-take}
+use mathlib.Core.List.{List}
+use mathlib.Core.Path.{_≡_, refl}
+use native.Mathlib.Numerals.{add-one}
 use native.Mathlib.Omega.{arith}
 use Rattle.utf8_runs.proofs.walk.Statement.{statement}
 use Rattle.utf8_runs.proofs.walk.Tie as tie
+use Rattle.chars.specs.Utf8.{validPrefix}
+use Rattle.utf8_runs.specs.Sequences.{bytesOf, tallied, walked}
+
+first : (n a : ℕ) (counts : List ℕ) → counts ≡ walked n a 0 counts
+unfolding walked
+first n a counts = refl
+
+-- one sequence more
+turn : (n a k : ℕ) (old : List ℕ) {counts after bytes : List ℕ} {answer : ℕ} → counts ≡ walked n a k old → bytes ≡ bytesOf n a k
+    → answer ≡ validPrefix (take n bytes) → after ≡ tallied counts answer → after ≡ walked n a (k + 1) old
+unfolding walked
+turn n a k old is made found more = rw add-one (cc)
+
+whole : (n a k : ℕ) {tails : ℕ} (old : List ℕ) {counts : List ℕ} → counts ≡ walked n a k old → k ≡ tails → counts ≡ walked n a tails old
+whole n a k old is end = rw end at is
 
 abbrev Inv-loop : tie.InvT-loop
-Inv-loop n a tails counts₀ all₀ k₀ counts all k = Unit
+Inv-loop n a tails counts₀ all₀ k₀ counts all k = (counts ≡ walked n a k counts₀) × (all ≡ walked n a k all₀) × (k ≤ tails)
 
 abbrev μ-loop : tie.MeasureT-loop
 μ-loop n a tails counts₀ all₀ k₀ counts all k = tails - k
 
 loop-holds : tie.Need-loop-holds Inv-loop μ-loop
-loop-holds c = search needs
+loop-holds c = (first _ _ _, first _ _ _, omega arith)
 
 bytes-of-requires : tie.Need-bytes-of-requires Inv-loop μ-loop
 bytes-of-requires c κs = search needs
@@ -41,10 +59,14 @@ loop-less : tie.Need-loop-less Inv-loop μ-loop
 loop-less c = search needs
 
 loop-again : tie.Need-loop-again Inv-loop μ-loop
-loop-again c = search needs
+loop-again c = (
+  turn _ _ _ _ (c .before .before .before .before .before .before .before .before .loop .inv .0) (c .before .before .before .before .before .before .bytes-of .ensures .0) (c .before .before .before .before .valid-prefix .ensures .0) (c .before .before .tally .ensures),
+  turn _ _ _ _ (c .before .before .before .before .before .before .before .before .loop .inv .1) (c .before .before .before .before .before .before .bytes-of .ensures .0) (c .before .before .before .before .valid-prefix .ensures .0) (c .tally2 .ensures),
+  omega arith,
+)
 
 returns : tie.Need-returns Inv-loop μ-loop
-returns c = search needs
+returns c = (whole _ _ _ _ (c .before .loop .inv .0) (omega arith), whole _ _ _ _ (c .before .loop .inv .1) (omega arith))
 
 pub walk-spec : {M : Type 1} → statement M
 walk-spec =
