@@ -1,0 +1,66 @@
+use std::error::Error;
+use std::fmt;
+
+/// Why a script is refused, and where.
+#[derive(Debug, Clone, Copy, PartialEq, Eq, Hash)]
+pub struct Refusal {
+    /// 1 to 16: the script is no sequence of tokens. 17: it is too long. 18: it is not UTF-8. 19, of [`write`](crate::write) only: too few bytes
+    /// were lent. 21: of [`token_text`](crate::token_text) only. (20, a wrong answer block, does not occur here.)
+    pub number: u32,
+    /// A byte offset from 0; 0 where the header names none.
+    pub place: u32,
+}
+
+impl Refusal {
+    /// What was met, in words.
+    pub fn meaning(&self) -> &'static str {
+        self.words().0
+    }
+
+    /// What the author of the script should do; for 19 to 21, the author of the host.
+    pub fn advice(&self) -> &'static str {
+        self.words().1
+    }
+
+    fn words(&self) -> (&'static str, &'static str) {
+        match self.number {
+            1 => {
+                ("a CR stands here without an LF after it", "end lines by LF or CR LF; a CR alone may stand only in strings, comments and backticks")
+            }
+            2 => ("the block comment that starts here is still open at the script's end", "close it by */; each /* inside it needs a */ of its own"),
+            3 => ("no token starts with this character", "take it out, or put it into a string or backticks"),
+            4 => ("the backtick that starts here is still open at the script's end", "close it by a backtick"),
+            5 => ("nothing stands between these two backticks", "put a name between them"),
+            6 => ("the number that starts here is too large", "append L, which takes numbers up to 9223372036854775807, or write a smaller number"),
+            7 => ("a string opened by one \" is still open at the script's end", "close it by \""),
+            8 => ("a line ends inside a string opened by one \"", "close the string on its line, or open and close it by \"\"\""),
+            9 => ("a string opened by \"\"\" is still open at the script's end", "close it by \"\"\""),
+            10 => ("a backslash stands in a string opened by \"\"\"", "open and close the string by one \", where escapes are taken"),
+            11 => ("${ stands in a prefixed string, which is not supported", "join strings instead"),
+            12 => ("the script ends directly after the backslash of an escape", "finish the escape, and the string or character in which it stands"),
+            13 => ("a hex digit lacks here after \\u", "write exactly four hex digits after \\u"),
+            14 => (
+                "this character after a backslash is no escape",
+                "write \\b \\t \\n \\f \\r \\' \\\" or \\], a backslash and one to three digits, or \\u and four hex digits; \\\\ is none of them",
+            ),
+            15 => ("a ' lacks here after the escape of a character", "close the character by ' right after its escape"),
+            16 => ("neither a character nor a symbol stands after the '", "write a character and ' after it, or a symbol"),
+            17 => ("the script has more than 16777216 bytes", "hand over a shorter script"),
+            18 => ("the bytes from here on are not UTF-8", "save the script as UTF-8"),
+            19 => ("the records need more bytes than were lent", "lend as many bytes as measuring tells"),
+            20 => ("the answer block does not have 16 bytes", "lend an answer block of 16 bytes"),
+            21 => {
+                ("this start and this end do not enclose a text of the script", "ask for a start and an end as they stand in a record of this script")
+            }
+            _ => ("the library's header knows no such refusal", "link the libtoken.a that this wrapper was written for"),
+        }
+    }
+}
+
+impl fmt::Display for Refusal {
+    fn fmt(&self, f: &mut fmt::Formatter<'_>) -> fmt::Result {
+        write!(f, "refused {} at {}: {}; {}", self.number, self.place, self.meaning(), self.advice())
+    }
+}
+
+impl Error for Refusal {}
