@@ -5,19 +5,21 @@ use mathlib.Core.Bool.{Bool, true, false, cond}
 use mathlib.Core.List.{List, [], _∷_, _++_}
 use lib.ListN.{length, drop}
 use lib.Seq.{sets}
-use lib.Dec.{eqb, leb, ltb}
+use lib.Dec.{eqb}
 use native.Mathlib.Nat.{zero-add}
 use native.Mathlib.Omega.{arith}
-use borrow.Author.Tests.{le-leb, lt-leb, lt-ltb, le-ltb, eq-eqb, ne-eqb}
+use borrow.Author.Tests.{eq-eqb, ne-eqb}
 use Rattle.chars.specs.Utf8.{validPrefix}
 use Rattle.token.specs.Kinds.{Token}
 use Rattle.token.specs.Answer.{Answer, accepted, refused, answer}
 use Rattle.token.specs.Records.{records, recordBytes}
-use Rattle.token.specs.Measure.{measuredOf, tokensIn, Fits}
-use Rattle.token.specs.Host.{Seen, seen, seenOf, blockOf, Verdict, good, bad, short, judge, verdict, mostBytes, hostOf}
+use Rattle.token.specs.Measure.{measuredOf, judgedOf, tokensIn, Fits}
+use Rattle.token.specs.Host.{Seen, seen, seenOf, blockOf, Verdict, good, bad, short, verdict, mostBytes, hostOf}
 use Rattle.token.specs.declared.records.Measured.the-variants as measured
+use Rattle.token.specs.declared.host.Judged.the-variants as judged
 use Rattle.token.proofs.Alone.{records-length}
 use Rattle.token.proofs.Stores.{sets-front}
+use Rattle.token.proofs.Verdicts.{verdict-17, verdict-18, verdict-rest, verdict-good, judge-good, judge-short, judge-bad}
 
 -- ---- back from measuring
 
@@ -34,41 +36,59 @@ unfolding measuredOf
 was-stopped (refused i b) j a e = cc
 was-stopped (accepted ts) j a e = absurd (let z : _≡_ {A = ℕ} 0 1 = cc in omega arith)
 
--- ---- a script of valid UTF-8 that is not too long
+-- ---- judging: 17, 18, 1 to 16, 19
 
-module _ (s buf blk : List ℕ) where
-  pub entry-stopped : (j a : ℕ) → measured.Stopped j a ≡ measuredOf 0 0 (answer s) → blk ≡ blockOf j a 0 0 → seen j buf blk ≡ seenOf (judge (length buf) (answer s)) buf
-  unfolding seenOf judge
-  entry-stopped j a e q = ap (seen j buf) q ∙ sym (ap (λ v. seenOf (judge (length buf) v) buf) (was-stopped (answer s) j a e))
+module _ (s : List ℕ) (room : ℕ) where
+  pub judge-long : mostBytes < length s → judged.Refused 17 0 ≡ judgedOf (verdict s room)
+  unfolding judgedOf
+  judge-long l = sym (ap judgedOf (verdict-17 s room l))
 
-  pub entry-short : (n b : ℕ) → measured.Total n b ≡ measuredOf 0 0 (answer s) → length buf < b → blk ≡ blockOf 19 0 n b → seen 19 buf blk ≡ seenOf (judge (length buf) (answer s)) buf
-  unfolding seenOf judge
-  entry-short n b e l q =
-      let w = was-total (answer s) n b e in
-      let x : length buf < recordBytes (w .0) = omega (arith, w .3) in
-      ap (seen 19 buf) (q ∙ ap (λ z. blockOf 19 0 z b) (w .2) ∙ ap (blockOf 19 0 (length (w .0))) (w .3))
-      ∙ sym (ap (λ v. seenOf (judge (length buf) v) buf) (w .1) ∙ rw (lt-leb (recordBytes (w .0)) (length buf) x))
+  module _ (l : length s ≤ mostBytes) (v : ℕ) (e : v ≡ validPrefix s) where
+    pub judge-invalid : v < length s → judged.Refused 18 v ≡ judgedOf (verdict s room)
+    unfolding judgedOf
+    judge-invalid x = ap (judged.Refused 18) e ∙ sym (ap judgedOf (verdict-18 s room l (omega (arith, e))))
 
-  pub entry-fits : (n b : ℕ) → measured.Total n b ≡ measuredOf 0 0 (answer s) → b ≤ length buf → Fits (answer s) (length buf)
-  entry-fits n b e l =
-      let w = was-total (answer s) n b e in
-      rw (w .1) (record { accepts = refl; fits = omega (arith, w .3) })
+    module _ (x : length s ≤ v) where
+      pub judge-stopped : (j a : ℕ) → measured.Stopped j a ≡ measuredOf 0 0 (answer s) → judged.Refused j a ≡ judgedOf (verdict s room)
+      unfolding judgedOf
+      judge-stopped j a q =
+          sym (ap judgedOf (verdict-rest s room l (omega (arith, e)) ∙ judge-bad room (answer s) j a (was-stopped (answer s) j a q)))
 
-  pub entry-done : (n b : ℕ) (out : List ℕ) → measured.Total n b ≡ measuredOf 0 0 (answer s) → b ≤ length buf → out ≡ sets buf 0 (records (tokensIn (answer s))) → blk ≡ blockOf 0 0 n b
-      → seen 0 out blk ≡ seenOf (judge (length buf) (answer s)) buf
-  unfolding seenOf judge
-  entry-done n b out e l o q =
-      let w = was-total (answer s) n b e in
-      let x : recordBytes (w .0) ≤ length buf = omega (arith, w .3) in
-      let y = records-length (w .0) in
-      let z : length (records (w .0)) ≤ length buf = omega arith in
-      let f : out ≡ records (w .0) ++ drop (recordBytes (w .0)) buf =
-      o ∙ ap (λ v. sets buf 0 (records (tokensIn v))) (w .1) ∙ sets-front buf (records (w .0)) z ∙ ap (λ k. records (w .0) ++ drop k buf) y in
-      ap (λ u. seen 0 u blk) f
-      ∙ ap (seen 0 (records (w .0) ++ drop (recordBytes (w .0)) buf)) (q ∙ ap (λ u. blockOf 0 0 u b) (w .2) ∙ ap (blockOf 0 0 (length (w .0))) (w .3))
-      ∙ sym (ap (λ v. seenOf (judge (length buf) v) buf) (w .1) ∙ rw (le-leb (recordBytes (w .0)) (length buf) x))
+      pub judge-over : (n b : ℕ) → measured.Total n b ≡ measuredOf 0 0 (answer s) → room < b → judged.Short n b ≡ judgedOf (verdict s room)
+      unfolding judgedOf
+      judge-over n b q y =
+          let w = was-total (answer s) n b q in
+          ap (λ k. judged.Short k b) (w .2) ∙ ap (judged.Short (length (w .0))) (w .3)
+          ∙ sym (ap judgedOf (verdict-rest s room l (omega (arith, e)) ∙ judge-short room (answer s) (w .0) (w .1) (omega (arith, w .3))))
 
--- ---- the order of the refusals
+      pub judge-fits : (n b : ℕ) → measured.Total n b ≡ measuredOf 0 0 (answer s) → b ≤ room → judged.Fits n b ≡ judgedOf (verdict s room)
+      unfolding judgedOf
+      judge-fits n b q y =
+          let w = was-total (answer s) n b q in
+          ap (λ k. judged.Fits k b) (w .2) ∙ ap (judged.Fits (length (w .0))) (w .3)
+          ∙ sym (ap judgedOf (verdict-rest s room l (omega (arith, e)) ∙ judge-good room (answer s) (w .0) (w .1) (omega (arith, w .3))))
+
+-- ---- back from judging
+
+was-refused : (v : Verdict) (j a : ℕ) → judged.Refused j a ≡ judgedOf v → v ≡ bad j a
+unfolding judgedOf
+was-refused (bad i b) j a e = cc
+was-refused (good ts) j a e = absurd (let z : _≡_ {A = ℕ} 0 1 = cc in omega arith)
+was-refused (short ts) j a e = absurd (let z : _≡_ {A = ℕ} 0 1 = cc in omega arith)
+
+was-short : (v : Verdict) (n b : ℕ) → judged.Short n b ≡ judgedOf v → (ts : List Token) × (v ≡ short ts) × (n ≡ length ts) × (b ≡ recordBytes ts)
+unfolding judgedOf
+was-short (short ts) n b e = (ts, refl, cc, cc)
+was-short (good ts) n b e = absurd (let z : _≡_ {A = ℕ} 0 1 = cc in omega arith)
+was-short (bad j a) n b e = absurd (let z : _≡_ {A = ℕ} 0 1 = cc in omega arith)
+
+was-fits : (v : Verdict) (n b : ℕ) → judged.Fits n b ≡ judgedOf v → (ts : List Token) × (v ≡ good ts) × (n ≡ length ts) × (b ≡ recordBytes ts)
+unfolding judgedOf
+was-fits (good ts) n b e = (ts, refl, cc, cc)
+was-fits (short ts) n b e = absurd (let z : _≡_ {A = ℕ} 0 1 = cc in omega arith)
+was-fits (bad j a) n b e = absurd (let z : _≡_ {A = ℕ} 0 1 = cc in omega arith)
+
+-- ---- what the host sees
 
 module _ (s buf block : List ℕ) where
   pub entry-none : (length block ≡ 16 → ⊥) → seen 20 buf block ≡ hostOf s buf block
@@ -76,18 +96,39 @@ module _ (s buf block : List ℕ) where
   entry-none h = simp (ne-eqb (length block) 16 h)
 
   module _ (h : length block ≡ 16) where
-    pub entry-long : (blk : List ℕ) → 16777216 < length s → blk ≡ blockOf 17 0 0 0 → seen 17 buf blk ≡ hostOf s buf block
-    unfolding hostOf verdict seenOf
-    entry-long blk l q = simp (eq-eqb (length block) 16 h, lt-ltb 16777216 (length s) l, q)
+    by-verdict : (v : Verdict) → verdict s (length buf) ≡ v → seenOf v buf ≡ hostOf s buf block
+    unfolding hostOf
+    by-verdict v e = simp (eq-eqb (length block) 16 h, e)
 
-    pub entry-invalid : (blk : List ℕ) (v : ℕ) → length s ≤ 16777216 → v ≡ validPrefix s → v < length s → blk ≡ blockOf 18 v 0 0 → seen 18 buf blk ≡ hostOf s buf block
-    unfolding hostOf verdict seenOf
-    entry-invalid blk v l e x q =
-        let y : validPrefix s < length s = omega (arith, e) in
-        ap (seen 18 buf) (q ∙ ap (λ u. blockOf 18 u 0 0) e) ∙ simp (eq-eqb (length block) 16 h, le-ltb 16777216 (length s) l, lt-ltb (validPrefix s) (length s) y)
+    pub entry-refused : (blk : List ℕ) (j a : ℕ) → judged.Refused j a ≡ judgedOf (verdict s (length buf)) → blk ≡ blockOf j a 0 0
+        → seen j buf blk ≡ hostOf s buf block
+    unfolding seenOf
+    entry-refused blk j a e q = ap (seen j buf) q ∙ by-verdict (bad j a) (was-refused _ j a e)
 
-    pub entry-judged : (x : Seen) (v : ℕ) → length s ≤ 16777216 → v ≡ validPrefix s → length s ≤ v → x ≡ seenOf (judge (length buf) (answer s)) buf → x ≡ hostOf s buf block
-    unfolding hostOf verdict
-    entry-judged x v l e y q =
-        let z : length s ≤ validPrefix s = omega (arith, e) in
-        q ∙ simp (eq-eqb (length block) 16 h, le-ltb 16777216 (length s) l, le-ltb (validPrefix s) (length s) z)
+    pub entry-short : (blk : List ℕ) (n b : ℕ) → judged.Short n b ≡ judgedOf (verdict s (length buf)) → blk ≡ blockOf 19 0 n b
+        → seen 19 buf blk ≡ hostOf s buf block
+    unfolding seenOf
+    entry-short blk n b e q =
+        let w = was-short _ n b e in
+        ap (seen 19 buf) (q ∙ ap (λ k. blockOf 19 0 k b) (w .2) ∙ ap (blockOf 19 0 (length (w .0))) (w .3)) ∙ by-verdict (short (w .0)) (w .1)
+
+    pub entry-done : (out blk : List ℕ) (n b : ℕ) → judged.Fits n b ≡ judgedOf (verdict s (length buf)) → out ≡ sets buf 0 (records (tokensIn (answer s)))
+        → blk ≡ blockOf 0 0 n b → seen 0 out blk ≡ hostOf s buf block
+    unfolding seenOf
+    entry-done out blk n b e o q =
+        let w = was-fits _ n b e in
+        let ts = w .0 in
+        let g = verdict-good s (length buf) ts (w .1) in
+        let y = records-length ts in
+        let z : length (records ts) ≤ length buf = omega (arith, g .1, y) in
+        let f : out ≡ records ts ++ drop (recordBytes ts) buf =
+        o ∙ ap (λ v. sets buf 0 (records (tokensIn v))) (g .0) ∙ sets-front buf (records ts) z ∙ ap (λ k. records ts ++ drop k buf) y in
+        ap (λ u. seen 0 u blk) f
+        ∙ ap (seen 0 (records ts ++ drop (recordBytes ts) buf)) (q ∙ ap (λ u. blockOf 0 0 u b) (w .2) ∙ ap (blockOf 0 0 (length ts)) (w .3))
+        ∙ by-verdict (good ts) (w .1)
+
+pub entry-fits : (s : List ℕ) (room n b : ℕ) → judged.Fits n b ≡ judgedOf (verdict s room) → Fits (answer s) room
+entry-fits s room n b e =
+    let w = was-fits _ n b e in
+    let g = verdict-good s room (w .0) (w .1) in
+    rw (g .0) (record { accepts = refl; fits = g .1 })

@@ -17,37 +17,13 @@ use Rattle.token.specs.Records.{records, tokenCount, recordBytes}
 use Rattle.token.specs.Answer.{Answer, answer}
 use Rattle.token.specs.Host.{Seen, seen, numberSeen, bufferSeen, blockOf, mostBytes, TokensOf, Sees, Verdict, good, bad, short, judge, verdict, seenOf, hostOf}
 use Rattle.token.specs.Theorems.{HostTheorems, Lends, Accepts}
+use Rattle.token.proofs.Verdicts.{verdict-17, verdict-18, verdict-rest, judge-good, judge-short, judge-bad}
 use Rattle.token.proofs.Theorems.{complete, refusal, need, answer-tokens, tokens-answer}
 
 -- ---- the order, computed
 
-module _ (script : List ℕ) (room : ℕ) where
-  verdict-17 : mostBytes < length script → verdict script room ≡ bad 17 0
-  unfolding verdict
-  verdict-17 l = rw (lt-ltb mostBytes (length script) l)
-
-  verdict-18 : length script ≤ mostBytes → validPrefix script < length script → verdict script room ≡ bad 18 (validPrefix script)
-  unfolding verdict
-  verdict-18 l m = rw (le-ltb mostBytes (length script) l, lt-ltb (validPrefix script) (length script) m)
-
-  verdict-judge : length script ≤ mostBytes → WellFormed script → verdict script room ≡ judge room (answer script)
-  unfolding verdict
-  verdict-judge l w =
-      let e = valid-all script w in
-      let m : length script ≤ validPrefix script = omega arith in
-      rw (le-ltb mostBytes (length script) l, le-ltb (validPrefix script) (length script) m)
-
-  judge-good : (ts : List Token) → answer script ≡ Answer.accepted ts → recordBytes ts ≤ room → judge room (answer script) ≡ good ts
-  unfolding judge
-  judge-good ts e l = rw e (rw (le-leb (recordBytes ts) room l))
-
-  judge-short : (ts : List Token) → answer script ≡ Answer.accepted ts → room < recordBytes ts → judge room (answer script) ≡ short ts
-  unfolding judge
-  judge-short ts e l = rw e (rw (lt-leb (recordBytes ts) room l))
-
-  judge-bad : (j a : ℕ) → answer script ≡ Answer.refused j a → judge room (answer script) ≡ bad j a
-  unfolding judge
-  judge-bad j a e = rw e
+verdict-judge : (script : List ℕ) (room : ℕ) → length script ≤ mostBytes → WellFormed script → verdict script room ≡ judge room (answer script)
+verdict-judge script room l w = let e = valid-all script w in verdict-rest script room l (omega arith)
 
 -- the numbers of the table's first sixteen rows
 escape-range : {b q : Text} {j : ℕ} → BadEscape b j q → (1 ≤ j) × (j ≤ 16)
@@ -89,11 +65,11 @@ module _ (script buffer block : List ℕ) where
       let q : validPrefix script ≡ n = longest-one (valid script) v in
       host-16 e (bad 18 n) (verdict-18 script (length buffer) l (omega arith) ∙ ap (bad 18) q)
   sees-only (Sees.refused {j} {a} e l w h) =
-      host-16 e (bad j a) (verdict-judge script (length buffer) l w ∙ judge-bad script (length buffer) j a (refusal script j a .1 h))
+      host-16 e (bad j a) (verdict-judge script (length buffer) l w ∙ judge-bad (length buffer) (answer script) j a (refusal script j a .1 h))
   sees-only (Sees.nineteen {ts} e l w h m) =
-      host-16 e (short ts) (verdict-judge script (length buffer) l w ∙ judge-short script (length buffer) ts (answer-tokens script ts h) m)
+      host-16 e (short ts) (verdict-judge script (length buffer) l w ∙ judge-short (length buffer) (answer script) ts (answer-tokens script ts h) m)
   sees-only (Sees.accepted {ts} e l w h m) =
-      host-16 e (good ts) (verdict-judge script (length buffer) l w ∙ judge-good script (length buffer) ts (answer-tokens script ts h) m)
+      host-16 e (good ts) (verdict-judge script (length buffer) l w ∙ judge-good (length buffer) (answer script) ts (answer-tokens script ts h) m)
 
   put : {x : Seen} → Sees script buffer block x → Sees script buffer block (hostOf script buffer block)
   put h = rw (sees-only h) h

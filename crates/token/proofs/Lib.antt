@@ -31,6 +31,7 @@ pub mod Lexes
 pub mod Turns
 pub mod Stores
 pub mod Measures
+pub mod Verdicts
 pub mod Entries
 pub mod Theorems
 pub mod Mets

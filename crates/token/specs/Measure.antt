@@ -9,6 +9,9 @@ use Rattle.token.specs.Answer.{Answer, accepted, refused}
 use Rattle.token.specs.Records.{recordBytes}
 use Rattle.token.specs.declared.records.Measured.{Measured}
 use Rattle.token.specs.declared.records.Measured.the-variants as measured
+use Rattle.token.specs.Host.{Verdict, good, bad, short}
+use Rattle.token.specs.declared.host.Judged.{Judged}
+use Rattle.token.specs.declared.host.Judged.the-variants as judged
 
 -- token count and record bytes after c tokens and b bytes that were counted before, or the refusal
 unfoldable pub measuredOf : ℕ → ℕ → Answer → Measured
@@ -27,3 +30,9 @@ tokensIn (refused j a) = []
 pub record Fits (w : Answer) (room : ℕ) : Type 0 where
   pub accepts : isAccepted w ≡ true
   pub fits : recordBytes (tokensIn w) ≤ room
+
+-- the verdict with the tokens counted
+unfoldable pub judgedOf : Verdict → Judged
+judgedOf (good ts) = judged.Fits (length ts) (recordBytes ts)
+judgedOf (short ts) = judged.Short (length ts) (recordBytes ts)
+judgedOf (bad j a) = judged.Refused j a

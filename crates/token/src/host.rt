@@ -4,13 +4,43 @@ use crate::records::measure;
 use crate::records::write;
 use crate::store::put_block;
 ghost use mathlib.Core.Path.{_≡_};
-ghost use lib.ListN.{length};
-ghost use Prim.Native.Nat.{_≤_};
-ghost use Rattle.token.specs.Answer.{answer as answerTo};
-ghost use Rattle.token.specs.Host.{seen, seenOf, judge as verdictOf, hostOf};
+ghost use Rattle.token.specs.Host.{seen, hostOf, verdict};
+ghost use Rattle.token.specs.Measure.{judgedOf};
 ghost use Rattle.token.specs.Theorems.{HostTheorems};
 
 pub const MOST_BYTES: usize = 16777216;
+
+// A refusal's number and place; or token count and record bytes, which are more than is lent, or are not.
+pub enum Judged {
+    Refused(u32, usize),
+    Short(usize, usize),
+    Fits(usize, usize),
+}
+
+// The refusals but 20, in their order: 17, 18, 1 to 16, 19.
+fn judge(script: &[u8], room: usize) -> Judged
+    ensures { λ r. ⌜ r ≡ judgedOf (verdict (now (script .entry)) room) ⌝ }
+{
+    if MOST_BYTES < script.len() {
+        return Judged::Refused(17, 0);
+    }
+    let valid = chars::utf8::valid_prefix(script);
+    if valid < script.len() {
+        return Judged::Refused(18, valid);
+    }
+    let found = measure(script);
+    match found {
+        Measured::Stopped(number, place) => {
+            return Judged::Refused(number, place);
+        }
+        Measured::Total(count, bytes) => {
+            if room < bytes {
+                return Judged::Short(count, bytes);
+            }
+            return Judged::Fits(count, bytes);
+        }
+    }
+}
 
 // The number is 0 where the script is accepted: then the records stand at the buffer's start. Every refusal leaves the buffer as it was.
 // The first clause gives the number and every lent byte for all lengths; the second says what follows: the three demands.
@@ -22,34 +52,17 @@ pub extern "C" fn ergo_tokenize(script: &[u8], records: &mut [u8], answer: &mut 
     if answer.len() != 16 {
         return 20;
     }
-    if MOST_BYTES < script.len() {
-        put_block(answer, 17, 0, 0, 0);
-        return 17;
-    }
-    let valid = chars::utf8::valid_prefix(script);
-    if valid < script.len() {
-        put_block(answer, 18, valid, 0, 0);
-        return 18;
-    }
-    judge(script, records, answer)
-}
-
-// A script of valid UTF-8 that is not too long: 1 to 16, then 19.
-fn judge(script: &[u8], records: &mut [u8], answer: &mut [u8]) -> u32
-    requires { ⌜ (length (now script) ≤ 16777216) × (length (now answer) ≡ 16) ⌝ }
-    ensures { λ r. ⌜ seen r (now (records .exit)) (now (answer .exit)) ≡ seenOf (verdictOf (length (now (records .entry))) (answerTo (now (script .entry)))) (now (records .entry)) ⌝ }
-{
-    let found = measure(script);
-    match found {
-        Measured::Stopped(number, place) => {
+    let judged = judge(script, records.len());
+    match judged {
+        Judged::Refused(number, place) => {
             put_block(answer, number as usize, place, 0, 0);
             return number;
         }
-        Measured::Total(count, bytes) => {
-            if records.len() < bytes {
-                put_block(answer, 19, 0, count, bytes);
-                return 19;
-            }
+        Judged::Short(count, bytes) => {
+            put_block(answer, 19, 0, count, bytes);
+            return 19;
+        }
+        Judged::Fits(count, bytes) => {
             write(script, records);
             put_block(answer, 0, 0, count, bytes);
             return 0;
