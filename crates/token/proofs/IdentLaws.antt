@@ -38,6 +38,16 @@ head-inside p s i e = go (ltb i (length s)) refl
     go true h = ltb-true i (length s) h
     go false h = clash (sym (ap (head p) (at-end s i (ltb-false i (length s) h))) ∙ e)
 
+-- where a run ends nothing of it stands
+after-done : (p : Text → Bool) → p [] ≡ false → (t : Text) → p (afterRun p t) ≡ false
+unfolding afterRun
+after-done p z [] = z
+after-done p z (c ∷ t) = go (p (c ∷ t)) refl (after-done p z t)
+  where
+    go : (b : Bool) → p (c ∷ t) ≡ b → p (afterRun p t) ≡ false → p (afterRun p (c ∷ t)) ≡ false
+    go true e ih = ap p (after-next p c t e) ∙ ih
+    go false e ih = ap p (after-stop p c t e) ∙ e
+
 -- what is left of a text stands no earlier
 drop-later : (s : List ℕ) (k i : ℕ) → i ≤ length s → i ≤ place (length s) (drop k (from s i))
 drop-later s zero i h = let e = place-from s i h in omega arith
@@ -199,6 +209,18 @@ module _ (s : List ℕ) (i : ℕ) where
   pass-none u h e n =
       let r = run-place idChar s i i h e in
       rest-none u (from s i) (after-moves idChar (from s i) refl (sym (r .2))) (any-byte "_" refl s i ∙ rw (ne-eqb (getD s i 0) 0x5F n))
+
+  -- past a run of id characters that ends at j, be it empty
+  pub pass-run : (j : ℕ) → i ≤ length s → j ≡ place (length s) (afterRun idChar (from s i))
+      → (j ≤ length s) × (afterIdent false (from s j) ≡ afterIdent false (from s i))
+  pass-run j h e = let r = run-place idChar s i j h e in (r .1, ap (afterIdent false) (r .2) ∙ sym (rest-more (from s i)))
+
+  -- and past nothing more, where no underscore follows it
+  pub pass-all : (j : ℕ) → i ≤ length s → j ≡ place (length s) (afterRun idChar (from s i)) → (getD s j 0 ≡ 0x5F → ⊥)
+      → from s j ≡ afterIdent false (from s i)
+  pass-all j h e n =
+      let f = ap idChar (run-place idChar s i j h e .2) ∙ after-done idChar refl (from s i) in
+      sym (rest-none false (from s j) f (any-byte "_" refl s j ∙ rw (ne-eqb (getD s j 0) 0x5F n))) ∙ pass-run j h e .1
 
 -- ---- what is left of a text
 

@@ -7,7 +7,7 @@ use mathlib.Core.List.{List, [], _∷_}
 use lib.ListN.{length, drop, getD}
 use lib.Dec.{eqb, leb, ltb}
 use native.Mathlib.Omega.{arith}
-use borrow.Author.Tests.{ltb-true, ltb-false, eqb-true, ne-eqb, le-leb, lt-leb}
+use borrow.Author.Tests.{ltb-true, ltb-false, lt-ltb, eqb-true, ne-eqb, le-leb, lt-leb}
 use Rattle.chars.specs.Quoted.{between, codes, member, oneOf}
 use Rattle.chars.specs.Classes.{isIdStart}
 use Rattle.chars.specs.Text.{Char, Text, from, place, nextOf as charEnd, head, afterRun}
@@ -96,6 +96,23 @@ module _ (s : List ℕ) (i : ℕ) (h : i < length s) where
 
   pub operator-at : opensComment t ≡ false → opSign t ≡ true → scan n t ≡ scanAs n Start.operator t
   operator-at z e = scan-by n t Start.operator (starts-operator t (clear t z) e)
+
+-- ---- ASCII, told by its byte
+
+module _ (s : List ℕ) (i : ℕ) (h : i < length s) where
+  pub ascii-head : (p : ℕ → Bool) → getD s i 0 < 0x80 → head p (from s i) ≡ p (getD s i 0)
+  ascii-head p l = ap (head p) (at-ascii s i h l)
+
+  -- an identifier's first character, and the text behind it
+  pub ascii-start : ltb (getD s i 0) 0x80 && isIdStart (getD s i 0) ≡ true
+      → (head isIdStart (from s i) ≡ true) × (i + 1 ≤ length s) × (from s (i + 1) ≡ drop 1 (from s i))
+  ascii-start e =
+      let k = and-both (ltb (getD s i 0) 0x80) (isIdStart (getD s i 0)) e in
+      let t = at-ascii s i h (ltb-true (getD s i 0) 0x80 (k .0)) in
+      (ap (head isIdStart) t ∙ k .1, omega arith, sym (ap (drop 1) t))
+
+  pub ascii-no-start : getD s i 0 < 0x80 → ltb (getD s i 0) 0x80 && isIdStart (getD s i 0) ≡ false → head isIdStart (from s i) ≡ false
+  ascii-no-start l e = ascii-head isIdStart l ∙ (rw (lt-ltb (getD s i 0) 0x80 l) at e)
 
 -- a sub-list of codes of which none stands there
 none-of : (a b : String) → every (oneOf a) (codes b) ≡ true → (s : Text) → isAny a s ≡ false → isAny b s ≡ false

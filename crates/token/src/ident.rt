@@ -12,7 +12,7 @@ ghost use mathlib.Core.Bool.{true, false, cond};
 ghost use mathlib.Core.List.{[], _∷_};
 ghost use mathlib.Core.Option.{some, none};
 ghost use Prim.Native.Nat.{_+_, _≤_};
-ghost use lib.ListN.{length};
+ghost use lib.ListN.{length, drop};
 ghost use Rattle.chars.specs.Classes.{isIdStart};
 ghost use Rattle.chars.specs.Text.{from, nextOf, head, afterRun};
 ghost use Rattle.token.specs.Tests.{isAny, opSign, freeSign, opensComment};
@@ -31,12 +31,19 @@ fn sign_end(s: &[u8], at: usize) -> usize
     ensures { λ r. ⌜ r ≡ cond (opSign (from (now (s .entry)) at)) (nextOf (now (s .entry)) at) at ⌝ }
 {
     let b = byte_at(s, at);
-    if b < 0x80 {
-        if chars::classes::is_op_char(b as u32) {
-            return at + 1;
-        }
-        return at;
+    if 0x80 <= b {
+        return wide_sign_end(s, at);
     }
+    if chars::classes::is_op_char(b as u32) {
+        return at + 1;
+    }
+    at
+}
+
+// The same by the character that stands there.
+fn wide_sign_end(s: &[u8], at: usize) -> usize
+    ensures { λ r. ⌜ r ≡ cond (opSign (from (now (s .entry)) at)) (nextOf (now (s .entry)) at) at ⌝ }
+{
     let here = chars::text::char_at(s, at);
     let Step::Char { code, next } = here else {
         return at;
@@ -62,8 +69,20 @@ fn consume_signs(s: &[u8], c: Cursor) -> Cursor
     }
 }
 
-// Past an identifier's rest: chunks, each of zero or more underscores and one or more id characters, then signs where underscores are left.
+// Past an identifier's rest. Most have no underscore: then one run of id characters is all of it.
 pub fn consume_id_rest(s: &[u8], c: Cursor) -> Cursor
+    requires { ⌜ c .at ≤ length (now s) ⌝ }
+    ensures { λ r. ⌜ (r .at ≤ length (now (s .entry))) × (from (now (s .entry)) (r .at) ≡ afterIdent false (from (now (s .entry)) (c .at))) ⌝ }
+{
+    let end = chars::classes::id_run_end(s, c.at);
+    if byte_at(s, end) == 0x5F {
+        return consume_chunks(s, Cursor { at: end });
+    }
+    Cursor { at: end }
+}
+
+// The same by chunks, each of zero or more underscores and one or more id characters, then signs where underscores are left.
+fn consume_chunks(s: &[u8], c: Cursor) -> Cursor
     requires { ⌜ c .at ≤ length (now s) ⌝ }
     ensures { λ r. ⌜ (r .at ≤ length (now (s .entry))) × (from (now (s .entry)) (r .at) ≡ afterIdent false (from (now (s .entry)) (c .at))) ⌝ }
 {
@@ -242,12 +261,11 @@ fn or_prefixed(s: &[u8], kind: TokenKind, start: usize, c: Cursor) -> Piece
     Piece::Token(kind, c)
 }
 
-// An identifier, a keyword, or the string that an identifier prefixes.
-pub fn lex_ident(s: &[u8], c: Cursor) -> Piece
-    requires { ⌜ (c .at ≤ length (now s)) × (head isIdStart (from (now s) (c .at)) ≡ true) ⌝ }
+// An identifier, a keyword, or the string that an identifier prefixes. Its first character ends at `rest`.
+pub fn lex_ident(s: &[u8], c: Cursor, rest: Cursor) -> Piece
+    requires { ⌜ (c .at ≤ length (now s)) × (head isIdStart (from (now s) (c .at)) ≡ true) × (rest .at ≤ length (now s)) × (from (now s) (rest .at) ≡ drop 1 (from (now s) (c .at))) ⌝ }
     ensures { λ r. ⌜ r ≡ pieceOf (length (now (s .entry))) (scanIdent (length (now (s .entry))) (from (now (s .entry)) (c .at))) ⌝ }
 {
-    let rest = c.step(s);
     let end = consume_id_rest(s, rest);
     let word = word_keyword(s, c.at, end.at);
     match word {

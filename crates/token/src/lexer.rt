@@ -8,7 +8,9 @@ use crate::gap::Gap;
 use crate::kinds::TokenKind;
 use crate::piece::Piece;
 ghost use mathlib.Core.Path.{_≡_};
-ghost use mathlib.Core.Bool.{true, false};
+ghost use mathlib.Core.Bool.{true, false, _&&_};
+ghost use lib.Dec.{ltb};
+ghost use Rattle.chars.specs.Classes.{isIdStart};
 ghost use Prim.Native.Nat.{_+_, _≤_, _<_};
 ghost use lib.ListN.{length};
 ghost use Rattle.chars.specs.Text.{from};
@@ -32,17 +34,49 @@ pub enum Passed {
     Open,
 }
 
-// A token that is no single sign, number, backtick, string, character or symbol: an identifier, an operator, or nothing.
+// Is the byte an ASCII character that starts an identifier? Lower case is the commonest, and tested first.
+fn is_ascii_start(b: u8) -> bool
+    ensures { λ r. ⌜ r ≡ ltb b 0x80 && isIdStart b ⌝ }
+{
+    match b {
+        0x61..=0x7A => true,
+        0x41..=0x5A => true,
+        0x24 | 0x5F => true,
+        _ => false,
+    }
+}
+
+// A token that is no single sign, number, backtick, string, character or symbol: an identifier, an operator, or nothing. ASCII is told by its
+// byte.
 fn lex_word(s: &[u8], c: Cursor) -> Piece
     requires { ⌜ (c .at < length (now s)) × (isAny wordless (from (now s) (c .at)) ≡ false) × (opensComment (from (now s) (c .at)) ≡ false) ⌝ }
     ensures { λ r. ⌜ r ≡ pieceOf (length (now (s .entry))) (scan (length (now (s .entry))) (from (now (s .entry)) (c .at))) ⌝ }
 {
+    let at = c.at;
+    let b = s[at];
+    if is_ascii_start(b) {
+        return crate::ident::lex_ident(s, c, Cursor { at: at + 1 });
+    }
+    if 0x80 <= b {
+        return lex_wide_word(s, c);
+    }
+    if chars::classes::is_op_char(b as u32) {
+        return crate::ident::lex_op_run(s, c);
+    }
+    Piece::Refused(3, at)
+}
+
+// The same by the character that stands there.
+fn lex_wide_word(s: &[u8], c: Cursor) -> Piece
+    requires { ⌜ (c .at < length (now s)) × (isAny wordless (from (now s) (c .at)) ≡ false) × (opensComment (from (now s) (c .at)) ≡ false) ⌝ }
+    ensures { λ r. ⌜ r ≡ pieceOf (length (now (s .entry))) (scan (length (now (s .entry))) (from (now (s .entry)) (c .at))) ⌝ }
+{
     let here = c.peek(s);
-    let Peeked::Char(code, _) = here else {
+    let Peeked::Char(code, next) = here else {
         return Piece::Refused(3, c.at);
     };
     if chars::classes::is_id_start(code) {
-        return crate::ident::lex_ident(s, c);
+        return crate::ident::lex_ident(s, c, next);
     }
     if chars::classes::is_op_char(code) {
         return crate::ident::lex_op_run(s, c);

@@ -2,7 +2,6 @@
 use mathlib.Core.Path.{refl, sym, ap, _∙_}
 use mathlib.Core.Bool.{false}
 use mathlib.Core.Option.{some, none}
-use borrow.Author.Needs.{needs}
 use lib.ListN.{length}
 use Rattle.chars.specs.Text.{from}
 use Rattle.token.specs.Answer.{afterIdent}
@@ -10,21 +9,20 @@ use Rattle.token.specs.Code.{pieceOf}
 use Rattle.token.specs.declared.kinds.TokenKind.the-variants as tk
 use Rattle.token.proofs.WordLaws.{key-is, key-not}
 use Rattle.token.proofs.IdentLaws.{left-to, ident-left, scan-word, token-at}
+use borrow.Author.Needs.{needs}
 use Rattle.token.proofs.ident.lex_ident.Statement.{statement}
 use Rattle.token.proofs.ident.lex_ident.Tie as tie
 
-step-requires : tie.Need-step-requires
-step-requires c κs = search needs
-
 consume-id-rest-requires : tie.Need-consume-id-rest-requires
-consume-id-rest-requires c κs = c .step .ensures .0
+consume-id-rest-requires c κs = c .before .pre .2
 
 word-keyword-requires : tie.Need-word-keyword-requires
 word-keyword-requires c κs =
-    let s = c .before .before .before .args .s .now in
+    let s = c .before .before .args .s .now in
+    let i = c .before .before .args .c .at in
+    let pre = c .before .before .pre in
     let e = c .consume-id-rest .ensures in
-    let q = e .1 ∙ ap (afterIdent false) (c .before .step .ensures .1) in
-    left-to s (c .before .before .before .args .c .at) _ _ (c .before .before .before .pre .0) (e .0) q (ident-left (from s (c .before .before .before .args .c .at)) (c .before .before .before .pre .1))
+    left-to s i _ _ (pre .0) (e .0) (e .1 ∙ ap (afterIdent false) (pre .3)) (ident-left (from s i) (pre .1))
 
 enum-known-word : tie.Need-enum-known-word
 enum-known-word c = search needs
@@ -34,36 +32,38 @@ enum-told c = search needs
 
 or-prefixed-requires : tie.Need-or-prefixed-requires
 or-prefixed-requires c κs =
-    let s = c .before .before .before .before .before .before .args .s .now in
+    let s = c .before .before .before .before .before .args .s .now in
+    let i = c .before .before .before .before .before .args .c .at in
+    let pre = c .before .before .before .before .before .pre in
     let e = c .before .before .before .consume-id-rest .ensures in
-    let q = e .1 ∙ ap (afterIdent false) (c .before .before .before .before .step .ensures .1) in
-    let l = left-to s (c .before .before .before .before .before .before .args .c .at) _ _ (c .before .before .before .before .before .before .pre .0) (e .0) q (ident-left (from s (c .before .before .before .before .before .before .args .c .at)) (c .before .before .before .before .before .before .pre .1)) in
+    let l = left-to s i _ _ (pre .0) (e .0) (e .1 ∙ ap (afterIdent false) (pre .3)) (ident-left (from s i) (pre .1)) in
     (l .0, l .1)
 
 returns : tie.Need-returns
 returns c =
-    let s = c .before .before .before .before .before .before .before .args .s .now in
+    let s = c .before .before .before .before .before .before .args .s .now in
     let e = c .before .before .before .before .consume-id-rest .ensures in
     let r = from s (c .before .before .before .before .consume-id-rest .result .at) in
-    let q = e .1 ∙ ap (afterIdent false) (c .before .before .before .before .before .step .ensures .1) in
+    let q = e .1 ∙ ap (afterIdent false) (c .before .before .before .before .before .before .pre .3) in
     let k = c .before .word .given .0 .0 in
-    let w = scan-word (length s) (from s (c .before .before .before .before .before .before .before .args .c .at)) r (some k) q (key-is _ k (sym (c .before .word .given .1) ∙ c .before .before .before .word-keyword .ensures)) in
+    let key = key-is _ k (sym (c .before .word .given .1) ∙ c .before .before .before .word-keyword .ensures) in
+    let w = scan-word (length s) (from s (c .before .before .before .before .before .before .args .c .at)) r (some k) q key in
     token-at s (tk.Kw k) _ r (e .0) refl ∙ ap (pieceOf (length s)) (sym w)
 
 returns-2 : tie.Need-returns-2
 returns-2 c =
-    let s = c .before .before .before .before .before .before .before .args .s .now in
+    let s = c .before .before .before .before .before .before .args .s .now in
     let e = c .before .before .before .before .consume-id-rest .ensures in
     let r = from s (c .before .before .before .before .consume-id-rest .result .at) in
-    let q = e .1 ∙ ap (afterIdent false) (c .before .before .before .before .before .step .ensures .1) in
-    let w = scan-word (length s) (from s (c .before .before .before .before .before .before .before .args .c .at)) r none q (key-not _ (sym (c .before .enum-told .given .1) ∙ c .before .before .before .word-keyword .ensures)) in
+    let q = e .1 ∙ ap (afterIdent false) (c .before .before .before .before .before .before .pre .3) in
+    let key = key-not _ (sym (c .before .enum-told .given .1) ∙ c .before .before .before .word-keyword .ensures) in
+    let w = scan-word (length s) (from s (c .before .before .before .before .before .before .args .c .at)) r none q key in
     c .or-prefixed .ensures ∙ ap (pieceOf (length s)) (sym w)
 
 pub lex-ident-spec : {M : Type 1} → statement M
 lex-ident-spec =
     tie.close
     (tie.spec
-    step-requires
     consume-id-rest-requires
     word-keyword-requires
     enum-known-word

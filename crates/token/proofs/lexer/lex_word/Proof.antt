@@ -1,3 +1,4 @@
+-- By the byte that stands there, past ASCII by the character.
 use mathlib.Core.Path.{_≡_, sym, _∙_, ap}
 use mathlib.Core.Bool.{true, false}
 use native.Mathlib.Omega.{arith}
@@ -7,50 +8,44 @@ use Rattle.chars.specs.Text.{from, head}
 use Rattle.chars.proofs.Places.{place-from}
 use Rattle.token.specs.Code.{pieceOf}
 use Rattle.token.specs.declared.piece.Piece.the-variants as piece
-use Rattle.token.proofs.Cursors.{peeked-char, peeked-end}
-use Rattle.token.proofs.Lexes.{word-at, operator-at, other-at}
+use Rattle.token.proofs.Lexes.{word-at, operator-at, other-at, ascii-head, ascii-start, ascii-no-start}
 use borrow.Author.Needs.{needs}
 use Rattle.token.proofs.lexer.lex_word.Statement.{statement}
 use Rattle.token.proofs.lexer.lex_word.Tie as tie
 
-peek-requires : tie.Need-peek-requires
-peek-requires c κs = search needs
+shared-slice-read-b : tie.Need-shared-slice-read-b
+shared-slice-read-b c = search needs
 
-enum-known-here : tie.Need-enum-known-here
-enum-known-here c = search needs
+is-ascii-start-requires : tie.Need-is-ascii-start-requires
+is-ascii-start-requires c κs = search needs
 
-enum-told : tie.Need-enum-told
-enum-told c = search needs
-
-returns : tie.Need-returns
-returns c =
-    let args = c .before .before .before .before .args in
-    let peek = c .before .before .peek in
-    let z = peeked-end (args .s .now) (args .c .at) (sym (c .enum-told .given .1) ∙ peek .ensures) in
-    absurd (omega arith)
-
-is-id-start-requires : tie.Need-is-id-start-requires
-is-id-start-requires c κs = search needs
+add-t8 : tie.Need-add-t8
+add-t8 c = search needs
 
 lex-ident-requires : tie.Need-lex-ident-requires
 lex-ident-requires c κs =
-    let args = c .before .before .before .before .before .before .before .args in
-    let here = c .before .before .before .here in
-    let peek = c .before .before .before .before .before .peek in
-    let h = peeked-char (args .s .now) (args .c .at) _ _ (sym (here .given .1) ∙ peek .ensures) in
-    (omega arith, ap (head isIdStart) (h .text) ∙ sym (c .before .is-id-start .ensures) ∙ c .if1 .taken)
+    let s = c .before .before .before .before .args .s .now in
+    let i = c .before .before .before .before .args .c .at in
+    let pre = c .before .before .before .before .pre in
+    let w = ascii-start s i (pre .0) (sym (c .before .is-ascii-start .ensures) ∙ c .if1 .taken) in
+    (omega arith, w .0, w .1, w .2)
+
+returns : tie.Need-returns
+returns c =
+    let s = c .before .before .before .before .before .args .s .now in
+    let i = c .before .before .before .before .before .args .c .at in
+    let pre = c .before .before .before .before .before .pre in
+    let w = ascii-start s i (pre .0) (sym (c .before .before .is-ascii-start .ensures) ∙ c .before .if1 .taken) in
+    c .lex-ident .ensures ∙ ap (pieceOf (length s)) (sym (word-at s i (pre .0) (pre .2) (w .0)))
+
+lex-wide-word-requires : tie.Need-lex-wide-word-requires
+lex-wide-word-requires c κs = c .before .before .before .before .before .pre
 
 returns-2 : tie.Need-returns-2
-returns-2 c =
-    let args = c .before .before .before .before .before .before .before .before .args in
-    let here = c .before .before .before .before .here in
-    let peek = c .before .before .before .before .before .before .peek in
-    let is-id-start = c .before .before .is-id-start in
-    let pre = c .before .before .before .before .before .before .before .before .pre in
-    let s = args .s .now in
-    let h = peeked-char s (args .c .at) _ _ (sym (here .given .1) ∙ peek .ensures) in
-    let e = ap (head isIdStart) (h .text) ∙ sym (is-id-start .ensures) ∙ c .before .if1 .taken in
-    c .lex-ident .ensures ∙ ap (pieceOf (length s)) (sym (word-at s (args .c .at) (pre .0) (pre .2) e))
+returns-2 c = c .lex-wide-word .ensures
+
+cast-is-op-char : tie.Need-cast-is-op-char
+cast-is-op-char c = search needs
 
 is-op-char-requires : tie.Need-is-op-char-requires
 is-op-char-requires c κs = search needs
@@ -60,42 +55,34 @@ lex-op-run-requires c κs = search needs
 
 returns-3 : tie.Need-returns-3
 returns-3 c =
-    let args = c .before .before .before .before .before .before .before .before .before .before .args in
-    let here = c .before .before .before .before .before .before .here in
-    let peek = c .before .before .before .before .before .before .before .before .peek in
-    let is-op-char = c .before .before .is-op-char in
-    let pre = c .before .before .before .before .before .before .before .before .before .before .pre in
-    let s = args .s .now in
-    let h = peeked-char s (args .c .at) _ _ (sym (here .given .1) ∙ peek .ensures) in
-    let e = ap (head isOpSign) (h .text) ∙ sym (is-op-char .ensures) ∙ c .before .if2 .taken in
-    c .lex-op-run .ensures ∙ ap (pieceOf (length s)) (sym (operator-at s (args .c .at) (pre .0) (pre .2) e))
+    let s = c .before .before .before .before .before .before .before .before .args .s .now in
+    let i = c .before .before .before .before .before .before .before .before .args .c .at in
+    let pre = c .before .before .before .before .before .before .before .before .pre in
+    let e = ascii-head s i (pre .0) isOpSign (omega arith) ∙ sym (c .before .before .is-op-char .ensures) ∙ c .before .if3 .taken in
+    c .lex-op-run .ensures ∙ ap (pieceOf (length s)) (sym (operator-at s i (pre .0) (pre .2) e))
 
 returns-4 : tie.Need-returns-4
 unfolding pieceOf
 returns-4 c =
-    let args = c .before .before .before .before .before .before .before .before .before .args in
-    let here = c .before .before .before .before .before .here in
-    let peek = c .before .before .before .before .before .before .before .peek in
-    let is-id-start = c .before .before .before .is-id-start in
-    let if1 = c .before .before .if1 in
-    let pre = c .before .before .before .before .before .before .before .before .before .pre in
-    let s = args .s .now in
-    let h = peeked-char s (args .c .at) _ _ (sym (here .given .1) ∙ peek .ensures) in
-    let a = ap (head isIdStart) (h .text) ∙ sym (is-id-start .ensures) ∙ if1 .left in
-    let b = ap (head isOpSign) (h .text) ∙ sym (c .before .is-op-char .ensures) ∙ c .if2 .left in
-    sym (ap (pieceOf (length s)) (other-at (length s) (from s (args .c .at)) (pre .2) (pre .1) a b) ∙ ap (piece.Refused 3) (place-from s (args .c .at) (omega arith)))
+    let s = c .before .before .before .before .before .before .before .args .s .now in
+    let i = c .before .before .before .before .before .before .before .args .c .at in
+    let pre = c .before .before .before .before .before .before .before .pre in
+    let a = ascii-no-start s i (pre .0) (omega arith) (sym (c .before .before .before .before .is-ascii-start .ensures) ∙ c .before .before .before .if1 .left) in
+    let b = ascii-head s i (pre .0) isOpSign (omega arith) ∙ sym (c .before .is-op-char .ensures) ∙ c .if3 .left in
+    sym (ap (pieceOf (length s)) (other-at (length s) (from s i) (pre .2) (pre .1) a b) ∙ ap (piece.Refused 3) (place-from s i (omega arith)))
 
 pub lex-word-spec : {M : Type 1} → statement M
 lex-word-spec =
     tie.close
     (tie.spec
-    peek-requires
-    enum-known-here
-    enum-told
-    returns
-    is-id-start-requires
+    shared-slice-read-b
+    is-ascii-start-requires
+    add-t8
     lex-ident-requires
+    returns
+    lex-wide-word-requires
     returns-2
+    cast-is-op-char
     is-op-char-requires
     lex-op-run-requires
     returns-3

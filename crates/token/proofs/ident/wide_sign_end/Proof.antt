@@ -1,0 +1,53 @@
+-- By the character, if one stands there.
+use mathlib.Core.Path.{sym, ap, _∙_}
+use Rattle.chars.specs.Classes.{isOpSign}
+use Rattle.chars.specs.Text.{head}
+use Rattle.chars.proofs.Places.{at-end, head-at, step-text, step-none}
+use Rattle.token.proofs.IdentLaws.{past-on, past-off}
+use borrow.Author.Needs.{needs}
+use Rattle.token.proofs.ident.wide_sign_end.Statement.{statement}
+use Rattle.token.proofs.ident.wide_sign_end.Tie as tie
+
+char-at-requires : tie.Need-char-at-requires
+char-at-requires c κs = search needs
+
+enum-known-here : tie.Need-enum-known-here
+enum-known-here c = search needs
+
+enum-told : tie.Need-enum-told
+enum-told c = search needs
+
+returns : tie.Need-returns
+returns c =
+    let s = c .before .before .before .before .args .s .now in
+    let i = c .before .before .before .before .args .at in
+    past-off isOpSign s i (ap (head isOpSign) (at-end s i (step-none s i (sym (c .enum-told .given .1) ∙ c .before .before .char-at .ensures))))
+
+is-op-char-requires : tie.Need-is-op-char-requires
+is-op-char-requires c κs = search needs
+
+returns-2 : tie.Need-returns-2
+returns-2 c =
+    let s = c .before .before .before .before .before .before .before .args .s .now in
+    let i = c .before .before .before .before .before .before .before .args .at in
+    let t = step-text s i _ _ (sym (c .before .before .before .here .given .1) ∙ c .before .before .before .before .before .char-at .ensures) in
+    past-on isOpSign s i _ (head-at isOpSign s i (t .0) ∙ ap isOpSign (t .1) ∙ sym (c .before .is-op-char .ensures) ∙ c .if1 .taken) (sym (t .2))
+
+returns-3 : tie.Need-returns-3
+returns-3 c =
+    let s = c .before .before .before .before .before .before .before .args .s .now in
+    let i = c .before .before .before .before .before .before .before .args .at in
+    let t = step-text s i _ _ (sym (c .before .before .before .here .given .1) ∙ c .before .before .before .before .before .char-at .ensures) in
+    past-off isOpSign s i (head-at isOpSign s i (t .0) ∙ ap isOpSign (t .1) ∙ sym (c .before .is-op-char .ensures) ∙ c .if1 .left)
+
+pub wide-sign-end-spec : {M : Type 1} → statement M
+wide-sign-end-spec =
+    tie.close
+    (tie.spec
+    char-at-requires
+    enum-known-here
+    enum-told
+    returns
+    is-op-char-requires
+    returns-2
+    returns-3)
