@@ -14,8 +14,10 @@
 use libc::STDIN_FILENO;
 use libc::STDOUT_FILENO;
 ghost use mathlib.Core.Path.{_≡_};
-ghost use Prim.Native.Nat.{_+_, _≤_, _<_};
+ghost use Prim.Native.Nat.{_+_, _≤_, _<_, min};
 ghost use lib.ListN.{length};
+ghost use Rattle.replay.specs.Cases.{numberAt, untouched, zeros, standsAt, isUntouched, holdsRecords, listedBytes, agreesAt, lentAfter};
+ghost use Rattle.replay.specs.Cases.{nextAt, caseAt, bufferAt, placeOf, caseCount, differing, bufferAfter};
 
 const HEAD_BYTES: usize = 24;
 
@@ -23,13 +25,16 @@ const HEAD_BYTES: usize = 24;
 const UNTOUCHED: u8 = 0xA5;
 
 fn wide(x: u8) -> usize
+    ensures { λ r. ⌜ r ≡ x ⌝ }
     ensures { λ r. ⌜ r < 256 ⌝ }
 {
     x as usize
 }
 
 // The number whose four bytes start at a place; 0 where they do not all stand there.
-fn number_at(list: &[u8], at: usize) -> usize {
+fn number_at(list: &[u8], at: usize) -> usize
+    ensures { λ r. ⌜ r ≡ numberAt (now (list .entry)) at ⌝ }
+{
     if list.len() < 4 {
         return 0;
     }
@@ -43,12 +48,15 @@ fn number_at(list: &[u8], at: usize) -> usize {
 }
 
 fn least(a: usize, b: usize) -> usize
+    ensures { λ r. ⌜ r ≡ min a b ⌝ }
     ensures { λ r. ⌜ r ≤ b ⌝ }
 {
     if a < b { a } else { b }
 }
 
-fn fill(lent: &mut [u8]) {
+fn fill(lent: &mut [u8])
+    ensures { λ _. ⌜ now (lent .exit) ≡ untouched (length (now (lent .entry))) ⌝ }
+{
     let mut i: usize = 0;
     while i < lent.len() {
         lent[i] = UNTOUCHED;
@@ -57,7 +65,9 @@ fn fill(lent: &mut [u8]) {
 }
 
 // Whether the bytes of the list from a place on are those of part.
-fn stands_at(list: &[u8], at: usize, part: &[u8]) -> bool {
+fn stands_at(list: &[u8], at: usize, part: &[u8]) -> bool
+    ensures { λ r. ⌜ r ≡ standsAt (now (list .entry)) at (now (part .entry)) ⌝ }
+{
     if part.len() > list.len() {
         return false;
     }
@@ -74,7 +84,9 @@ fn stands_at(list: &[u8], at: usize, part: &[u8]) -> bool {
     true
 }
 
-fn is_untouched(rest: &[u8]) -> bool {
+fn is_untouched(rest: &[u8]) -> bool
+    ensures { λ r. ⌜ r ≡ isUntouched (now (rest .entry)) ⌝ }
+{
     let mut i: usize = 0;
     while i < rest.len() {
         if rest[i] != UNTOUCHED {
@@ -86,7 +98,9 @@ fn is_untouched(rest: &[u8]) -> bool {
 }
 
 // Whether the lent bytes hold the records that the list has from a place on, and behind them what they held before.
-fn holds_records(list: &[u8], at: usize, bytes: usize, lent: &[u8]) -> bool {
+fn holds_records(list: &[u8], at: usize, bytes: usize, lent: &[u8]) -> bool
+    ensures { λ r. ⌜ r ≡ holdsRecords (now (list .entry)) at bytes (now (lent .entry)) ⌝ }
+{
     if bytes > lent.len() {
         return false;
     }
@@ -99,6 +113,7 @@ fn holds_records(list: &[u8], at: usize, bytes: usize, lent: &[u8]) -> bool {
 // How many record bytes the case at a place lists.
 fn listed_bytes(list: &[u8], at: usize) -> usize
     requires { ⌜ at + 24 ≤ length (now list) ⌝ }
+    ensures { λ r. ⌜ r ≡ listedBytes (now (list .entry)) at ⌝ }
 {
     if number_at(list, at + 8) == 0 {
         return number_at(list, at + 20);
@@ -110,6 +125,8 @@ fn listed_bytes(list: &[u8], at: usize) -> usize
 fn agrees(list: &[u8], at: usize, end: usize, bytes: usize, lent: &mut [u8]) -> bool
     requires { ⌜ at + 24 ≤ end ⌝ }
     requires { ⌜ end ≤ length (now list) ⌝ }
+    ensures { λ r. ⌜ r ≡ agreesAt (now (list .entry)) at end bytes (length (now (lent .entry))) ⌝ }
+    ensures { λ r. ⌜ now (lent .exit) ≡ lentAfter (now (list .entry)) at end (length (now (lent .entry))) ⌝ }
 {
     let start = at + HEAD_BYTES;
     let mut block = [UNTOUCHED; 16];
@@ -133,7 +150,9 @@ struct Replayed {
 // The case at a place. One that the end of the list cuts short does not agree.
 fn replay_case(list: &[u8], at: usize, records: &mut [u8]) -> Replayed
     requires { ⌜ at < length (now list) ⌝ }
-    ensures { λ r. ⌜ at < r .next ⌝ }
+    ensures { λ r. ⌜ (r .next ≡ nextAt (now (list .entry)) at) × (at < r .next) × (r .next ≤ length (now (list .entry))) ⌝ }
+    ensures { λ r. ⌜ r .agrees ≡ caseAt (now (list .entry)) at (length (now (records .entry))) ⌝ }
+    ensures { λ r. ⌜ now (records .exit) ≡ bufferAt (now (list .entry)) at (now (records .entry)) ⌝ }
 {
     let left = list.len() - at;
     if left < HEAD_BYTES {
@@ -153,30 +172,46 @@ fn replay_case(list: &[u8], at: usize, records: &mut [u8]) -> Replayed
     }
 }
 
-fn print_result(scripts: u64, differ: u64) {
-    io::print_decimal(STDOUT_FILENO, scripts);
-    io::write_all(STDOUT_FILENO, b" scripts replayed, ");
-    io::print_decimal(STDOUT_FILENO, differ);
-    io::write_all(STDOUT_FILENO, b" differ\n");
+// How many cases there are, and how many of them do not agree.
+struct Counts {
+    scripts: u64,
+    differ: u64,
 }
 
-fn replay(list: &[u8], records: &mut [u8]) {
+// The cases of the list, from its start to its end. The second clause says that there are no more and no fewer.
+fn replay(list: &[u8], records: &mut [u8]) -> Counts
+    ensures { λ r. ⌜ (r .scripts ≡ caseCount (now (list .entry))) × (r .differ ≡ differing (now (list .entry)) (length (now (records .entry))) (r .scripts)) ⌝ }
+    ensures { λ r. ⌜ placeOf (now (list .entry)) (r .scripts) ≡ length (now (list .entry)) ⌝ }
+    ensures { λ r. ⌜ now (records .exit) ≡ bufferAfter (now (list .entry)) (now (records .entry)) (r .scripts) ⌝ }
+{
     let mut at: usize = 0;
     let mut scripts: u64 = 0;
     let mut differ: u64 = 0;
     while at < list.len() {
         let one = replay_case(list, at, records);
-        scripts = std::num::wrapping_add_u64(scripts, 1);
+        scripts += 1;
         if !one.agrees {
-            differ = std::num::wrapping_add_u64(differ, 1);
+            differ += 1;
         }
         at = one.next;
     }
-    print_result(scripts, differ);
+    Counts {
+        scripts: scripts,
+        differ: differ,
+    }
+}
+
+// No ensures: no contract can speak of what was written to standard output.
+fn print_result(counts: Counts) {
+    io::print_decimal(STDOUT_FILENO, counts.scripts);
+    io::write_all(STDOUT_FILENO, b" scripts replayed, ");
+    io::print_decimal(STDOUT_FILENO, counts.differ);
+    io::write_all(STDOUT_FILENO, b" differ\n");
 }
 
 // Room for the list.
 fn list_space() -> [u8; 1048576]
+    ensures { λ r. ⌜ r ≡ zeros 1048576 ⌝ }
     ensures { λ r. ⌜ 1048576 ≡ length r ⌝ }
 {
     [0; 1048576]
@@ -186,5 +221,6 @@ fn main() {
     let mut list = list_space();
     let mut records = io::large_buffer();
     let n = io::read_full(STDIN_FILENO, &mut list);
-    replay(&list[..n], &mut records);
+    let counts = replay(&list[..n], &mut records);
+    print_result(counts);
 }

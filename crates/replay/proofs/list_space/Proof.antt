@@ -1,13 +1,14 @@
--- `replay::list_space` meets its contract, by the law of a repeated value's length: computing that length would take too deep a stack.
+-- `replay::list_space` meets its contract, by laws of a repeated value: computing the list or its length would take too deep a stack.
 -- Assumes nothing.
 use Prim.Native.Nat.{ℕ}
 use mathlib.Core.Path.{sym}
 use lib.ListN.{length-replicate}
+use Rattle.replay.proofs.Laws.{all-zeros}
 use Rattle.replay.proofs.list_space.Statement.{statement}
 use Rattle.replay.proofs.list_space.Tie as tie
 
 returns : tie.Need-returns
-returns c = sym (length-replicate {0} {A = ℕ} 1048576 0)
+returns c = (all-zeros 1048576, sym (length-replicate {0} {A = ℕ} 1048576 0))
 
 pub list-space-spec : {M : Type 1} → statement M
 list-space-spec = tie.close (tie.spec returns)

@@ -1,50 +1,58 @@
--- `replay::replay` is safe and ends: each case starts behind the one before it.
+-- `replay::replay` meets its contract: what it has counted is that of the cases passed. Each case starts behind the one before it.
 -- Assumes nothing.
-use mathlib.Core.Path.{_≡_}
 use Prim.Native.Nat.{_-_}
-use borrow.Author.Needs.{needs}
 use lib.ListN.{length}
+use native.Mathlib.Omega.{arith}
+use borrow.Author.Needs.{needs}
+use borrow.Author.Tests.{not-true, not-false}
+use Rattle.replay.proofs.Laws.{Turn, turn-start, turn-differ, turn-agree, turn-end}
 use Rattle.replay.proofs.replay.Statement.{statement}
 use Rattle.replay.proofs.replay.Tie as tie
 
 abbrev Inv-loop : tie.InvT-loop
-Inv-loop list records₀ at₀ scripts₀ differ₀ records at scripts differ = length records ≡ length records₀
+Inv-loop list records₀ at₀ scripts₀ differ₀ records at scripts differ = Turn list records₀ records at scripts differ
 
 abbrev μ-loop : tie.MeasureT-loop
 μ-loop list records₀ at₀ scripts₀ differ₀ records at scripts differ = length list - at
 
 loop-holds : tie.Need-loop-holds Inv-loop μ-loop
-loop-holds c = search needs
+loop-holds c = turn-start (c .before .before .args .list .now) (c .before .before .args .records .now)
 
 replay-case-requires : tie.Need-replay-case-requires Inv-loop μ-loop
 replay-case-requires c κs = search needs
 
-wrapping-add-u64-requires : tie.Need-wrapping-add-u64-requires Inv-loop μ-loop
-wrapping-add-u64-requires c κs = search needs
+add-scripts : tie.Need-add-scripts Inv-loop μ-loop
+add-scripts c = omega arith
 
-wrapping-add-u64-requires-2 : tie.Need-wrapping-add-u64-requires-2 Inv-loop μ-loop
-wrapping-add-u64-requires-2 c κs = search needs
+add-differ : tie.Need-add-differ Inv-loop μ-loop
+add-differ c = omega arith
 
 loop-less : tie.Need-loop-less Inv-loop μ-loop
-loop-less c = search needs
+loop-less c = omega arith
 
 loop-again : tie.Need-loop-again Inv-loop μ-loop
-loop-again c = search needs
+loop-again c =
+    let inv = c .before .before .before .before .before .before .before .loop .inv in
+    let one = c .before .before .before .before .replay-case .ensures in
+    turn-differ inv (c .before .before .before .before .before .before .loop-test .taken) (one .0 .0) (one .0 .1) (one .0 .2) (one .1 .0) (one .1 .1) (search needs) (not-true _ (c .if1 .taken))
 
 loop-less-2 : tie.Need-loop-less-2 Inv-loop μ-loop
-loop-less-2 c = search needs
+loop-less-2 c = omega arith
 
 loop-again-2 : tie.Need-loop-again-2 Inv-loop μ-loop
-loop-again-2 c = search needs
-
-print-result-requires : tie.Need-print-result-requires Inv-loop μ-loop
-print-result-requires c κs = search needs
+loop-again-2 c =
+    let inv = c .before .before .before .before .before .before .before .loop .inv in
+    let one = c .before .before .before .before .replay-case .ensures in
+    turn-agree inv (c .before .before .before .before .before .before .loop-test .taken) (one .0 .0) (one .0 .1) (one .0 .2) (one .1 .0) (one .1 .1) (search needs) (not-false _ (c .if1 .left))
 
 same-length : tie.Need-same-length Inv-loop μ-loop
 same-length c = search needs
 
 returns : tie.Need-returns Inv-loop μ-loop
-returns c = search needs
+returns c =
+    let inv = c .before .loop .inv in
+    let end = turn-end inv (c .loop-test .left) in
+    ((end .0, inv .differs), (end .1, inv .buffer))
 
 pub replay-spec : {M : Type 1} → statement M
 replay-spec =
@@ -54,12 +62,11 @@ replay-spec =
     μ-loop
     loop-holds
     replay-case-requires
-    wrapping-add-u64-requires
-    wrapping-add-u64-requires-2
+    add-scripts
+    add-differ
     loop-less
     loop-again
     loop-less-2
     loop-again-2
-    print-result-requires
     same-length
     returns)

@@ -1,8 +1,10 @@
--- `replay::replay_case` meets its contract: a case has 24 bytes or more.
+-- `replay::replay_case` meets its contract: its numbers are those of the definitions. A case has 24 bytes or more.
 -- Assumes nothing.
 use borrow.Author.Needs.{needs}
-use lib.ListN.{length-take}
+use lib.ListN.{length, length-take}
+use lib.Seq.{length-take-le}
 use native.Mathlib.Omega.{arith}
+use Rattle.replay.proofs.Laws.{cut-next, cut-case, cut-buffer, end-is, bytes-is, room-is, next-is, case-is, buffer-is}
 use Rattle.replay.proofs.replay_case.Statement.{statement}
 use Rattle.replay.proofs.replay_case.Tie as tie
 
@@ -10,7 +12,10 @@ sub-left : tie.Need-sub-left
 sub-left c = search needs
 
 returns : tie.Need-returns
-returns c = search needs
+returns c =
+    let args = c .before .before .before .args in
+    let short = c .if1 .taken in
+    ((cut-next _ _ short, omega arith, omega arith), (cut-case _ _ short _, cut-buffer _ _ short (args .records .now)))
 
 add-start : tie.Need-add-start
 add-start c = search needs
@@ -61,7 +66,19 @@ same-length : tie.Need-same-length
 same-length c = search needs
 
 returns-2 : tie.Need-returns-2
-returns-2 c = search needs
+returns-2 c =
+    let args = c .before .before .before .before .before .before .before .before .before .before .before .before .before .args in
+    let list = args .list .now in
+    let at = args .at in
+    let room = length (args .records .now) in
+    let whole = c .before .before .before .before .before .before .before .before .before .before .if1 .left in
+    let is = end-is list at (c .before .before .before .before .before .before .before .before .before .number-at .ensures) (c .before .before .before .before .before .before .before .before .least .ensures .0) in
+    let has = bytes-is list at is (c .before .before .before .before .before .before .before .listed-bytes .ensures) (c .before .before .before .before .before .before .least2 .ensures .0) in
+    let lent = room-is list at room (c .before .before .before .before .before .number-at2 .ensures) (c .before .before .before .before .least3 .ensures .0) in
+    let part = length-take-le (c .before .before .before .before .least3 .result) (args .records .now) (c .before .before .before .before .least3 .ensures .1) in (
+      (next-is list at whole is has, omega arith, omega arith),
+      (case-is list at whole is has room lent part (c .before .before .agrees .ensures .0), buffer-is list at whole is has (args .records .now) lent part (c .before .before .agrees .ensures .1)),
+    )
 
 pub replay-case-spec : {M : Type 1} → statement M
 replay-case-spec =

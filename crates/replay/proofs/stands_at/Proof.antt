@@ -1,28 +1,32 @@
--- `replay::stands_at` is safe and ends.
+-- `replay::stands_at` meets its contract: the answer for what is left of the part is the answer for all of it.
 -- Assumes nothing.
-use Prim.Native.Nat.{_-_}
+use Prim.Native.Nat.{_+_, _-_, _≤_}
 use borrow.Author.Needs.{needs}
 use lib.ListN.{length}
+use mathlib.Core.Path.{_≡_, sym, _∙_}
+use native.Mathlib.Omega.{arith}
+use Rattle.replay.proofs.Laws.{matched, stands-out, stands-start, stands-on, stands-off, stands-end}
+use Rattle.replay.specs.Cases.{standsAt}
 use Rattle.replay.proofs.stands_at.Statement.{statement}
 use Rattle.replay.proofs.stands_at.Tie as tie
 
 abbrev Inv-loop : tie.InvT-loop
-Inv-loop list at part i₀ i = Unit
+Inv-loop list at part i₀ i = (at + length part ≤ length list) × (matched list at part i ≡ standsAt list at part)
 
 abbrev μ-loop : tie.MeasureT-loop
 μ-loop list at part i₀ i = length part - i
 
 returns : tie.Need-returns Inv-loop μ-loop
-returns c = search needs
+returns c = sym (stands-out _ _ _ (omega arith))
 
 sub-if2 : tie.Need-sub-if2 Inv-loop μ-loop
 sub-if2 c = search needs
 
 returns-2 : tie.Need-returns-2 Inv-loop μ-loop
-returns-2 c = search needs
+returns-2 c = sym (stands-out _ _ _ (omega arith))
 
 loop-holds : tie.Need-loop-holds Inv-loop μ-loop
-loop-holds c = search needs
+loop-holds c = (omega arith, stands-start _ _ _ (omega arith))
 
 add-if3 : tie.Need-add-if3 Inv-loop μ-loop
 add-if3 c = search needs
@@ -34,7 +38,9 @@ shared-slice-read-if3-2 : tie.Need-shared-slice-read-if3-2 Inv-loop μ-loop
 shared-slice-read-if3-2 c = search needs
 
 returns-3 : tie.Need-returns-3 Inv-loop μ-loop
-returns-3 c = search needs
+returns-3 c =
+    let inv = c .before .before .before .before .loop .inv in
+    sym (stands-off _ _ _ _ (inv .0) (c .before .before .before .loop-test .taken) (c .if3 .taken)) ∙ inv .1
 
 add-i : tie.Need-add-i Inv-loop μ-loop
 add-i c = search needs
@@ -43,10 +49,12 @@ loop-less : tie.Need-loop-less Inv-loop μ-loop
 loop-less c = search needs
 
 loop-again : tie.Need-loop-again Inv-loop μ-loop
-loop-again c = search needs
+loop-again c =
+    let inv = c .before .before .before .before .loop .inv in
+    (inv .0, stands-on _ _ _ _ (inv .0) (c .before .before .before .loop-test .taken) (c .if3 .left) ∙ inv .1)
 
 returns-4 : tie.Need-returns-4 Inv-loop μ-loop
-returns-4 c = search needs
+returns-4 c = sym (stands-end _ _ _ _ (c .loop-test .left)) ∙ c .before .loop .inv .1
 
 pub stands-at-spec : {M : Type 1} → statement M
 stands-at-spec =
