@@ -76,7 +76,8 @@ fn stands_at(list: &[u8], at: usize, part: &[u8]) -> bool
     }
     let mut i: usize = 0;
     while i < part.len() {
-        if list[at + i] != part[i] {
+        let place = at + i;
+        if list[place] != part[i] {
             return false;
         }
         i += 1;
@@ -150,7 +151,8 @@ struct Replayed {
 // The case at a place. One that the end of the list cuts short does not agree.
 fn replay_case(list: &[u8], at: usize, records: &mut [u8]) -> Replayed
     requires { ⌜ at < length (now list) ⌝ }
-    ensures { λ r. ⌜ (r .next ≡ nextAt (now (list .entry)) at) × (at < r .next) × (r .next ≤ length (now (list .entry))) ⌝ }
+    ensures { λ r. ⌜ r .next ≡ nextAt (now (list .entry)) at ⌝ }
+    ensures { λ r. ⌜ (at < r .next) × (r .next ≤ length (now (list .entry))) ⌝ }
     ensures { λ r. ⌜ r .agrees ≡ caseAt (now (list .entry)) at (length (now (records .entry))) ⌝ }
     ensures { λ r. ⌜ now (records .exit) ≡ bufferAt (now (list .entry)) at (now (records .entry)) ⌝ }
 {
@@ -178,9 +180,10 @@ struct Counts {
     differ: u64,
 }
 
-// The cases of the list, from its start to its end. The second clause says that there are no more and no fewer.
+// The cases of the list, from its start on. The third clause says that they reach to its end.
 fn replay(list: &[u8], records: &mut [u8]) -> Counts
-    ensures { λ r. ⌜ (r .scripts ≡ caseCount (now (list .entry))) × (r .differ ≡ differing (now (list .entry)) (length (now (records .entry))) (r .scripts)) ⌝ }
+    ensures { λ r. ⌜ r .scripts ≡ caseCount (now (list .entry)) ⌝ }
+    ensures { λ r. ⌜ r .differ ≡ differing (now (list .entry)) (length (now (records .entry))) (r .scripts) ⌝ }
     ensures { λ r. ⌜ placeOf (now (list .entry)) (r .scripts) ≡ length (now (list .entry)) ⌝ }
     ensures { λ r. ⌜ now (records .exit) ≡ bufferAfter (now (list .entry)) (now (records .entry)) (r .scripts) ⌝ }
 {

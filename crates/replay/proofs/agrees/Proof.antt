@@ -43,8 +43,10 @@ same-length c = search needs
 
 returns : tie.Need-returns
 returns c =
-    let args = c .before .before .before .before .before .before .before .before .before .before .before .before .before .before .before .args in
-    let e = seen-is (args .list .now) (args .at) (args .end) (length (args .lent .now)) (c .before .before .before .before .before .before .before .before .before .before .before .fill .ensures) (c .before .before .before .before .before .ergo-tokenize .ensures .0) in
+    let call = c .before .before .before .before .before in
+    let fill = call .before .before .before .before .before .before in
+    let args = fill .before .before .before .before .args in
+    let e = seen-is (args .list .now) (args .at) (args .end) (length (args .lent .now)) (fill .fill .ensures) (call .ergo-tokenize .ensures .0) in
     (sym (number-off _ _ _ _ (args .bytes) e (c .before .number-at .ensures) (c .if1 .taken)), lent-is _ _ _ _ e)
 
 add-stands-at : tie.Need-add-stands-at
@@ -61,8 +63,10 @@ same-length-2 c = search needs
 
 returns-2 : tie.Need-returns-2
 returns-2 c =
-    let args = c .before .before .before .before .before .before .before .before .before .before .before .before .before .before .before .before .before .before .args in
-    let e = seen-is (args .list .now) (args .at) (args .end) (length (args .lent .now)) (c .before .before .before .before .before .before .before .before .before .before .before .before .before .before .fill .ensures) (c .before .before .before .before .before .before .before .before .ergo-tokenize .ensures .0) in
+    let call = c .before .before .before .before .before .before .before .before in
+    let fill = call .before .before .before .before .before .before in
+    let args = fill .before .before .before .before .args in
+    let e = seen-is (args .list .now) (args .at) (args .end) (length (args .lent .now)) (fill .fill .ensures) (call .ergo-tokenize .ensures .0) in
     let stands = sym (c .before .stands-at .ensures) ∙ not-true _ (c .if2 .taken) in
     (sym (block-off _ _ _ _ (args .bytes) e stands), lent-is _ _ _ _ e)
 
@@ -74,8 +78,10 @@ same-length-3 c = search needs
 
 returns-3 : tie.Need-returns-3
 returns-3 c =
-    let args = c .before .before .before .before .before .before .before .before .before .before .before .before .before .before .before .before .before .before .before .before .args in
-    let e = seen-is (args .list .now) (args .at) (args .end) (length (args .lent .now)) (c .before .before .before .before .before .before .before .before .before .before .before .before .before .before .before .before .fill .ensures) (c .before .before .before .before .before .before .before .before .before .before .ergo-tokenize .ensures .0) in
+    let call = c .before .before .before .before .before .before .before .before .before .before in
+    let fill = call .before .before .before .before .before .before in
+    let args = fill .before .before .before .before .args in
+    let e = seen-is (args .list .now) (args .at) (args .end) (length (args .lent .now)) (fill .fill .ensures) (call .ergo-tokenize .ensures .0) in
     let number = c .before .before .before .before .before .if1 .left ∙ c .before .before .before .before .before .before .number-at .ensures in
     let stands = sym (c .before .before .before .stands-at .ensures) ∙ not-false _ (c .before .before .if2 .left) in
     (c .holds-records .ensures ∙ sym (agrees-is _ _ _ _ (args .bytes) e number stands), lent-is _ _ _ _ e)

@@ -69,9 +69,12 @@ add-result-3 c = search needs
 
 returns-3 : tie.Need-returns-3
 returns-3 c =
-    let args = c .before .before .before .before .before .before .before .before .before .before .before .args in
+    let third = c .before .before in
+    let second = third .before .before in
+    let first = second .before .before in
+    let args = first .before .before .before .before .before .args in
     let is = number-in (args .list .now) (args .at) (omega arith) in
-    omega (arith, is, c .before .before .before .before .before .before .wide .ensures .0, c .before .before .before .before .wide2 .ensures .0, c .before .before .wide3 .ensures .0, c .wide4 .ensures .0)
+    omega (arith, is, first .wide .ensures .0, second .wide2 .ensures .0, third .wide3 .ensures .0, c .wide4 .ensures .0)
 
 pub number-at-spec : {M : Type 1} → statement M
 number-at-spec =

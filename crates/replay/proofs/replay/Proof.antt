@@ -32,18 +32,22 @@ loop-less c = omega arith
 
 loop-again : tie.Need-loop-again Inv-loop μ-loop
 loop-again c =
-    let inv = c .before .before .before .before .before .before .before .loop .inv in
-    let one = c .before .before .before .before .replay-case .ensures in
-    turn-differ inv (c .before .before .before .before .before .before .loop-test .taken) (one .0 .0) (one .0 .1) (one .0 .2) (one .1 .0) (one .1 .1) (search needs) (not-true _ (c .if1 .taken))
+    let call = c .before .before .before .before in
+    let turn = call .before .before .before in
+    let one = call .replay-case .ensures in
+    turn-differ (turn .loop .inv) (call .before .before .loop-test .taken) (one .0) (one .1 .0 .0) (one .1 .0 .1) (one .1 .1 .0) (one .1 .1 .1) (search needs)
+    (not-true _ (c .if1 .taken))
 
 loop-less-2 : tie.Need-loop-less-2 Inv-loop μ-loop
 loop-less-2 c = omega arith
 
 loop-again-2 : tie.Need-loop-again-2 Inv-loop μ-loop
 loop-again-2 c =
-    let inv = c .before .before .before .before .before .before .before .loop .inv in
-    let one = c .before .before .before .before .replay-case .ensures in
-    turn-agree inv (c .before .before .before .before .before .before .loop-test .taken) (one .0 .0) (one .0 .1) (one .0 .2) (one .1 .0) (one .1 .1) (search needs) (not-false _ (c .if1 .left))
+    let call = c .before .before .before .before in
+    let turn = call .before .before .before in
+    let one = call .replay-case .ensures in
+    turn-agree (turn .loop .inv) (call .before .before .loop-test .taken) (one .0) (one .1 .0 .0) (one .1 .0 .1) (one .1 .1 .0) (one .1 .1 .1) (search needs)
+    (not-false _ (c .if1 .left))
 
 same-length : tie.Need-same-length Inv-loop μ-loop
 same-length c = search needs
@@ -52,7 +56,7 @@ returns : tie.Need-returns Inv-loop μ-loop
 returns c =
     let inv = c .before .loop .inv in
     let end = turn-end inv (c .loop-test .left) in
-    ((end .0, inv .differs), (end .1, inv .buffer))
+    (end .0, (inv .differs, (end .1, inv .buffer)))
 
 pub replay-spec : {M : Type 1} → statement M
 replay-spec =

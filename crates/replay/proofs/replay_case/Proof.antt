@@ -15,7 +15,7 @@ returns : tie.Need-returns
 returns c =
     let args = c .before .before .before .args in
     let short = c .if1 .taken in
-    ((cut-next _ _ short, omega arith, omega arith), (cut-case _ _ short _, cut-buffer _ _ short (args .records .now)))
+    (cut-next _ _ short, ((omega arith, omega arith), (cut-case _ _ short _, cut-buffer _ _ short (args .records .now))))
 
 add-start : tie.Need-add-start
 add-start c = search needs
@@ -67,18 +67,23 @@ same-length c = search needs
 
 returns-2 : tie.Need-returns-2
 returns-2 c =
-    let args = c .before .before .before .before .before .before .before .before .before .before .before .before .before .args in
+    let call = c .before .before in
+    let third = call .before .before in
+    let second = third .before .before in
+    let first = second .before .before in
+    let test = first .before .before in
+    let args = test .before .before .before .args in
     let list = args .list .now in
     let at = args .at in
-    let room = length (args .records .now) in
-    let whole = c .before .before .before .before .before .before .before .before .before .before .if1 .left in
-    let is = end-is list at (c .before .before .before .before .before .before .before .before .before .number-at .ensures) (c .before .before .before .before .before .before .before .before .least .ensures .0) in
-    let has = bytes-is list at is (c .before .before .before .before .before .before .before .listed-bytes .ensures) (c .before .before .before .before .before .before .least2 .ensures .0) in
-    let lent = room-is list at room (c .before .before .before .before .before .number-at2 .ensures) (c .before .before .before .before .least3 .ensures .0) in
-    let part = length-take-le (c .before .before .before .before .least3 .result) (args .records .now) (c .before .before .before .before .least3 .ensures .1) in (
-      (next-is list at whole is has, omega arith, omega arith),
-      (case-is list at whole is has room lent part (c .before .before .agrees .ensures .0), buffer-is list at whole is has (args .records .now) lent part (c .before .before .agrees .ensures .1)),
-    )
+    let records = args .records .now in
+    let whole = test .if1 .left in
+    let is = end-is list at (first .before .number-at .ensures) (first .least .ensures .0) in
+    let has = bytes-is list at is (second .before .listed-bytes .ensures) (second .least2 .ensures .0) in
+    let lent = room-is list at (length records) (third .before .number-at2 .ensures) (third .least3 .ensures .0) in
+    let part = length-take-le (third .least3 .result) records (third .least3 .ensures .1) in
+    let agrees = case-is list at whole is has (length records) lent part (call .agrees .ensures .0) in
+    let buffer = buffer-is list at whole is has records lent part (call .agrees .ensures .1) in
+    (next-is list at whole is has, ((omega arith, omega arith), (agrees, buffer)))
 
 pub replay-case-spec : {M : Type 1} → statement M
 replay-case-spec =

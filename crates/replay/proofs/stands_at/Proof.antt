@@ -28,8 +28,8 @@ returns-2 c = sym (stands-out _ _ _ (omega arith))
 loop-holds : tie.Need-loop-holds Inv-loop μ-loop
 loop-holds c = (omega arith, stands-start _ _ _ (omega arith))
 
-add-if3 : tie.Need-add-if3 Inv-loop μ-loop
-add-if3 c = search needs
+add-place : tie.Need-add-place Inv-loop μ-loop
+add-place c = search needs
 
 shared-slice-read-if3 : tie.Need-shared-slice-read-if3 Inv-loop μ-loop
 shared-slice-read-if3 c = search needs
@@ -66,7 +66,7 @@ stands-at-spec =
     sub-if2
     returns-2
     loop-holds
-    add-if3
+    add-place
     shared-slice-read-if3
     shared-slice-read-if3-2
     returns-3
