@@ -3,17 +3,18 @@ use Prim.Native.Nat.{ℕ, zero, suc, _+_, _*_, _-_, _≤_, _<_, min}
 use mathlib.Core.Path.{_≡_, refl, sym, _∙_, ap}
 use mathlib.Core.Bool.{Bool, true, false, cond, _&&_, and-eq-true-iff, false≢true}
 use mathlib.Core.List.{List, [], _∷_, _++_, append-nil}
-use lib.Dec.{eqb, leb, ltb}
-use lib.ListN.{length, take, drop, getD, replicate, length-drop, drop-of-length-le}
-use lib.Seq.{drop-cons, take-all, drop-length}
+use lib.Dec.{eqb, leb}
+use lib.ListN.{length, take, drop, getD, replicate, length-drop, drop-of-length-le, take-append-drop}
+use lib.Seq.{drop-cons, take-all, drop-length, length-take-le}
 use native.Mathlib.Nat.{add-zero, zero-add, sub-zero}
 use native.Mathlib.Numerals.{add-one}
 use native.Mathlib.Omega.{arith}
 use borrow.Author.Tests.{eq-eqb, ne-eqb, eqb-true, leb-true, le-leb, lt-leb, lt-ltb, le-ltb}
-use Rattle.replay.specs.Cases.{numberAt, untouched, zeros, same, standsAt, isUntouched, holdsRecords, listedBytes, seenAt, lentAfter, asListed, agreesAt}
+use Rattle.replay.specs.Cases.{numberAt, untouched, zeros, same, standsAt, isUntouched, holdsRecords, listedBytes}
+use Rattle.replay.specs.Cases.{seenAt, lentAfter, asListed, agreesAt}
 use Rattle.replay.specs.Cases.{cutShort, endAt, bytesAt, lentAt, nextAt, caseAt, bufferAt}
 use Rattle.replay.specs.Cases.{placeOf, casesFrom, caseCount, differing, bufferAfter}
-use Rattle.token.specs.Host.{Seen, seen, bufferSeen, hostOf}
+use Rattle.token.specs.Host.{seen, bufferSeen, hostOf}
 
 -- ---- equal lists
 
@@ -240,7 +241,8 @@ module _ (list : List ℕ) (at : ℕ) where
     unfolding nextAt cutShort
     next-is = simp (le-ltb (length list - at) 24 whole) (rw (is, has))
 
-    pub case-is : {lent n : ℕ} (room : ℕ) {r : Bool} → lent ≡ lentAt list at room → n ≡ lent → r ≡ agreesAt list at end bytes n → r ≡ caseAt list at room
+    pub case-is : {lent n : ℕ} (room : ℕ) {r : Bool} → lent ≡ lentAt list at room → n ≡ lent → r ≡ agreesAt list at end bytes n
+        → r ≡ caseAt list at room
     unfolding caseAt cutShort
     case-is room e f g = simp (le-ltb (length list - at) 24 whole) (rw (g, f, e, is, has))
 
@@ -310,12 +312,12 @@ module _ {list records₀ records : List ℕ} {at scripts differ next : ℕ} (t 
 
   turn : {after : List ℕ} {more : ℕ} → after ≡ bufferAt list at records → length after ≡ length records₀
       → more ≤ differ + 1 → more ≡ differing list (length records₀) (scripts + 1) → Turn list records₀ after next (scripts + 1) more
-  turn e same most f =
+  turn e keeps most f =
       record {
         few = omega arith;
         inside = to;
         less = omega arith;
-        room = same;
+        room = keeps;
         place = turn-place;
         count = turn-count;
         differs = f;
@@ -339,3 +341,28 @@ turn-end {list} {records₀} {records} {at} {scripts} t h =
     let e : scripts ≡ scripts + casesFrom (length list - scripts) list at = omega arith in
     let f : at ≡ length list = omega (arith, t .inside) in
     (e ∙ t .count, sym (t .place) ∙ f)
+
+-- ---- what agreement means
+
+-- A case that agrees: the number is the one listed, the block is listed from the eighth byte on, the records are those listed from `end` on,
+-- and behind them each byte is as it was.
+pub agrees-means : (list : List ℕ) (at end bytes room : ℕ) {number : ℕ} {buffer block : List ℕ} → seen number buffer block ≡ seenAt list at end room
+    → agreesAt list at end bytes room ≡ true
+    → (number ≡ numberAt list (at + 8)) × (take (length block) (drop (at + 8) list) ≡ block)
+    × (take bytes (drop end list) ++ untouched (length buffer - bytes) ≡ buffer)
+unfolding agreesAt asListed holdsRecords isUntouched
+agrees-means list at end bytes room {number} {buffer} {block} is yes-all =
+    let h = rw (← is) at yes-all in
+    let both = and-eq-true-iff (eqb number (numberAt list (at + 8)) && standsAt list (at + 8) block) (holdsRecords list end bytes buffer) .0 h in
+    let one = and-eq-true-iff (eqb number (numberAt list (at + 8))) (standsAt list (at + 8) block) .0 (both .0) in
+    let front = leb bytes (length buffer) && standsAt list end (take bytes buffer) in
+    let held = and-eq-true-iff front (isUntouched (drop bytes buffer)) .0 (both .1) in
+    let fits = and-eq-true-iff (leb bytes (length buffer)) (standsAt list end (take bytes buffer)) .0 (held .0) in
+    let size = length-take-le bytes buffer (leb-true bytes (length buffer) (fits .0)) in
+    let first = ap (λ n. take n (drop end list)) (sym size) ∙ stands-is list (take bytes buffer) end (fits .1) .1 in
+    let clean = same-is (drop bytes buffer) (untouched (length (drop bytes buffer))) (held .1) in
+    let rest = ap untouched (sym (length-drop bytes buffer)) ∙ sym clean in (
+      eqb-true number (numberAt list (at + 8)) (one .0),
+      stands-is list block (at + 8) (one .1) .1,
+      ap (λ l. l ++ untouched (length buffer - bytes)) first ∙ ap (λ l. take bytes buffer ++ l) rest ∙ take-append-drop bytes buffer,
+    )

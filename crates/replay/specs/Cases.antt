@@ -52,7 +52,7 @@ listedBytes list at = cond (eqb (numberAt list (at + 8)) 0) (numberAt list (at +
 unfoldable pub seenAt : List ℕ → ℕ → ℕ → ℕ → Seen
 seenAt list at end room = hostOf (take (end - (at + 24)) (drop (at + 24) list)) (untouched room) (untouched 16)
 
--- the lent bytes then
+-- the lent bytes after that call
 unfoldable pub lentAfter : List ℕ → ℕ → ℕ → ℕ → List ℕ
 lentAfter list at end room = bufferSeen (seenAt list at end room)
 
@@ -61,6 +61,7 @@ unfoldable pub asListed : List ℕ → ℕ → ℕ → ℕ → Seen → Bool
 asListed list at end bytes (seen number buffer block) =
     eqb number (numberAt list (at + 8)) && standsAt list (at + 8) block && holdsRecords list end bytes buffer
 
+-- whether the case at a place agrees, with `bytes` record bytes listed and `room` bytes lent
 unfoldable pub agreesAt : List ℕ → ℕ → ℕ → ℕ → ℕ → Bool
 agreesAt list at end bytes room = asListed list at end bytes (seenAt list at end room)
 

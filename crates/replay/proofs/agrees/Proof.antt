@@ -1,4 +1,5 @@
--- `replay::agrees` meets its contract: the lent bytes are filled, what is handed back is what a host sees, and each return is a comparison with the list.
+-- `replay::agrees` meets its contract: the lent bytes are filled, what is handed back is what a host sees, and each return compares it with
+-- the list.
 -- Assumes nothing.
 use borrow.Author.Needs.{needs}
 use lib.ListN.{length}
@@ -46,7 +47,8 @@ returns c =
     let call = c .before .before .before .before .before in
     let fill = call .before .before .before .before .before .before in
     let args = fill .before .before .before .before .args in
-    let e = seen-is (args .list .now) (args .at) (args .end) (length (args .lent .now)) (fill .fill .ensures) (call .ergo-tokenize .ensures .0) in
+    let room = length (args .lent .now) in
+    let e = seen-is (args .list .now) (args .at) (args .end) room (fill .fill .ensures) (call .ergo-tokenize .ensures .0) in
     (sym (number-off _ _ _ _ (args .bytes) e (c .before .number-at .ensures) (c .if1 .taken)), lent-is _ _ _ _ e)
 
 add-stands-at : tie.Need-add-stands-at
@@ -66,7 +68,8 @@ returns-2 c =
     let call = c .before .before .before .before .before .before .before .before in
     let fill = call .before .before .before .before .before .before in
     let args = fill .before .before .before .before .args in
-    let e = seen-is (args .list .now) (args .at) (args .end) (length (args .lent .now)) (fill .fill .ensures) (call .ergo-tokenize .ensures .0) in
+    let room = length (args .lent .now) in
+    let e = seen-is (args .list .now) (args .at) (args .end) room (fill .fill .ensures) (call .ergo-tokenize .ensures .0) in
     let stands = sym (c .before .stands-at .ensures) ∙ not-true _ (c .if2 .taken) in
     (sym (block-off _ _ _ _ (args .bytes) e stands), lent-is _ _ _ _ e)
 
@@ -81,7 +84,8 @@ returns-3 c =
     let call = c .before .before .before .before .before .before .before .before .before .before in
     let fill = call .before .before .before .before .before .before in
     let args = fill .before .before .before .before .args in
-    let e = seen-is (args .list .now) (args .at) (args .end) (length (args .lent .now)) (fill .fill .ensures) (call .ergo-tokenize .ensures .0) in
+    let room = length (args .lent .now) in
+    let e = seen-is (args .list .now) (args .at) (args .end) room (fill .fill .ensures) (call .ergo-tokenize .ensures .0) in
     let number = c .before .before .before .before .before .if1 .left ∙ c .before .before .before .before .before .before .number-at .ensures in
     let stands = sym (c .before .before .before .stands-at .ensures) ∙ not-false _ (c .before .before .if2 .left) in
     (c .holds-records .ensures ∙ sym (agrees-is _ _ _ _ (args .bytes) e number stands), lent-is _ _ _ _ e)

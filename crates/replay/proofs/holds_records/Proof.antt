@@ -14,7 +14,9 @@ returns : tie.Need-returns
 returns c = sym (holds-out _ _ _ _ (c .if1 .taken))
 
 slice-aggregate-stands-at : tie.Need-slice-aggregate-stands-at
-slice-aggregate-stands-at c = omega (arith, length-take (c .before .before .before .before .args .bytes) (c .before .before .before .before .args .lent .now))
+slice-aggregate-stands-at c =
+    let args = c .before .before .before .before .args in
+    omega (arith, length-take (args .bytes) (args .lent .now))
 
 stands-at-requires : tie.Need-stands-at-requires
 stands-at-requires c κs = search needs

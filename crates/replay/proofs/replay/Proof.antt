@@ -34,8 +34,9 @@ loop-again : tie.Need-loop-again Inv-loop μ-loop
 loop-again c =
     let call = c .before .before .before .before in
     let turn = call .before .before .before in
-    let one = call .replay-case .ensures in
-    turn-differ (turn .loop .inv) (call .before .before .loop-test .taken) (one .0) (one .1 .0 .0) (one .1 .0 .1) (one .1 .1 .0) (one .1 .1 .1) (search needs)
+    let next = call .replay-case .ensures in
+    let one = next .1 .1 in
+    turn-differ (turn .loop .inv) (call .before .before .loop-test .taken) (next .0) (next .1 .0 .0) (next .1 .0 .1) (one .0) (one .1) (search needs)
     (not-true _ (c .if1 .taken))
 
 loop-less-2 : tie.Need-loop-less-2 Inv-loop μ-loop
@@ -45,8 +46,9 @@ loop-again-2 : tie.Need-loop-again-2 Inv-loop μ-loop
 loop-again-2 c =
     let call = c .before .before .before .before in
     let turn = call .before .before .before in
-    let one = call .replay-case .ensures in
-    turn-agree (turn .loop .inv) (call .before .before .loop-test .taken) (one .0) (one .1 .0 .0) (one .1 .0 .1) (one .1 .1 .0) (one .1 .1 .1) (search needs)
+    let next = call .replay-case .ensures in
+    let one = next .1 .1 in
+    turn-agree (turn .loop .inv) (call .before .before .loop-test .taken) (next .0) (next .1 .0 .0) (next .1 .0 .1) (one .0) (one .1) (search needs)
     (not-false _ (c .if1 .left))
 
 same-length : tie.Need-same-length Inv-loop μ-loop

@@ -14,8 +14,11 @@ sub-left c = search needs
 returns : tie.Need-returns
 returns c =
     let args = c .before .before .before .args in
+    let list = args .list .now in
+    let at = args .at in
+    let records = args .records .now in
     let short = c .if1 .taken in
-    (cut-next _ _ short, ((omega arith, omega arith), (cut-case _ _ short _, cut-buffer _ _ short (args .records .now))))
+    (cut-next list at short, ((omega arith, omega arith), (cut-case list at short (length records), cut-buffer list at short records)))
 
 add-start : tie.Need-add-start
 add-start c = search needs
@@ -54,7 +57,9 @@ slice-relend-prefix-agrees : tie.Need-slice-relend-prefix-agrees
 slice-relend-prefix-agrees c = search needs
 
 slice-aggregate-agrees : tie.Need-slice-aggregate-agrees
-slice-aggregate-agrees c = omega (arith, length-take (c .before .least3 .result) (c .before .before .before .before .before .before .before .before .before .before .args .records .now))
+slice-aggregate-agrees c =
+    let start = c .before .before .before .before .before .before .before .before .before .before in
+    omega (arith, length-take (c .before .least3 .result) (start .args .records .now))
 
 agrees-requires : tie.Need-agrees-requires
 agrees-requires c κs = search needs

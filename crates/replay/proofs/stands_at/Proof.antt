@@ -39,8 +39,10 @@ shared-slice-read-if3-2 c = search needs
 
 returns-3 : tie.Need-returns-3 Inv-loop μ-loop
 returns-3 c =
-    let inv = c .before .before .before .before .loop .inv in
-    sym (stands-off _ _ _ _ (inv .0) (c .before .before .before .loop-test .taken) (c .if3 .taken)) ∙ inv .1
+    let test = c .before .before .before in
+    let loop = test .before .loop in
+    let args = test .before .before .before .before .args in
+    sym (stands-off (args .list .now) (args .part .now) (args .at) (loop .i) (loop .inv .0) (test .loop-test .taken) (c .if3 .taken)) ∙ loop .inv .1
 
 add-i : tie.Need-add-i Inv-loop μ-loop
 add-i c = search needs
@@ -50,8 +52,11 @@ loop-less c = search needs
 
 loop-again : tie.Need-loop-again Inv-loop μ-loop
 loop-again c =
-    let inv = c .before .before .before .before .loop .inv in
-    (inv .0, stands-on _ _ _ _ (inv .0) (c .before .before .before .loop-test .taken) (c .if3 .left) ∙ inv .1)
+    let test = c .before .before .before in
+    let loop = test .before .loop in
+    let args = test .before .before .before .before .args in
+    let on = stands-on (args .list .now) (args .part .now) (args .at) (loop .i) (loop .inv .0) (test .loop-test .taken) (c .if3 .left) in
+    (loop .inv .0, on ∙ loop .inv .1)
 
 returns-4 : tie.Need-returns-4 Inv-loop μ-loop
 returns-4 c = sym (stands-end _ _ _ _ (c .loop-test .left)) ∙ c .before .loop .inv .1
