@@ -2,6 +2,7 @@
 // start, end, cut and values, or `refused N at P`. `rt check listing` runs it on `stdin`, document 01's example, and holds what it prints to
 // `stdout`, the lines that document 01 gives.
 use libc::STDIN_FILENO;
+use libc::STDOUT_FILENO;
 ghost use mathlib.Core.Path.{_≡_};
 ghost use lib.ListN.{length};
 
@@ -12,8 +13,11 @@ fn script_space() -> [u8; 3001]
     [0; 3001]
 }
 
+// It reads and writes, and no contract can say what; the text is `listing_text::listing`'s.
 fn main() {
     let mut script = script_space();
     let n = io::read_full(STDIN_FILENO, &mut script);
-    listing_text::print_listing(&script[..n]);
+    let mut text = [0u8; 510154];
+    let length = listing_text::listing(&script[..n], &mut text);
+    io::write_all(STDOUT_FILENO, &text[..length]);
 }

@@ -1,8 +1,9 @@
 -- The cases on standard input: each is four decimal digits, the script's length, a line feed and the script.
-use Prim.Native.Nat.{ℕ, _+_, _*_, _-_}
+use Prim.Native.Nat.{ℕ, zero, suc, _+_, _*_, _-_, min}
+use mathlib.Core.Bool.{cond}
 use mathlib.Core.List.{List}
-use lib.ListN.{getD, length}
-use Prim.Native.Nat.{min}
+use lib.ListN.{getD, length, take, drop}
+use lib.Dec.{leb}
 
 abbrev pub digit : List ℕ → ℕ → ℕ
 digit list at = getD list at 0 - 0x30
@@ -13,3 +14,18 @@ scriptLength list at = digit list at * 1000 + digit list (at + 1) * 100 + digit 
 -- where the case's script ends: at the list's end where that cuts it short
 unfoldable pub caseEnd : List ℕ → ℕ → ℕ
 caseEnd list at = min (at + 5 + scriptLength list at) (length list)
+
+-- the case's script
+unfoldable pub caseScript : List ℕ → ℕ → List ℕ
+caseScript list at = take (caseEnd list at - (at + 5)) (drop (at + 5) list)
+
+-- How many cases stand from a place on: each starts where the one before it ends, and has at least its five bytes. The first argument
+-- bounds them.
+unfoldable pub countFor : ℕ → List ℕ → ℕ → ℕ
+countFor zero list at = 0
+countFor (suc most) list at =
+    let more = 1 + countFor most list (caseEnd list at) in
+    cond (leb (at + 5) (length list)) more 0
+
+unfoldable pub caseCount : List ℕ → ℕ
+caseCount list = countFor (length list) list 0

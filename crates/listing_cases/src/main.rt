@@ -7,7 +7,10 @@ use libc::STDOUT_FILENO;
 ghost use mathlib.Core.Path.{_≡_};
 ghost use lib.ListN.{length};
 ghost use Prim.Native.Nat.{_+_, _<_, _≤_};
-ghost use Rattle.listing_cases.specs.Cases.{digit as digitOf, scriptLength, caseEnd};
+ghost use Rattle.listing_cases.specs.Cases.{digit as digitOf, scriptLength, caseEnd, caseScript, caseCount};
+ghost use lib.Seq.{sets};
+ghost use Rattle.io.specs.Counts.{Counts};
+ghost use Rattle.listing_text.specs.Lines.{caseText};
 
 const HEAD_BYTES: usize = 5;
 
@@ -56,27 +59,38 @@ fn case_end(list: &[u8], at: usize) -> usize
     list.len()
 }
 
-fn print_case(number: u64, script: &[u8]) {
-    io::write_all(STDOUT_FILENO, b"-- ");
-    io::print_decimal(STDOUT_FILENO, number);
-    io::write_all(STDOUT_FILENO, b"\n");
-    listing_text::print_listing(script);
+// The text of the case at a place: the line `-- K` and its script's listing, at the start of out. The answer is the text's length.
+fn put_case(list: &[u8], at: usize, number: u64, out: &mut [u8; 510154]) -> usize
+    requires { ⌜ at + 5 ≤ length (now list) ⌝ }
+    ensures { λ r. ⌜ r ≡ length (caseText number (caseScript (now (list .entry)) at)) ⌝ }
+    ensures { λ r. ⌜ now (out .exit) ≡ sets (now (out .entry)) 0 (caseText number (caseScript (now (list .entry)) at)) ⌝ }
+    ensures { λ r. ⌜ Counts r (now (out .exit)) ⌝ }
+{
+    let start = at + HEAD_BYTES;
+    let end = case_end(list, at);
+    listing_text::case_text(number, &list[start..end], out)
 }
 
-fn print_cases(list: &[u8]) {
+// Writes the text of each case in turn, and hands back how many there are. What is written no contract can say: C's `write` has no record of
+// it.
+fn write_cases(list: &[u8]) -> u64
+    ensures { λ r. ⌜ r ≡ caseCount (now (list .entry)) ⌝ }
+{
+    let mut text = [0u8; 510154];
     let mut at: usize = 0;
     let mut number: u64 = 0;
     while list.len() - at >= HEAD_BYTES {
-        let start = at + HEAD_BYTES;
-        let end = case_end(list, at);
-        number = std::num::wrapping_add_u64(number, 1);
-        print_case(number, &list[start..end]);
-        at = end;
+        number += 1;
+        let length = put_case(list, at, number, &mut text);
+        io::write_all(STDOUT_FILENO, &text[..length]);
+        at = case_end(list, at);
     }
+    number
 }
 
+// It reads and writes, and no contract can say what.
 fn main() {
     let mut list = io::large_buffer();
     let n = io::read_full(STDIN_FILENO, &mut list);
-    print_cases(&list[..n]);
+    write_cases(&list[..n]);
 }

@@ -4,6 +4,7 @@ use mathlib.Core.Bool.{cond}
 use mathlib.Core.List.{List}
 use lib.Dec.{eqb, leb}
 use lib.ListN.{getD, length}
+use Rattle.listing_text.specs.declared.fields.Line.{Line}
 
 -- Little-endian: the number of one, two, four and eight bytes from a place on
 abbrev pub one : List ℕ → ℕ → ℕ
@@ -34,3 +35,17 @@ valueCount kind = cond (eqb kind 4) 1 (cond (eqb kind 5) 1 (cond (eqb kind 17) 1
 -- the first of them
 unfoldable pub firstValue : ℕ → List ℕ → ℕ
 firstValue kind bytes = cond (eqb kind 5) (eight bytes 13) (cond (eqb kind 17) (one bytes 13) (four bytes 13))
+
+-- the numbers of a record's line; of its values as many count as `count` says
+unfoldable pub lineOf : List ℕ → Line
+lineOf bytes =
+    let k = two bytes 2 in
+    record {
+      kind = k;
+      start = four bytes 4;
+      end = four bytes 8;
+      cut = one bytes 12;
+      count = valueCount k;
+      first = firstValue k bytes;
+      second = four bytes 17;
+    }

@@ -2,7 +2,7 @@
 ghost use mathlib.Core.Path.{_≡_};
 ghost use lib.ListN.{getD, length};
 ghost use Prim.Native.Nat.{_<_, _≤_};
-ghost use Rattle.listing_text.specs.Fields.{one as oneOf, two as twoOf, four as fourOf, eight as eightOf, recordLength, valueCount, firstValue};
+ghost use Rattle.listing_text.specs.Fields.{one as oneOf, two as twoOf, four as fourOf, eight as eightOf, recordLength, valueCount, firstValue, lineOf};
 
 const HEAD_BYTES: u64 = 13;
 
@@ -99,8 +99,7 @@ pub struct Line {
 
 // The line of a record, by its bytes.
 pub fn line_of(bytes: &[u8]) -> Line
-    ensures { λ r. ⌜ (r .kind ≡ twoOf (now (bytes .entry)) 2) × (r .start ≡ fourOf (now (bytes .entry)) 4) × (r .end ≡ fourOf (now (bytes .entry)) 8) × (r .cut ≡ oneOf (now (bytes .entry)) 12) ⌝ }
-    ensures { λ r. ⌜ (r .count ≡ valueCount (twoOf (now (bytes .entry)) 2)) × (r .first ≡ firstValue (twoOf (now (bytes .entry)) 2) (now (bytes .entry))) × (r .second ≡ fourOf (now (bytes .entry)) 17) ⌝ }
+    ensures { λ r. ⌜ r ≡ lineOf (now (bytes .entry)) ⌝ }
 {
     let kind = two(bytes, 2);
     Line {

@@ -1,5 +1,8 @@
 // The text of the listing program. Document 01, "Host entry and text".
 mod fields;
 mod lines;
+mod puts;
+mod text;
 
-pub use lines::print_listing;
+pub use text::case_text;
+pub use text::listing;

@@ -1,92 +1,84 @@
-// Document 01: prints kind, start, end, cut and values, or `refused N at P`. No contract can say what is written.
+// The lines of a listing. Document 01, "Host entry and text": kind, start, end, cut and values, or `refused N at P`.
 use crate::fields::Line;
-use crate::fields::four;
 use crate::fields::line_of;
 use crate::fields::record_length;
-use libc::STDOUT_FILENO;
-ghost use mathlib.Core.Path.{_≡_};
+use crate::puts::put_bytes;
+use crate::puts::put_number;
+use crate::puts::put_spaced;
+ghost use Prim.Native.Nat.{_+_, _*_, _≤_};
 ghost use lib.ListN.{length};
-ghost use Prim.Native.Nat.{min};
+ghost use Rattle.listing_text.specs.Lines.{Puts, headText, valuesText, lineText, recordLines, refusedText};
 
-// The listing program takes up to 3,000 bytes.
-const MOST_BYTES: usize = 3000;
-
-// 17 times 3,000 plus 13 bytes.
-fn records_space() -> [u8; 51013]
-    ensures { λ r. ⌜ 51013 ≡ length r ⌝ }
+// Kind, start, end and cut: four numbers of at most 20 digits, and three spaces.
+fn put_head(out: &mut [u8], at: usize, line: Line) -> usize
+    requires { ⌜ at + 83 ≤ length (now out) ⌝ }
+    ensures { λ r. ⌜ Puts (now (out .entry)) at (headText line) (now (out .exit)) r ⌝ }
+    ensures { λ r. ⌜ r ≤ at + 83 ⌝ }
 {
-    [0; 51013]
+    let after_kind = put_number(out, at, line.kind);
+    let after_start = put_spaced(out, after_kind, line.start);
+    let after_end = put_spaced(out, after_start, line.end);
+    put_spaced(out, after_end, line.cut)
 }
 
-fn print_number(number: u64) {
-    io::print_decimal(STDOUT_FILENO, number);
-}
-
-fn print_spaced(number: u64) {
-    io::write_all(STDOUT_FILENO, b" ");
-    io::print_decimal(STDOUT_FILENO, number);
-}
-
-// One line: kind, start, end, cut and values.
-fn print_line(line: Line) {
-    print_number(line.kind);
-    print_spaced(line.start);
-    print_spaced(line.end);
-    print_spaced(line.cut);
-    if line.count > 0 {
-        print_spaced(line.first);
+// The values: none, one or two.
+fn put_values(out: &mut [u8], at: usize, line: Line) -> usize
+    requires { ⌜ at + 42 ≤ length (now out) ⌝ }
+    ensures { λ r. ⌜ Puts (now (out .entry)) at (valuesText line) (now (out .exit)) r ⌝ }
+    ensures { λ r. ⌜ r ≤ at + 42 ⌝ }
+{
+    if line.count == 0 {
+        return at;
     }
-    if line.count > 1 {
-        print_spaced(line.second);
+    let after_first = put_spaced(out, at, line.first);
+    if line.count == 1 {
+        return after_first;
     }
-    io::write_all(STDOUT_FILENO, b"\n");
+    put_spaced(out, after_first, line.second)
 }
 
-// A line for each record, by its own length, up to the end or to where no whole record stands.
-fn print_records(records: &[u8]) {
-    let mut at: usize = 0;
-    while at < records.len() {
-        let length = record_length(&records[at..]);
+// One line.
+fn put_line(out: &mut [u8], at: usize, line: Line) -> usize
+    requires { ⌜ at + 126 ≤ length (now out) ⌝ }
+    ensures { λ r. ⌜ Puts (now (out .entry)) at (lineText line) (now (out .exit)) r ⌝ }
+    ensures { λ r. ⌜ r ≤ at + 126 ⌝ }
+{
+    let after_head = put_head(out, at, line);
+    let after_values = put_values(out, after_head, line);
+    out[after_values] = b'\n';
+    after_values + 1
+}
+
+// A line for each record, by its own length, up to the end or to where no whole record stands. A line has at most 126 bytes and a record
+// at least 13.
+pub fn put_records(out: &mut [u8], at: usize, records: &[u8]) -> usize
+    requires { ⌜ at + 10 * length (now records) ≤ length (now out) ⌝ }
+    ensures { λ r. ⌜ Puts (now (out .entry)) at (recordLines (now (records .entry))) (now (out .exit)) r ⌝ }
+    ensures { λ r. ⌜ r ≤ length (now (out .entry)) ⌝ }
+{
+    let mut next = at;
+    let mut from: usize = 0;
+    while from < records.len() {
+        let length = record_length(&records[from..]);
         if length == 0 {
-            return;
+            return next;
         }
-        let end = at + length;
-        print_line(line_of(&records[at..end]));
-        at = end;
+        let end = from + length;
+        let line = line_of(&records[from..end]);
+        next = put_line(out, next, line);
+        from = end;
     }
+    next
 }
 
-fn print_refused(number: u64, place: u64) {
-    io::write_all(STDOUT_FILENO, b"refused ");
-    print_number(number);
-    io::write_all(STDOUT_FILENO, b" at ");
-    print_number(place);
-    io::write_all(STDOUT_FILENO, b"\n");
-}
-
-fn least(a: u64, b: usize) -> usize
-    ensures { λ r. ⌜ r ≡ min a b ⌝ }
+pub fn put_refused(out: &mut [u8], at: usize, number: u64, place: u64) -> usize
+    requires { ⌜ at + 53 ≤ length (now out) ⌝ }
+    ensures { λ r. ⌜ Puts (now (out .entry)) at (refusedText number place) (now (out .exit)) r ⌝ }
+    ensures { λ r. ⌜ r ≤ length (now (out .entry)) ⌝ }
 {
-    if a < b as u64 { a as usize } else { b }
-}
-
-fn print_answer(number: u32, records: &[u8], block: &[u8]) {
-    if number == 0 {
-        let bytes = least(four(block, 12), records.len());
-        print_records(&records[..bytes]);
-        return;
-    }
-    print_refused(number as u64, four(block, 4));
-}
-
-// The listing of a script; more than 3,000 bytes print `long`.
-pub fn print_listing(script: &[u8]) {
-    if script.len() > MOST_BYTES {
-        io::write_all(STDOUT_FILENO, b"long\n");
-        return;
-    }
-    let mut records = records_space();
-    let mut block = [0u8; 16];
-    let number = token::host::ergo_tokenize(script, &mut records, &mut block);
-    print_answer(number, &records, &block);
+    let after_word = put_bytes(out, at, b"refused ");
+    let after_number = put_number(out, after_word, number);
+    let after_at = put_bytes(out, after_number, b" at ");
+    let after_place = put_number(out, after_at, place);
+    put_bytes(out, after_place, b"\n")
 }

@@ -1,7 +1,6 @@
 -- `fields::line_of` meets its contract, by its callees'.
 -- Assumes nothing.
-use mathlib.Core.Path.{_∙_, ap}
-use Rattle.listing_text.specs.Fields.{valueCount, firstValue}
+use Rattle.listing_text.specs.Fields.{lineOf}
 use borrow.Author.Needs.{needs}
 use Rattle.listing_text.proofs.fields.line_of.Statement.{statement}
 use Rattle.listing_text.proofs.fields.line_of.Tie as tie
@@ -28,12 +27,16 @@ four-requires-3 : tie.Need-four-requires-3
 four-requires-3 c κs = search needs
 
 returns : tie.Need-returns
+unfolding lineOf
 returns c =
     let s = c .before .before .before .before .before .before .before .before .args .bytes .now in
-    let kind = c .before .before .before .before .before .before .two .ensures .0 in (
-      (kind, c .before .before .before .before .before .four .ensures .0, c .before .before .before .before .four2 .ensures .0, c .before .before .before .one .ensures .0),
-      (c .before .before .value-count .ensures ∙ ap valueCount kind, c .before .first-value .ensures ∙ ap (λ k. firstValue k s) kind, c .four3 .ensures .0),
-    )
+    let kind = c .before .before .before .before .before .before .two .ensures .0 in
+    let start = c .before .before .before .before .before .four .ensures .0 in
+    let end = c .before .before .before .before .four2 .ensures .0 in
+    let cut = c .before .before .before .one .ensures .0 in
+    let count = c .before .before .value-count .ensures in
+    let first = c .before .first-value .ensures in
+    simp (count, first, kind, start, end, cut, c .four3 .ensures .0)
 
 pub line-of-spec : {M : Type 1} → statement M
 line-of-spec =

@@ -1,0 +1,47 @@
+-- A case's script, and counting the cases turn by turn.
+use Prim.Native.Nat.{ℕ, zero, suc, _+_, _-_, _≤_, _<_}
+use mathlib.Core.Path.{_≡_, refl, sym, _∙_, ap}
+use mathlib.Core.List.{List}
+use lib.ListN.{length, take, drop}
+use native.Mathlib.Omega.{arith}
+use borrow.Author.Tests.{le-leb, lt-leb}
+use Rattle.listing_cases.specs.Cases.{caseEnd, caseScript, countFor, caseCount}
+
+-- the part of the list that is lent for a case
+pub script-is : (list : List ℕ) (at end : ℕ) → end ≡ caseEnd list at → take (end - (at + 5)) (drop (at + 5) list) ≡ caseScript list at
+unfolding caseScript
+script-is list at end e = ap (λ k. take (k - (at + 5)) (drop (at + 5) list)) e
+
+-- so many cases are counted before a place, and the others are to come
+pub record Counting (list : List ℕ) (at number : ℕ) : Type 0 where
+  pub most : ℕ
+  pub room : length list ≤ at + most
+  pub same : number + countFor most list at ≡ caseCount list
+
+pub count-start : (list : List ℕ) → Counting list 0 0
+unfolding caseCount
+count-start list = record { most = length list; room = omega arith; same = omega arith }
+
+one-more : (list : List ℕ) (at most : ℕ) → at + 5 ≤ length list → countFor (suc most) list at ≡ 1 + countFor most list (caseEnd list at)
+unfolding countFor
+one-more list at most h = simp (le-leb (at + 5) (length list) h)
+
+no-more : (list : List ℕ) (at most : ℕ) → length list < at + 5 → countFor most list at ≡ 0
+unfolding countFor
+no-more list at zero h = refl
+no-more list at (suc most) h = simp (lt-leb (at + 5) (length list) h)
+
+turn : (list : List ℕ) (at number next most : ℕ) → at + 5 ≤ length list → at + 5 ≤ next → next ≡ caseEnd list at → length list ≤ at + most
+    → number + countFor most list at ≡ caseCount list → Counting list next (number + 1)
+turn list at number next zero h m e r s = absurd (omega arith)
+turn list at number next (suc most) h m e r s =
+    let f = one-more list at most h in
+    let g = ap (countFor most list) e in
+    record { most = most; room = omega arith; same = omega arith }
+
+pub count-turn : {list : List ℕ} {at number : ℕ} (next : ℕ) → Counting list at number → at + 5 ≤ length list → at + 5 ≤ next → next ≡ caseEnd list at
+    → Counting list next (number + 1)
+count-turn {list} {at} {number} next c h m e = turn list at number next (c .most) h m e (c .room) (c .same)
+
+pub count-end : {list : List ℕ} {at number : ℕ} → Counting list at number → length list < at + 5 → number ≡ caseCount list
+count-end {list} {at} {number} c h = let z = no-more list at (c .most) h in let s = c .same in omega arith

@@ -1,0 +1,48 @@
+-- The text of an answer, and of a script.
+use Prim.Native.Nat.{ℕ, _<_, _≤_, min}
+use mathlib.Core.Path.{_≡_, refl, sym, _∙_, ap}
+use mathlib.Core.Bool.{Bool, true, false}
+use mathlib.Core.List.{List}
+use lib.ListN.{length, take}
+use lib.Dec.{leb}
+use lib.Seq.{take-all}
+use native.Mathlib.Omega.{arith}
+use borrow.Author.Tests.{le-leb, lt-leb, leb-true, leb-false, eq-eqb, ne-eqb}
+use Rattle.token.specs.Host.{Seen, seen, hostOf}
+use Rattle.listing_text.specs.Fields.{four}
+use Rattle.listing_text.specs.Lines.{codes, recordLines, refusedText, answerText, zeros, listing}
+
+-- no more of a list than it has
+take-min : (a : ℕ) (l : List ℕ) → take (min a (length l)) l ≡ take a l
+take-min a l = go (leb a (length l)) refl
+  where
+    go : (b : Bool) → leb a (length l) ≡ b → take (min a (length l)) l ≡ take a l
+    go true e =
+        let h = leb-true a (length l) e in
+        let m : min a (length l) ≡ a = omega arith in
+        ap (λ k. take k l) m
+    go false e =
+        let h = leb-false a (length l) e in
+        take-all (min a (length l)) l (omega arith) ∙ sym (take-all a l (omega arith))
+
+pub accepted-text : (number n f : ℕ) (records block : List ℕ) → number ≡ 0 → f ≡ four block 12 → n ≡ min f (length records)
+    → recordLines (take n records) ≡ answerText (seen number records block)
+unfolding answerText
+accepted-text number n f records block z e m =
+    let k = m ∙ ap (λ x. min x (length records)) e in
+    simp (eq-eqb number 0 z) (ap recordLines (ap (λ i. take i records) k ∙ take-min (four block 12) records))
+
+pub refused-text : (number place : ℕ) (records block : List ℕ) → (number ≡ 0 → ⊥) → place ≡ four block 4
+    → refusedText number place ≡ answerText (seen number records block)
+unfolding answerText
+refused-text number place records block z e = simp (ne-eqb number 0 z) (ap (refusedText number) e)
+
+pub long-text : (script : List ℕ) → 3000 < length script → codes "long\n" ≡ listing script
+unfolding listing
+long-text script h = simp (lt-leb (length script) 3000 h)
+
+pub short-text : (script r b : List ℕ) (s : Seen) → length script ≤ 3000 → r ≡ zeros 51013 → b ≡ zeros 16 → s ≡ hostOf script r b
+    → answerText s ≡ listing script
+unfolding listing
+short-text script r b s h er eb e =
+    simp (le-leb (length script) 3000 h) (ap answerText (e ∙ ap (λ x. hostOf script x b) er ∙ ap (hostOf script (zeros 51013)) eb))

@@ -1,0 +1,4 @@
+pub mod PutLaws
+pub mod Decimals
+pub mod LineLaws
+pub mod AnswerLaws
