@@ -3,14 +3,27 @@ use Prim.Native.Nat.{ℕ, zero, suc, _+_, _-_, _≤_, _<_}
 use mathlib.Core.Path.{_≡_, refl, sym, _∙_, ap}
 use mathlib.Core.List.{List}
 use lib.ListN.{length, take, drop}
+use lib.Seq.{sets}
 use native.Mathlib.Omega.{arith}
 use borrow.Author.Tests.{le-leb, lt-leb}
+use Rattle.listing_text.specs.Lines.{caseText}
 use Rattle.listing_cases.specs.Cases.{caseEnd, caseScript, countFor, caseCount}
 
--- the part of the list that is lent for a case
-pub script-is : (list : List ℕ) (at end : ℕ) → end ≡ caseEnd list at → take (end - (at + 5)) (drop (at + 5) list) ≡ caseScript list at
+-- ---- the part of the list that is lent for a case is its script
+
+script-is : (list : List ℕ) (at end : ℕ) → end ≡ caseEnd list at → take (end - (at + 5)) (drop (at + 5) list) ≡ caseScript list at
 unfolding caseScript
 script-is list at end e = ap (λ k. take (k - (at + 5)) (drop (at + 5) list)) e
+
+pub length-is : (number at end r : ℕ) (list : List ℕ) → end ≡ caseEnd list at
+    → r ≡ length (caseText number (take (end - (at + 5)) (drop (at + 5) list))) → r ≡ length (caseText number (caseScript list at))
+length-is number at end r list e p = p ∙ ap (λ s. length (caseText number s)) (script-is list at end e)
+
+pub text-is : (number at end : ℕ) (list l m : List ℕ) → end ≡ caseEnd list at
+    → m ≡ sets l 0 (caseText number (take (end - (at + 5)) (drop (at + 5) list))) → m ≡ sets l 0 (caseText number (caseScript list at))
+text-is number at end list l m e p = p ∙ ap (λ s. sets l 0 (caseText number s)) (script-is list at end e)
+
+-- ---- counting
 
 -- so many cases are counted before a place, and the others are to come
 pub record Counting (list : List ℕ) (at number : ℕ) : Type 0 where

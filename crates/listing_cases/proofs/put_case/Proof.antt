@@ -1,9 +1,5 @@
 -- `listing_cases::put_case` meets its contract: the part that is lent is the case's script.
-use mathlib.Core.Path.{_∙_, ap}
-use lib.ListN.{length}
-use lib.Seq.{sets}
-use Rattle.listing_text.specs.Lines.{caseText}
-use Rattle.listing_cases.proofs.CaseLaws.{script-is}
+use Rattle.listing_cases.proofs.CaseLaws.{length-is, text-is}
 use borrow.Author.Needs.{needs}
 use Rattle.listing_cases.proofs.put_case.Statement.{statement}
 use Rattle.listing_cases.proofs.put_case.Tie as tie
@@ -29,11 +25,12 @@ case-text-requires c κs = search needs
 returns : tie.Need-returns
 returns c =
     let args = c .before .before .before .before .before .args in
-    let e = script-is (args .list .now) (args .at) _ (c .before .before .before .case-end .ensures .0) in
-    let text = c .case-text .ensures in (
-      text .0 ∙ ap (λ s. length (caseText (args .number) s)) e,
-      (text .1 .0 ∙ ap (λ s. sets (args .out .now) 0 (caseText (args .number) s)) e, text .1 .1),
-    )
+    let end = c .before .before .before .case-end in
+    let list = args .list .now in
+    let text = c .case-text .ensures in
+    let sized = length-is (args .number) (args .at) (end .result) (c .case-text .result) list (end .ensures .0) (text .0) in
+    let stored = text-is (args .number) (args .at) (end .result) list (args .out .now) _ (end .ensures .0) (text .1 .0) in
+    (sized, (stored, text .1 .1))
 
 pub put-case-spec : {M : Type 1} → statement M
 put-case-spec =

@@ -1,0 +1,33 @@
+-- Document 01, "Host entry and text": the listing's example, and the twelve marked scripts, as the text that the listing program makes.
+use mathlib.Core.Path.{_≡_, refl}
+use mathlib.Core.Bool.{Bool, true, false, cond}
+use mathlib.Core.List.{List, [], _∷_}
+use Prim.Native.Nat.{ℕ}
+use lib.ListN.{replicate}
+use Rattle.token.specs.Tests.{same}
+use Rattle.token.specs.Listing.{script, Example, _gives_, hosted}
+use Rattle.token.specs.Examples.{marked, listingExample}
+use Rattle.listing_text.specs.Fields.{two, four, eight, recordLength, valueCount, firstValue, lineOf}
+use Rattle.listing_text.specs.Lines.{codes, headText, valuesText, lineText, linesFor, recordLines, refusedText, answerText, zeros, listing}
+
+-- Where this is unfolded, all of the definition is.
+unfoldable pub made : List ℕ → List ℕ
+unfolding hosted two four eight recordLength valueCount firstValue lineOf headText valuesText lineText linesFor recordLines refusedText answerText zeros listing
+made s = listing s
+
+abbrev pub holds : List Example → Bool
+holds [] = true
+holds (_gives_ s t ∷ es) = cond (same (made (script s)) (codes t)) (holds es) false
+
+pub listing-holds : holds listingExample ≡ true
+unfolding made
+listing-holds = refl
+
+pub marked-holds : holds marked ≡ true
+unfolding made
+marked-holds = refl
+
+-- more than 3,000 bytes
+pub long-holds : made (replicate 3001 0x20) ≡ codes "long\n"
+unfolding made
+long-holds = refl
