@@ -4,7 +4,7 @@ use mathlib.Core.Path.{_≡_, refl, sym, _∙_, ap}
 use mathlib.Core.Bool.{Bool, true, false, cond, _&&_, _||_}
 use mathlib.Core.Logic.{_⊎_, inl, inr}
 use mathlib.Core.List.{List, [], _∷_}
-use lib.ListN.{length, drop, getD, length-drop}
+use lib.ListN.{length, drop, getD}
 use lib.Dec.{eqb, leb, ltb}
 use native.Mathlib.Nat.{le-div-iff-mul-le, div-lt-iff-lt-mul, le-mul-of-pos-right}
 use native.Mathlib.Omega.{arith}
@@ -13,7 +13,6 @@ use Rattle.chars.specs.Quoted.{between, codes, oneOf}
 use Rattle.chars.specs.Text.{Text, from, place, head, afterRun}
 use Rattle.chars.proofs.Bools.{clash, and-both}
 use Rattle.chars.proofs.Ranges.{between-in, between-out, in-between}
-use Rattle.chars.proofs.Texts.{chars-length}
 use Rattle.chars.proofs.Places.{Ascii, head-byte, at-ascii, place-from}
 use Rattle.token.specs.Tests.{isDigit, isHexDigit, digitValue, begins, hexDigit, hexAhead, longSuffix}
 use Rattle.token.specs.Shapes.{valueFrom}
@@ -23,7 +22,6 @@ use Rattle.token.specs.declared.kinds.TokenKind.the-variants as tk
 use Rattle.token.specs.declared.piece.Piece.the-variants as piece
 use Rattle.token.specs.declared.digits.Value.the-variants as value
 use Rattle.token.proofs.Bytes.{any-byte, ascii-list, inside, past, two-bytes}
-use Rattle.token.proofs.Runs.{after-next, after-stop}
 use Rattle.token.proofs.Numbers.{read-is}
 
 -- ---- the digits of a base
@@ -102,41 +100,10 @@ module _ (p : ℕ → Bool) where
   up-full zero t h = refl
   up-full (suc m) t h = absurd (omega arith)
 
-  none-run : (t : Text) → head p t ≡ false → afterRun (head p) t ≡ t
-  unfolding afterRun
-  none-run [] e = refl
-  none-run (c ∷ t) e = after-stop (head p) c t e
-
-  -- no character of the class follows its run
-  after-none : (t : Text) → head p (afterRun (head p) t) ≡ false
-  unfolding afterRun
-  after-none [] = refl
-  after-none (c ∷ t) = go (p (c .code)) refl (after-none t)
-    where
-      go : (b : Bool) → p (c .code) ≡ b → head p (afterRun (head p) t) ≡ false → head p (afterRun (head p) (c ∷ t)) ≡ false
-      go true e h = ap (head p) (after-next (head p) c t e) ∙ h
-      go false e h = ap (head p) (after-stop (head p) c t e) ∙ e
-
-  -- a count that the text does not reach stops nothing
-  up-run : (m : ℕ) (t : Text) → length t ≤ m → upTo p m t ≡ afterRun (head p) t
-  unfolding upTo afterRun
-  up-run zero [] h = refl
-  up-run zero (c ∷ t) h = absurd (omega arith)
-  up-run (suc m) [] h = refl
-  up-run (suc m) (c ∷ t) h = go (p (c .code)) refl (up-run m t (omega arith))
-    where
-      go : (b : Bool) → p (c .code) ≡ b → upTo p m t ≡ afterRun (head p) t → upTo p (suc m) (c ∷ t) ≡ afterRun (head p) (c ∷ t)
-      go true e h = (rw (e, upTo) h) ∙ sym (after-next (head p) c t e)
-      go false e h = (rw (e, upTo)) ∙ sym (after-stop (head p) c t e)
-
-  value-none : (base v : ℕ) (t : Text) → head p t ≡ false → valueFrom p base v t ≡ v
-  unfolding valueFrom
-  value-none base v [] e = refl
-  value-none base v (c ∷ t) e = rw (e, valueFrom)
-
-from-most : (s : List ℕ) (i : ℕ) → length (from s i) ≤ length s
-unfolding from
-from-most s i = let h = chars-length i 0 (drop i s) in let k = length-drop i s in omega arith
+  read-none : (base v : ℕ) (t : Text) → head p t ≡ false → readDigits p base v t ≡ read v t
+  unfolding readDigits
+  read-none base v [] e = refl
+  read-none base v (c ∷ t) e = rw (e, readDigits)
 
 -- a class of ASCII characters, at a place of a script
 module _ (p : ℕ → Bool) (a : Ascii p) where
@@ -162,28 +129,13 @@ module _ (p : ℕ → Bool) (a : Ascii p) where
         let z : suc m - 1 ≡ m = omega arith in
         rw z (sym (ap (upTo p (suc m)) (class-at e .1) ∙ rw (e, upTo)))
 
-    -- where a run's end lies further on a character of the class stands
-    pub run-goes : (end : ℕ) → i < end → end ≤ length s → from s end ≡ afterRun (head p) (from s i) → p (getD s i 0) ≡ true
-    run-goes end h k q = go (p (getD s i 0)) refl
-      where
-        go : (b : Bool) → p (getD s i 0) ≡ b → b ≡ true
-        go true e = refl
-        go false e =
-            let same : from s end ≡ from s i = q ∙ none-run p (from s i) (head-byte p a s i ∙ e) in
-            let z : end ≡ i = sym (place-from s end k) ∙ ap (place (length s)) same ∙ place-from s i (omega arith) in
-            absurd (omega arith)
+    pub read-next : (base v : ℕ) → p (getD s i 0) ≡ true
+        → readDigits p base (v * base + digitValue (getD s i 0)) (from s (i + 1)) ≡ readDigits p base v (from s i)
+    unfolding readDigits
+    read-next base v e = sym (ap (readDigits p base v) (class-at e .1) ∙ rw (e, readDigits))
 
-    pub run-past : (t : Text) → p (getD s i 0) ≡ true → t ≡ afterRun (head p) (from s i) → t ≡ afterRun (head p) (from s (i + 1))
-    run-past t e q = q ∙ ap (afterRun (head p)) (class-at e .1) ∙ after-next (head p) _ _ e
-
-    pub value-next : (base v : ℕ) → p (getD s i 0) ≡ true
-        → valueFrom p base v (from s i) ≡ valueFrom p base (v * base + digitValue (getD s i 0)) (from s (i + 1))
-    unfolding valueFrom
-    value-next base v e = ap (valueFrom p base v) (class-at e .1) ∙ rw (e, valueFrom)
-
-    -- at its end a run has no more value
-    pub value-done : (base v : ℕ) → from s i ≡ afterRun (head p) (from s i) → valueFrom p base v (from s i) ≡ v
-    value-done base v q = value-none p base v (from s i) (ap (head p) q ∙ after-none p (from s i))
+    pub read-stop : (base v : ℕ) → p (getD s i 0) ≡ false → read v (from s i) ≡ readDigits p base v (from s i)
+    read-stop base v e = sym (read-none p base v (from s i) (head-byte p a s i ∙ e))
 
 -- ---- values in any base and below any limit
 
@@ -198,7 +150,8 @@ module _ (p : ℕ → Bool) (base : ℕ) (h : 1 ≤ base) where
       go true e k = rw (e, valueFrom) (let m = le-mul-of-pos-right v h in omega (arith, m))
       go false e k = rw (e, valueFrom) (omega arith)
 
-  -- the test before a digit is taken
+-- the test before a digit is taken
+module _ (base : ℕ) (h : 1 ≤ base) where
   pub stays : (limit v d : ℕ) → d ≤ limit → v ≤ (limit - d) / base → v * base + d ≤ limit
   stays limit v d k q = let m = le-div-iff-mul-le h .0 q in omega (arith, m)
 
@@ -208,6 +161,11 @@ module _ (p : ℕ → Bool) (base : ℕ) (h : 1 ≤ base) where
 pub base-some : (base : ℕ) → (base ≡ 10) ⊎ (base ≡ 16) → 1 ≤ base
 base-some base (inl e) = omega arith
 base-some base (inr e) = omega arith
+
+-- a value this small has room for a digit of either base
+pub safe : (base v d : ℕ) → (base ≡ 10) ⊎ (base ≡ 16) → v ≤ 576460752303423487 → d < 16 → v * base + d ≤ 9223372036854775807
+safe base v d (inl e) h k = let z : v * base ≡ v * 10 = ap (λ b. v * b) e in omega arith
+safe base v d (inr e) h k = let z : v * base ≡ v * 16 = ap (λ b. v * b) e in omega arith
 
 pub fits : (v : ℕ) → v ≤ 9223372036854775807 → value.Of v ≡ valueOf v
 unfolding valueOf
@@ -235,14 +193,6 @@ overs v e = go (leb v 9223372036854775807) refl e
 
 -- ---- numbers
 
-module _ (p : ℕ → Bool) (s : List ℕ) (at end : ℕ) (q : from s end ≡ upTo p (length s) (from s at)) where
-  -- no run has more characters than the script has bytes
-  pub walked : from s end ≡ afterRun (head p) (from s at)
-  walked = q ∙ up-run p (length s) (from s at) (from-most s at)
-
-  pub digits-read : (base : ℕ) → read (valueFrom p base 0 (from s at)) (from s end) ≡ readDigits p base 0 (from s at)
-  digits-read base = ap (read (valueFrom p base 0 (from s at))) walked ∙ sym (read-is p base 0 (from s at))
-
 -- the number that begins at start, whose digits of the value v end at end
 module _ (s : List ℕ) (start end v : ℕ) (h : start ≤ length s) where
   pub long-piece : v ≤ 9223372036854775807 → oneOf "Ll" (getD s end 0) ≡ true
@@ -266,13 +216,22 @@ module _ (s : List ℕ) (start end v : ℕ) (h : start ≤ length s) where
       go true = rw (place-from s end k)
       go false = rw (place-from s start h)
 
-  pub over-piece : 9223372036854775807 < v → piece.Refused 6 start ≡ pieceOf (length s) (numberOf (from s start) (read v (from s end)))
+module _ (s : List ℕ) (start : ℕ) (h : start ≤ length s) where
+  over-piece : (v : ℕ) (r : Text) → 9223372036854775807 < v → piece.Refused 6 start ≡ pieceOf (length s) (numberOf (from s start) (read v r))
   unfolding pieceOf
-  over-piece k = rw (lt-leb v 9223372036854775807 k, lt-leb v 2147483647 (omega arith)) (go (longSuffix (from s end)))
+  over-piece v r k = rw (lt-leb v 9223372036854775807 k, lt-leb v 2147483647 (omega arith)) (go (longSuffix r))
     where
       go : (b : Bool) → piece.Refused 6 start ≡ pieceOf (length s) (cond b (Found.stuck 6 (from s start)) (Found.stuck 6 (from s start)))
       go true = rw (place-from s start h)
       go false = rw (place-from s start h)
+
+  -- no digit that follows brings a value back below the limit
+  pub over-read : (p : ℕ → Bool) (base : ℕ) → 1 ≤ base → (v : ℕ) (t : Text) → 9223372036854775807 < v
+      → piece.Refused 6 start ≡ pieceOf (length s) (numberOf (from s start) (readDigits p base v t))
+  over-read p base some v t k =
+      let l = no-less p base some t v in
+      over-piece (valueFrom p base v t) (afterRun (head p) t) (omega arith)
+      ∙ ap (λ r. pieceOf (length s) (numberOf (from s start) r)) (sym (read-is p base v t))
 
 -- ---- `0x`
 

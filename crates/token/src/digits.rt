@@ -6,12 +6,11 @@ use crate::piece::Piece;
 ghost use mathlib.Core.Path.{_≡_};
 ghost use mathlib.Core.Bool.{true};
 ghost use mathlib.Core.Logic.{_⊎_};
-ghost use Prim.Native.Nat.{_≤_, _<_};
+ghost use Prim.Native.Nat.{_+_, _*_, _≤_, _<_};
 ghost use lib.ListN.{length};
-ghost use Rattle.chars.specs.Text.{from, head, afterRun};
+ghost use Rattle.chars.specs.Text.{from};
 ghost use Rattle.token.specs.Tests.{digitValue, hexAhead};
-ghost use Rattle.token.specs.Shapes.{valueFrom};
-ghost use Rattle.token.specs.Answer.{readDigits, numberOf, scanNumber};
+ghost use Rattle.token.specs.Answer.{read, readDigits, numberOf, scanNumber};
 ghost use Rattle.token.specs.Code.{digitIn, upTo, valueOf, intOr, pieceOf};
 
 // A value of at most 9223372036854775807, or that it is larger.
@@ -22,6 +21,9 @@ pub enum Value {
 
 impl Value {
     pub const LONG_MOST: u64 = 9223372036854775807;
+
+    // With one more digit, of base 10 or 16, still at most LONG_MOST.
+    const SAFE_MOST: u64 = 576460752303423487;
 
     pub const INT_MOST: u64 = 2147483647;
 }
@@ -69,23 +71,18 @@ pub fn consume_digits(s: &[u8], c: Cursor, base: u64, most: usize) -> Cursor
     Cursor { at: i }
 }
 
-// The value of the run of digits that stands from c to end.
-fn digits_value(s: &[u8], c: Cursor, end: Cursor, base: u64) -> Value
-    requires { ⌜ (c .at ≤ end .at) × (end .at ≤ length (now s)) × ((base ≡ 10) ⊎ (base ≡ 16)) × (from (now s) (end .at) ≡ afterRun (head (digitIn base)) (from (now s) (c .at))) ⌝ }
-    ensures { λ r. ⌜ r ≡ valueOf (valueFrom (digitIn base) base 0 (from (now (s .entry)) (c .at))) ⌝ }
+// A value with one more digit. Most values are far from the limit, and only the others need a division.
+fn shifted(v: u64, d: u64, base: u64) -> Value
+    requires { ⌜ (d < 16) × ((base ≡ 10) ⊎ (base ≡ 16)) ⌝ }
+    ensures { λ r. ⌜ r ≡ valueOf (v * base + d) ⌝ }
 {
-    let mut v: u64 = 0;
-    let mut i = c.at;
-    let last = end.at;
-    while i < last {
-        let d = digit_value(s[i]);
-        if (Value::LONG_MOST - d) / base < v {
-            return Value::Over;
-        }
-        v = v * base + d;
-        i += 1;
+    if v <= Value::SAFE_MOST {
+        return Value::Of(v * base + d);
     }
-    Value::Of(v)
+    if (Value::LONG_MOST - d) / base < v {
+        return Value::Over;
+    }
+    Value::Of(v * base + d)
 }
 
 // Do `0x` and a hex digit stand there?
@@ -103,20 +100,35 @@ fn hex_ahead(s: &[u8], c: Cursor) -> bool
     is_digit(byte_at(s, at + 2), 16)
 }
 
-// The number from its digits on; start is where it begins.
+// The number from its digits on; start is where it begins. One walk finds the digits' end and their value.
 fn number_from(s: &[u8], start: usize, c: Cursor, base: u64) -> Piece
     requires { ⌜ (start ≤ c .at) × (c .at ≤ length (now s)) × ((base ≡ 10) ⊎ (base ≡ 16)) ⌝ }
     ensures { λ r. ⌜ r ≡ pieceOf (length (now (s .entry))) (numberOf (from (now (s .entry)) start) (readDigits (digitIn base) base 0 (from (now (s .entry)) (c .at)))) ⌝ }
 {
-    let end = consume_digits(s, c, base, s.len());
-    let value = digits_value(s, c, end, base);
-    let Value::Of(v) = value else {
-        return Piece::Refused(6, start);
-    };
-    let at = end.at;
-    match byte_at(s, at) {
-        0x4C | 0x6C => Piece::Token(TokenKind::LongLit(v), Cursor { at: at + 1 }),
-        _ => int_literal(start, v, end),
+    let mut v: u64 = 0;
+    let mut i = c.at;
+    loop {
+        let b = byte_at(s, i);
+        if !is_digit(b, base) {
+            return number_end(s, start, v, i);
+        }
+        let more = shifted(v, digit_value(b), base);
+        let Value::Of(w) = more else {
+            return Piece::Refused(6, start);
+        };
+        v = w;
+        i += 1;
+    }
+}
+
+// The number of this value whose digits end at a place: `L` or `l` makes it a LongLit.
+fn number_end(s: &[u8], start: usize, v: u64, end: usize) -> Piece
+    requires { ⌜ (start ≤ end) × (end ≤ length (now s)) × (v ≤ 9223372036854775807) ⌝ }
+    ensures { λ r. ⌜ r ≡ pieceOf (length (now (s .entry))) (numberOf (from (now (s .entry)) start) (read v (from (now (s .entry)) end))) ⌝ }
+{
+    match byte_at(s, end) {
+        0x4C | 0x6C => Piece::Token(TokenKind::LongLit(v), Cursor { at: end + 1 }),
+        _ => int_literal(start, v, Cursor { at: end }),
     }
 }
 

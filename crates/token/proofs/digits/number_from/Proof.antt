@@ -1,96 +1,128 @@
--- `digits::number_from`: The run that is walked is the run that is read; `L` or `l` is one byte.
-use Prim.Native.Nat.{_+_}
-use mathlib.Core.Path.{sym, ap, _∙_}
-use mathlib.Core.List.{[], _∷_}
+-- `digits::number_from`: The loop keeps what is read from the start; a value past the limit stays past it.
+use Prim.Native.Nat.{_≤_, _-_, _+_, _*_}
+use mathlib.Core.Path.{_≡_, refl, sym, ap, _∙_}
 use native.Mathlib.Omega.{arith}
-use lib.ListN.{length}
-use Rattle.chars.specs.Quoted.{oneOf}
-use Rattle.chars.specs.Text.{from}
-use Rattle.chars.proofs.Carry.{hits, misses}
-use Rattle.token.specs.Shapes.{valueFrom}
-use Rattle.token.specs.Answer.{numberOf}
-use Rattle.token.specs.Code.{cursorAt, pieceOf, digitIn, intOr}
-use Rattle.token.specs.declared.kinds.TokenKind.the-variants as tk
-use Rattle.token.specs.declared.piece.Piece.the-variants as piece
-use Rattle.token.proofs.DigitRuns.{walked, digits-read, fitted, overs, long-piece, int-piece, over-piece}
 use borrow.Author.Needs.{needs}
+use borrow.Author.Tests.{not-true, not-false}
+use lib.ListN.{length}
+use Rattle.chars.specs.Text.{from}
+use Rattle.token.specs.Tests.{digitValue}
+use Rattle.token.specs.Answer.{readDigits, numberOf}
+use Rattle.token.specs.Code.{pieceOf, digitIn}
+use Rattle.token.proofs.DigitRuns.{digits-ascii, digit-hex, class-at, read-next, read-stop, base-some, fitted, overs, over-read}
 use Rattle.token.proofs.digits.number_from.Statement.{statement}
 use Rattle.token.proofs.digits.number_from.Tie as tie
 
-consume-digits-requires : tie.Need-consume-digits-requires
-consume-digits-requires c κs = search needs
+abbrev Inv-loop : tie.InvT-loop
+Inv-loop s start base v₀ i₀ v i =
+    (i ≤ length s) × (i₀ ≤ i) × (v ≤ 9223372036854775807)
+    × (readDigits (digitIn base) base v (from s i) ≡ readDigits (digitIn base) base 0 (from s i₀))
 
-digits-value-requires : tie.Need-digits-value-requires
-digits-value-requires c κs =
-    let d = (c .consume-digits) in
-    (d .ensures .1, d .ensures .0, (c .before .before .pre) .2, walked (digitIn ((c .before .before .args) .base)) ((c .before .before .args) .s .now) ((c .before .before .args) .c .at) (d .result .at) (d .ensures .2))
+abbrev μ-loop : tie.MeasureT-loop
+μ-loop s start base v₀ i₀ v i = length s - i
 
-enum-known-value : tie.Need-enum-known-value
-enum-known-value c = search needs
+loop-holds : tie.Need-loop-holds Inv-loop μ-loop
+loop-holds c = (c .before .pre .1, omega arith, omega arith, refl)
 
-enum-told : tie.Need-enum-told
-enum-told c = search needs
-
-returns : tie.Need-returns
-returns c =
-    let s = (c .before .before .before .before .before .args) .s .now in
-    let start = (c .before .before .before .before .before .args) .start in
-    let at = (c .before .before .before .before .before .args) .c .at in
-    let b = (c .before .before .before .before .before .args) .base in
-    let d = (c .before .before .before .consume-digits) in
-    let end = d .result .at in
-    let v = valueFrom (digitIn b) b 0 (from s at) in
-    let q = ap (λ r. pieceOf (length s) (numberOf (from s start) r)) (digits-read (digitIn b) s at end (d .ensures .2) b) in
-    over-piece s start end v (omega arith) (overs v (sym ((c .enum-told) .given .1) ∙ (c .before .before .digits-value) .ensures)) ∙ q
-
-byte-at-requires : tie.Need-byte-at-requires
+byte-at-requires : tie.Need-byte-at-requires Inv-loop μ-loop
 byte-at-requires c κs = search needs
 
-add-t13 : tie.Need-add-t13
-add-t13 c = search needs
+is-digit-requires : tie.Need-is-digit-requires Inv-loop μ-loop
+is-digit-requires c κs = search needs
 
-int-literal-requires : tie.Need-int-literal-requires
-int-literal-requires c κs = search needs
+number-end-requires : tie.Need-number-end-requires Inv-loop μ-loop
+number-end-requires c κs = (omega arith, c .before .before .before .loop .inv .0, c .before .before .before .loop .inv .2)
 
-returns-2 : tie.Need-returns-2
+returns : tie.Need-returns Inv-loop μ-loop
+returns c =
+    let a = c .before .before .before .before .before .before .args in
+    let l = c .before .before .before .before .loop in
+    let byte-at = c .before .before .before .byte-at in
+    let s = a .s .now in
+    let b = a .base in
+    let e = ap (digitIn b) (sym (byte-at .ensures)) ∙ sym (c .before .before .is-digit .ensures) ∙ not-true _ (c .before .if1 .taken) in
+    c .number-end .ensures
+    ∙ ap (λ r. pieceOf (length s) (numberOf (from s (a .start)) r)) (read-stop (digitIn b) (digits-ascii b) s (l .i) b (l .v) e ∙ l .inv .3)
+
+digit-value-requires : tie.Need-digit-value-requires Inv-loop μ-loop
+digit-value-requires c κs = digit-hex (c .before .before .before .before .before .args .base) _ (sym (c .before .is-digit .ensures) ∙ not-false _ (c .if1 .left))
+
+shifted-requires : tie.Need-shifted-requires Inv-loop μ-loop
+shifted-requires c κs = (c .digit-value .ensures .1, c .before .before .before .before .before .before .pre .2)
+
+enum-known-more : tie.Need-enum-known-more Inv-loop μ-loop
+enum-known-more c = search needs
+
+enum-told : tie.Need-enum-told Inv-loop μ-loop
+enum-told c = search needs
+
+returns-2 : tie.Need-returns-2 Inv-loop μ-loop
 returns-2 c =
-    let s = (c .before .before .before .before .before .before .before .before .args) .s .now in
-    let start = (c .before .before .before .before .before .before .before .before .args) .start in
-    let at = (c .before .before .before .before .before .before .before .before .args) .c .at in
-    let b = (c .before .before .before .before .before .before .before .before .args) .base in
-    let d = (c .before .before .before .before .before .before .consume-digits) in
-    let end = d .result .at in
-    let v = valueFrom (digitIn b) b 0 (from s at) in
-    let q = ap (λ r. pieceOf (length s) (numberOf (from s start) r)) (digits-read (digitIn b) s at end (d .ensures .2) b) in
-    let k = fitted _ v (sym ((c .before .before .before .value) .given .1) ∙ (c .before .before .before .before .before .digits-value) .ensures) in
-    let e = ap (oneOf "Ll") (sym ((c .before .byte-at) .ensures)) ∙ hits (0x4C ∷ 0x6C ∷ []) _ ((c .match2) .keys1) in
-    ap (λ w. piece.Token (tk.LongLit w) (cursorAt (end + 1))) (k .0) ∙ long-piece s start end v (omega arith) (k .1) e ∙ q
+    let a = c .before .before .before .before .before .before .before .before .before .args in
+    let l = c .before .before .before .before .before .before .before .loop in
+    let byte-at = c .before .before .before .before .before .before .byte-at in
+    let digit-value = c .before .before .before .digit-value in
+    let s = a .s .now in
+    let b = a .base in
+    let p = digitIn b in
+    let w = l .v * b + digit-value .result in
+    let e = ap p (sym (byte-at .ensures)) ∙ sym (c .before .before .before .before .before .is-digit .ensures) ∙ not-false _ (c .before .before .before .before .if1 .left) in
+    let d = digit-value .ensures .0 ∙ ap digitValue (byte-at .ensures) in
+    let q = ap (λ k. readDigits p b (l .v * b + k) (from s (l .i + 1))) d ∙ read-next p (digits-ascii b) s (l .i) b (l .v) e ∙ l .inv .3 in
+    let o = overs w (sym (c .enum-told .given .1) ∙ c .before .before .shifted .ensures) in
+    over-read s (a .start) (omega arith) p b (base-some b (c .before .before .before .before .before .before .before .before .before .pre .2)) w (from s (l .i + 1)) o
+    ∙ ap (λ r. pieceOf (length s) (numberOf (from s (a .start)) r)) q
 
-returns-3 : tie.Need-returns-3
-returns-3 c =
-    let s = (c .before .before .before .before .before .before .before .before .before .args) .s .now in
-    let start = (c .before .before .before .before .before .before .before .before .before .args) .start in
-    let at = (c .before .before .before .before .before .before .before .before .before .args) .c .at in
-    let b = (c .before .before .before .before .before .before .before .before .before .args) .base in
-    let d = (c .before .before .before .before .before .before .before .consume-digits) in
-    let end = d .result .at in
-    let v = valueFrom (digitIn b) b 0 (from s at) in
-    let q = ap (λ r. pieceOf (length s) (numberOf (from s start) r)) (digits-read (digitIn b) s at end (d .ensures .2) b) in
-    let k = fitted _ v (sym ((c .before .before .before .before .value) .given .1) ∙ (c .before .before .before .before .before .before .digits-value) .ensures) in
-    let e = ap (oneOf "Ll") (sym ((c .before .before .byte-at) .ensures)) ∙ misses (0x4C ∷ 0x6C ∷ []) _ ((c .before .match2) .rest .1) in
-    (c .int-literal) .ensures ∙ ap (λ w. intOr start w (cursorAt end)) (k .0) ∙ int-piece s start end v (omega arith) (d .ensures .0) e ∙ q
+add-i : tie.Need-add-i Inv-loop μ-loop
+add-i c =
+    let a = c .before .before .before .before .before .before .before .before .before .before .args in
+    let l = c .before .before .before .before .before .before .before .before .loop in
+    let byte-at = c .before .before .before .before .before .before .before .byte-at in
+    let b = a .base in
+    let e = ap (digitIn b) (sym (byte-at .ensures)) ∙ sym (c .before .before .before .before .before .before .is-digit .ensures) ∙ not-false _ (c .before .before .before .before .before .if1 .left) in
+    omega (arith, class-at (digitIn b) (digits-ascii b) (a .s .now) (l .i) e .0)
+
+loop-less : tie.Need-loop-less Inv-loop μ-loop
+loop-less c =
+    let a = c .before .before .before .before .before .before .before .before .before .before .args in
+    let l = c .before .before .before .before .before .before .before .before .loop in
+    let byte-at = c .before .before .before .before .before .before .before .byte-at in
+    let b = a .base in
+    let e = ap (digitIn b) (sym (byte-at .ensures)) ∙ sym (c .before .before .before .before .before .before .is-digit .ensures) ∙ not-false _ (c .before .before .before .before .before .if1 .left) in
+    omega (arith, class-at (digitIn b) (digits-ascii b) (a .s .now) (l .i) e .0)
+
+loop-again : tie.Need-loop-again Inv-loop μ-loop
+loop-again c =
+    let a = c .before .before .before .before .before .before .before .before .before .before .args in
+    let l = c .before .before .before .before .before .before .before .before .loop in
+    let byte-at = c .before .before .before .before .before .before .before .byte-at in
+    let digit-value = c .before .before .before .before .digit-value in
+    let s = a .s .now in
+    let b = a .base in
+    let p = digitIn b in
+    let e = ap p (sym (byte-at .ensures)) ∙ sym (c .before .before .before .before .before .before .is-digit .ensures) ∙ not-false _ (c .before .before .before .before .before .if1 .left) in
+    let h = class-at p (digits-ascii b) s (l .i) e .0 in
+    let f = fitted _ (l .v * b + digit-value .result) (sym (c .before .more .given .1) ∙ c .before .before .before .shifted .ensures) in
+    let d = digit-value .ensures .0 ∙ ap digitValue (byte-at .ensures) in
+    let q = ap (λ k. readDigits p b (l .v * b + k) (from s (l .i + 1))) d ∙ read-next p (digits-ascii b) s (l .i) b (l .v) e ∙ l .inv .3 in
+    (omega arith, omega arith, omega arith, ap (λ k. readDigits p b k (from s (l .i + 1))) (f .0) ∙ q)
 
 pub number-from-spec : {M : Type 1} → statement M
 number-from-spec =
     tie.close
     (tie.spec
-    consume-digits-requires
-    digits-value-requires
-    enum-known-value
-    enum-told
-    returns
+    Inv-loop
+    μ-loop
+    loop-holds
     byte-at-requires
-    add-t13
-    int-literal-requires
+    is-digit-requires
+    number-end-requires
+    returns
+    digit-value-requires
+    shifted-requires
+    enum-known-more
+    enum-told
     returns-2
-    returns-3)
+    add-i
+    loop-less
+    loop-again)
