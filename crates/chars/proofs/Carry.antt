@@ -65,6 +65,18 @@ each-but f ks a n c h p q e =
     let z = each (λ x. not (f x) || member ks x) a n c h p q in
     not-true (f c) (sym (or-false (not (f c))) ∙ (rw e at z))
 
+-- two tests that agree at n codes from a on
+abbrev alike : Bool → Bool → Bool
+alike true y = y
+alike false y = not y
+
+agree : (x y : Bool) → alike x y ≡ true → x ≡ y
+agree true y e = sym e
+agree false y e = sym (not-true y e)
+
+pub each-same : (f g : ℕ → Bool) (a n c : ℕ) → every (λ x. alike (f x) (g x)) (span a n) ≡ true → a ≤ c → c < a + n → f c ≡ g c
+each-same f g a n c h p q = agree (f c) (g c) (each (λ x. alike (f x) (g x)) a n c h p q)
+
 -- ---- the keys of a match's arm
 
 pub hits : (ks : List ℕ) (x : ℕ) → OneOf ks x → member ks x ≡ true

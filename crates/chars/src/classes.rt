@@ -11,6 +11,7 @@ ghost use Prim.Native.Nat.{_<_, _≤_};
 ghost use mathlib.Core.Bool.{true, not, _&&_};
 ghost use Rattle.chars.specs.Quoted.{between};
 ghost use Rattle.chars.specs.Ranges.{pairs, inRanges, ascendingFrom};
+ghost use lib.Dec.{ltb};
 ghost use lib.ListN.{length};
 ghost use Rattle.chars.specs.Tables.{alphabeticTable, alphaNotLetterTable};
 ghost use Rattle.chars.specs.Classes.{isIdStart, isIdChar, isOpSign, isPrintable, lowercase, uppercase, alphabetic, alphaNotLetter, IdTables};
@@ -183,18 +184,28 @@ fn is_letter(k: u16, table: &[u16], marks: &[u16]) -> bool
     false
 }
 
-// The same for ASCII: a letter, a digit or `$`.
+// The same for ASCII.
 fn is_ascii_id_char(c: u32) -> bool
     requires { ⌜ c < 0x80 ⌝ }
     ensures { λ r. ⌜ r ≡ isIdChar c ⌝ }
 {
-    match c {
-        0x24 => true,
-        0x30..=0x39 => true,
-        0x41..=0x5A => true,
-        0x61..=0x7A => true,
-        _ => false,
+    is_id_byte(c as u8)
+}
+
+// Whether a byte is an ASCII id character: a letter, a digit or `$`. The commonest are tested first.
+fn is_id_byte(b: u8) -> bool
+    ensures { λ r. ⌜ r ≡ ltb b 0x80 && isIdChar b ⌝ }
+{
+    if 0x61 <= b {
+        return b <= 0x7A;
     }
+    if 0x41 <= b {
+        return b <= 0x5A;
+    }
+    if 0x30 <= b {
+        return b <= 0x39;
+    }
+    b == 0x24
 }
 
 // Where the run of id characters from a place on ends: a run lends the three tables once, and none while it is ASCII.
@@ -204,10 +215,10 @@ pub fn id_run_end(s: &[u8], at: usize) -> usize
     let mut i = at;
     while i < s.len() {
         let b = s[i];
-        if 0x80 <= b {
-            return lend_run_end(s, i);
-        }
-        if !is_ascii_id_char(b as u32) {
+        if !is_id_byte(b) {
+            if 0x80 <= b {
+                return lend_run_end(s, i);
+            }
             return i;
         }
         i += 1;

@@ -1,12 +1,13 @@
-use Prim.Native.Nat.{_≤_, _<_, _-_, _+_}
+use Prim.Native.Nat.{_-_}
 use mathlib.Core.Path.{_≡_, refl, sym, ap, _∙_}
-use mathlib.Core.Bool.{true, false}
 use native.Mathlib.Omega.{arith}
 use borrow.Author.Needs.{needs}
-use borrow.Author.Tests.{not-true, not-false}
-use lib.ListN.{length}
+use borrow.Author.Tests.{not-true, not-false, lt-ltb, ltb-true}
+use lib.Dec.{ltb}
+use lib.ListN.{length, getD}
 use Rattle.chars.specs.Classes.{isIdChar}
-use Rattle.chars.specs.Text.{from, place, idChar, afterRun, nextOf}
+use Rattle.chars.specs.Text.{from, place, idChar, afterRun}
+use Rattle.chars.proofs.Bools.{and-both}
 use Rattle.chars.proofs.Places.{ascii-code, ascii-next, runs-on, runs-out, runs-end}
 use Rattle.chars.proofs.classes.id_run_end.Statement.{statement}
 use Rattle.chars.proofs.classes.id_run_end.Tie as tie
@@ -23,30 +24,25 @@ loop-holds c = refl
 shared-slice-read-b : tie.Need-shared-slice-read-b Inv-loop μ-loop
 shared-slice-read-b c = search needs
 
+is-id-byte-requires : tie.Need-is-id-byte-requires Inv-loop μ-loop
+is-id-byte-requires c κs = search needs
+
 lend-run-end-requires : tie.Need-lend-run-end-requires Inv-loop μ-loop
 lend-run-end-requires c κs = search needs
 
 returns : tie.Need-returns Inv-loop μ-loop
 returns c =
-    let args = c .before .before .before .before .before .before .args in
-    let loop = c .before .before .before .before .loop in
-    c .lend-run-end .ensures ∙ ap (place (length (args .s .now))) (loop .inv)
-
-cast-is-ascii-id-char : tie.Need-cast-is-ascii-id-char Inv-loop μ-loop
-cast-is-ascii-id-char c = omega arith
-
-is-ascii-id-char-requires : tie.Need-is-ascii-id-char-requires Inv-loop μ-loop
-is-ascii-id-char-requires c κs = omega arith
+    let args = c .before .before .before .before .before .before .before .before .args in
+    c .lend-run-end .ensures ∙ ap (place (length (args .s .now))) (c .before .before .before .before .before .before .loop .inv)
 
 returns-2 : tie.Need-returns-2 Inv-loop μ-loop
 returns-2 c =
-    let args = c .before .before .before .before .before .before .before .args in
+    let s = c .before .before .before .before .before .before .before .args .s .now in
     let loop = c .before .before .before .before .before .loop in
-    let loop-test = c .before .before .before .before .loop-test in
-    let if1 = c .before .before .if1 in
-    let a = ascii-code (args .s .now) (loop .i) (loop-test .taken) (if1 .left) in
-    let e = ap isIdChar a ∙ sym (c .before .is-ascii-id-char .ensures) ∙ not-true _ (c .if2 .taken) in
-    runs-out isIdChar (args .s .now) (loop .i) _ (loop-test .taken) e (loop .inv)
+    let h = c .before .before .before .before .loop-test .taken in
+    let f = sym (c .before .before .is-id-byte .ensures) ∙ not-true _ (c .before .if1 .taken) in
+    let e = ap isIdChar (ascii-code s (loop .i) h (c .if2 .left)) ∙ (rw (lt-ltb (getD s (loop .i) 0) 0x80 (c .if2 .left)) at f) in
+    runs-out isIdChar s (loop .i) _ h e (loop .inv)
 
 add-i : tie.Need-add-i Inv-loop μ-loop
 add-i c = omega arith
@@ -56,14 +52,15 @@ loop-less c = omega arith
 
 loop-again : tie.Need-loop-again Inv-loop μ-loop
 loop-again c =
-    let args = c .before .before .before .before .before .before .before .args in
-    let loop = c .before .before .before .before .before .loop in
-    let loop-test = c .before .before .before .before .loop-test in
-    let if1 = c .before .before .if1 in
-    let a = ascii-code (args .s .now) (loop .i) (loop-test .taken) (if1 .left) in
-    let n = ascii-next (args .s .now) (loop .i) (loop-test .taken) (if1 .left) in
-    let e = ap isIdChar a ∙ sym (c .before .is-ascii-id-char .ensures) ∙ not-false _ (c .if2 .left) in
-    ap (λ j. afterRun idChar (from (args .s .now) j)) (sym n) ∙ runs-on isIdChar (args .s .now) (loop .i) _ (loop-test .taken) e (loop .inv)
+    let s = c .before .before .before .before .before .before .args .s .now in
+    let loop = c .before .before .before .before .loop in
+    let h = c .before .before .before .loop-test .taken in
+    let b = getD s (loop .i) 0 in
+    let f = and-both (ltb b 0x80) (isIdChar b) (sym (c .before .is-id-byte .ensures) ∙ not-false _ (c .if1 .left)) in
+    let l = ltb-true b 0x80 (f .0) in
+    let n = ascii-next s (loop .i) h l in
+    let e = ap isIdChar (ascii-code s (loop .i) h l) ∙ f .1 in
+    ap (λ j. afterRun idChar (from s j)) (sym n) ∙ runs-on isIdChar s (loop .i) _ h e (loop .inv)
 
 returns-3 : tie.Need-returns-3 Inv-loop μ-loop
 returns-3 c =
@@ -78,10 +75,9 @@ id-run-end-spec =
     μ-loop
     loop-holds
     shared-slice-read-b
+    is-id-byte-requires
     lend-run-end-requires
     returns
-    cast-is-ascii-id-char
-    is-ascii-id-char-requires
     returns-2
     add-i
     loop-less
