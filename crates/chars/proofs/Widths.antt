@@ -1,16 +1,16 @@
 -- How wide a character is, and the check of one character after the other.
 use Prim.Native.Nat.{ℕ, zero, suc, _+_, _-_, _≤_, _<_}
 use mathlib.Core.Path.{_≡_, refl, sym, _∙_, ap}
-use mathlib.Core.Bool.{Bool, true, false, _&&_}
+use mathlib.Core.Bool.{Bool, true, false, cond, _&&_}
 use mathlib.Core.Logic.{_⊎_, inl, inr}
 use mathlib.Core.List.{List, [], _∷_}
 use lib.ListN.{length, drop, getD, length-drop, drop-of-length-le}
 use lib.Seq.{drop-drop}
-use lib.Dec.{leb}
+use lib.Dec.{leb, ltb}
 use native.Mathlib.Omega.{arith}
-use borrow.Author.Tests.{leb-true}
+use borrow.Author.Tests.{leb-true, ltb-true}
 use Rattle.chars.specs.Ranges.{Range}
-use Rattle.chars.specs.Utf8.{table37, fits, Row, here, later, width, validFrom}
+use Rattle.chars.specs.Utf8.{table37, fits, Row, here, later, width, validFrom, asciiTwo, asciiFour, asciiStep}
 use Rattle.chars.proofs.Bools.{clash, and-both}
 use Rattle.chars.proofs.Rows as rows
 use Rattle.chars.proofs.Valid.{width-found, fit-length}
@@ -72,3 +72,47 @@ valid-end s i h = rw (drop-of-length-le s h, validFrom)
 pub valid-ascii : (s : List ℕ) (i : ℕ) → i < length s → getD s i 0 < 0x80 → validFrom (i + 1) 0 (drop (i + 1) s) ≡ validFrom i 0 (drop i s)
 valid-ascii s i h l =
     valid-next s i 1 h (ap width (rows.here s i h) ∙ sym (rows.row-00 (getD s i 0) (drop (i + 1) s) (omega arith) (omega arith))) (λ e. absurd (omega arith))
+
+-- ---- several ASCII bytes
+
+module _ (s : List ℕ) where
+  -- the check finds the same from j on as from i on
+  abbrev Same : ℕ → ℕ → Type 0
+  Same j i = validFrom j 0 (drop j s) ≡ validFrom i 0 (drop i s)
+
+  two-on : (i : ℕ) → i + 2 ≤ length s → asciiTwo s i ≡ true → Same (i + 2) i
+  unfolding asciiTwo
+  two-on i h e =
+      let b = and-both (ltb (getD s i 0) 0x80) (ltb (getD s (i + 1) 0) 0x80) e in
+      let x = valid-ascii s i (omega arith) (ltb-true (getD s i 0) 0x80 (b .0)) in
+      let y = valid-ascii s (i + 1) (omega arith) (ltb-true (getD s (i + 1) 0) 0x80 (b .1)) in
+      let z : i + 1 + 1 ≡ i + 2 = omega arith in
+      ap (λ j. validFrom j 0 (drop j s)) (sym z) ∙ y ∙ x
+
+  four-on : (i : ℕ) → i + 4 ≤ length s → asciiFour s i ≡ true → Same (i + 4) i
+  unfolding asciiFour
+  four-on i h e =
+      let b = and-both (asciiTwo s i) (asciiTwo s (i + 2)) e in
+      let z : i + 2 + 2 ≡ i + 4 = omega arith in
+      ap (λ j. validFrom j 0 (drop j s)) (sym z) ∙ two-on (i + 2) (omega arith) (b .1) ∙ two-on i (omega arith) (b .0)
+
+  nine-on : (i : ℕ) → i + 9 ≤ length s → getD s i 0 < 0x80 → asciiFour s (i + 1) ≡ true → asciiFour s (i + 5) ≡ true → Same (i + 9) i
+  nine-on i h l e f =
+      let y : i + 1 + 4 ≡ i + 5 = omega arith in
+      let z : i + 5 + 4 ≡ i + 9 = omega arith in
+      ap (λ j. validFrom j 0 (drop j s)) (sym z) ∙ four-on (i + 5) (omega arith) f
+      ∙ ap (λ j. validFrom j 0 (drop j s)) (sym y) ∙ four-on (i + 1) (omega arith) e ∙ valid-ascii s i (omega arith) l
+
+  pub step-on : (i : ℕ) → i < length s → getD s i 0 < 0x80 → (1 ≤ asciiStep s i) × (i + asciiStep s i ≤ length s) × Same (i + asciiStep s i) i
+  unfolding asciiStep
+  step-on i h l = go (leb (i + 9) (length s)) (asciiFour s (i + 1)) (asciiFour s (i + 5)) refl refl refl
+    where
+      one : (1 ≤ 1) × (i + 1 ≤ length s) × Same (i + 1) i
+      one = (omega arith, omega arith, valid-ascii s i h l)
+
+      go : (a b d : Bool) → leb (i + 9) (length s) ≡ a → asciiFour s (i + 1) ≡ b → asciiFour s (i + 5) ≡ d
+          → (1 ≤ cond (a && (b && d)) 9 1) × (i + cond (a && (b && d)) 9 1 ≤ length s) × Same (i + cond (a && (b && d)) 9 1) i
+      go true true true p q r = let k = leb-true (i + 9) (length s) p in (omega arith, k, nine-on i k l q r)
+      go true true false p q r = one
+      go true false d p q r = one
+      go false b d p q r = one

@@ -5,7 +5,7 @@ ghost use mathlib.Core.List.{[], _∷_};
 ghost use Prim.Native.Nat.{_+_, _<_, _≤_, _%_};
 ghost use lib.ListN.{drop, getD, length};
 ghost use Rattle.chars.specs.Ranges.{_to_};
-ghost use Rattle.chars.specs.Utf8.{fits, width, codeOf, decodeAt, validPrefix, LongestValid};
+ghost use Rattle.chars.specs.Utf8.{fits, width, codeOf, decodeAt, validPrefix, LongestValid, asciiTwo, asciiFour, asciiStep};
 
 // The character that stands at a byte offset, or that none does.
 pub enum Decoded {
@@ -120,6 +120,35 @@ pub fn decode(s: &[u8], at: usize) -> Decoded
     }
 }
 
+// Whether two bytes at a place are ASCII. `&` looks at both, without a branch, so that eight bytes make one test.
+fn ascii_two(s: &[u8], at: usize) -> bool
+    requires { ⌜ at + 2 ≤ length (now s) ⌝ }
+    ensures { λ r. ⌜ r ≡ asciiTwo (now (s .entry)) at ⌝ }
+{
+    (s[at] < 0x80) & (s[at + 1] < 0x80)
+}
+
+fn ascii_four(s: &[u8], at: usize) -> bool
+    requires { ⌜ at + 4 ≤ length (now s) ⌝ }
+    ensures { λ r. ⌜ r ≡ asciiFour (now (s .entry)) at ⌝ }
+{
+    ascii_two(s, at) & ascii_two(s, at + 2)
+}
+
+// How many bytes to pass where an ASCII byte stands: nine where eight more follow it.
+fn ascii_step(s: &[u8], at: usize) -> usize
+    requires { ⌜ at < length (now s) ⌝ }
+    ensures { λ r. ⌜ r ≡ asciiStep (now (s .entry)) at ⌝ }
+{
+    if s.len() - at <= 8 {
+        return 1;
+    }
+    if ascii_four(s, at + 1) & ascii_four(s, at + 5) {
+        return 9;
+    }
+    1
+}
+
 // The length of the longest prefix that is a sequence of well-formed characters.
 pub fn valid_prefix(s: &[u8]) -> usize
     ensures { λ r. ⌜ (r ≡ validPrefix (now (s .entry))) × LongestValid (now (s .entry)) r ⌝ }
@@ -127,7 +156,7 @@ pub fn valid_prefix(s: &[u8]) -> usize
     let mut i = 0;
     while i < s.len() {
         if s[i] < 0x80 {
-            i += 1;
+            i += ascii_step(s, i);
         } else {
             let w = width_at(s, i);
             if w == 0 {

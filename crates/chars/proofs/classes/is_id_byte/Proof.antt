@@ -10,19 +10,19 @@ use Rattle.chars.proofs.classes.is_id_byte.Tie as tie
 
 returns : tie.Need-returns
 unfolding isIdChar alphabetic alphaNotLetter nd
-returns c = each-same (λ x. leb x 0x7A) (λ x. ltb x 0x80 && isIdChar x) 0x61 159 (c .before .args .b) refl (omega arith) (omega arith)
+returns c = each-same (λ x. leb x _) (λ x. ltb x 0x80 && isIdChar x) 0x61 159 (c .before .args .b) refl (omega arith) (omega arith)
 
 returns-2 : tie.Need-returns-2
 unfolding isIdChar alphabetic alphaNotLetter nd
-returns-2 c = each-same (λ x. leb x 0x5A) (λ x. ltb x 0x80 && isIdChar x) 0x41 32 (c .before .before .args .b) refl (omega arith) (omega arith)
+returns-2 c = each-same (λ x. leb x _) (λ x. ltb x 0x80 && isIdChar x) 0x41 32 (c .before .before .args .b) refl (omega arith) (omega arith)
 
 returns-3 : tie.Need-returns-3
 unfolding isIdChar alphabetic alphaNotLetter nd
-returns-3 c = each-same (λ x. leb x 0x39) (λ x. ltb x 0x80 && isIdChar x) 0x30 17 (c .before .before .before .args .b) refl (omega arith) (omega arith)
+returns-3 c = each-same (λ x. leb x _) (λ x. ltb x 0x80 && isIdChar x) 0x30 17 (c .before .before .before .args .b) refl (omega arith) (omega arith)
 
 returns-4 : tie.Need-returns-4
 unfolding isIdChar alphabetic alphaNotLetter nd
-returns-4 c = each-same (λ x. eqb x 0x24) (λ x. ltb x 0x80 && isIdChar x) 0x00 48 (c .before .before .before .args .b) refl (omega arith) (omega arith)
+returns-4 c = each-same (λ x. eqb x _) (λ x. ltb x 0x80 && isIdChar x) 0x00 48 (c .before .before .before .args .b) refl (omega arith) (omega arith)
 
 pub is-id-byte-spec : {M : Type 1} → statement M
 is-id-byte-spec = tie.close (tie.spec returns returns-2 returns-3 returns-4)

@@ -1,11 +1,11 @@
-use Prim.Native.Nat.{_≤_, _-_, _+_}
-use mathlib.Core.Path.{_≡_, refl, sym, _∙_, ap}
+use Prim.Native.Nat.{_≤_, _-_}
+use mathlib.Core.Path.{_≡_, refl, sym, _∙_}
 use native.Mathlib.Omega.{arith}
 use borrow.Author.Needs.{needs}
 use lib.ListN.{length, drop}
 use Rattle.chars.specs.Utf8.{validFrom}
 use Rattle.chars.proofs.Valid.{valid}
-use Rattle.chars.proofs.Widths.{width-within, valid-stop, valid-next, valid-ascii, valid-end}
+use Rattle.chars.proofs.Widths.{width-within, valid-stop, valid-next, valid-end, step-on}
 use Rattle.chars.proofs.utf8.valid_prefix.Statement.{statement}
 use Rattle.chars.proofs.utf8.valid_prefix.Tie as tie
 
@@ -21,18 +21,32 @@ loop-holds c = (omega arith, refl)
 shared-slice-read-if1 : tie.Need-shared-slice-read-if1 Inv-loop μ-loop
 shared-slice-read-if1 c = search needs
 
+ascii-step-requires : tie.Need-ascii-step-requires Inv-loop μ-loop
+ascii-step-requires c κs = search needs
+
 add-i : tie.Need-add-i Inv-loop μ-loop
-add-i c = omega arith
+add-i c =
+    let s = c .before .before .before .before .before .before .args .s .now in
+    let loop = c .before .before .before .before .loop in
+    let h = step-on s (loop .i) (c .before .before .before .loop-test .taken) (c .before .if1 .taken) in
+    let e = c .ascii-step .ensures in
+    omega arith
 
 loop-less : tie.Need-loop-less Inv-loop μ-loop
-loop-less c = omega arith
+loop-less c =
+    let s = c .before .before .before .before .before .before .args .s .now in
+    let loop = c .before .before .before .before .loop in
+    let h = step-on s (loop .i) (c .before .before .before .loop-test .taken) (c .before .if1 .taken) in
+    let e = c .ascii-step .ensures in
+    omega arith
 
 loop-again : tie.Need-loop-again Inv-loop μ-loop
 loop-again c =
-    let args = c .before .before .before .before .before .args in
-    let loop = c .before .before .before .loop in
-    let loop-test = c .before .before .loop-test in
-    (omega arith, valid-ascii (args .s .now) (loop .i) (loop-test .taken) (c .if1 .taken) ∙ loop .inv .1)
+    let s = c .before .before .before .before .before .before .args .s .now in
+    let loop = c .before .before .before .before .loop in
+    let h = step-on s (loop .i) (c .before .before .before .loop-test .taken) (c .before .if1 .taken) in
+    let e = c .ascii-step .ensures in
+    (omega arith, rw e (h .2) ∙ loop .inv .1)
 
 width-at-requires : tie.Need-width-at-requires Inv-loop μ-loop
 width-at-requires c κs = search needs
@@ -87,6 +101,7 @@ valid-prefix-spec =
     μ-loop
     loop-holds
     shared-slice-read-if1
+    ascii-step-requires
     add-i
     loop-less
     loop-again
