@@ -4,24 +4,35 @@ use mathlib.Core.Path.{_≡_, refl, sym, _∙_, ap}
 use mathlib.Core.List.{List}
 use lib.ListN.{length, take, drop}
 use lib.Seq.{sets}
+use native.Mathlib.Numerals.{add-one}
 use native.Mathlib.Omega.{arith}
 use borrow.Author.Tests.{le-leb, lt-leb}
 use Rattle.listing_text.specs.Lines.{caseText}
-use Rattle.listing_cases.specs.Cases.{caseEnd, caseScript, countFor, caseCount}
+use Rattle.listing_cases.specs.Cases.{caseEnd, caseScript, casePlace, caseOf, countFor, caseCount}
 
 -- ---- the part of the list that is lent for a case is its script
 
-script-is : (list : List ℕ) (at end : ℕ) → end ≡ caseEnd list at → take (end - (at + 5)) (drop (at + 5) list) ≡ caseScript list at
-unfolding caseScript
-script-is list at end e = ap (λ k. take (k - (at + 5)) (drop (at + 5) list)) e
+text-is : (list : List ℕ) (at end k : ℕ) → at ≡ casePlace list k → end ≡ caseEnd list at
+    → caseText (k + 1) (take (end - (at + 5)) (drop (at + 5) list)) ≡ caseOf list k
+unfolding caseOf caseScript
+text-is list at end k p e =
+    ap (λ x. caseText (k + 1) (take (x - (at + 5)) (drop (at + 5) list))) e ∙ ap (λ x. caseText (k + 1) (caseScript list x)) p
 
-pub length-is : (number at end r : ℕ) (list : List ℕ) → end ≡ caseEnd list at
-    → r ≡ length (caseText number (take (end - (at + 5)) (drop (at + 5) list))) → r ≡ length (caseText number (caseScript list at))
-length-is number at end r list e p = p ∙ ap (λ s. length (caseText number s)) (script-is list at end e)
+pub length-of : (list : List ℕ) (at end k r : ℕ) → at ≡ casePlace list k → end ≡ caseEnd list at
+    → r ≡ length (caseText (k + 1) (take (end - (at + 5)) (drop (at + 5) list))) → r ≡ length (caseOf list k)
+length-of list at end k r p e q = q ∙ ap length (text-is list at end k p e)
 
-pub text-is : (number at end : ℕ) (list l m : List ℕ) → end ≡ caseEnd list at
-    → m ≡ sets l 0 (caseText number (take (end - (at + 5)) (drop (at + 5) list))) → m ≡ sets l 0 (caseText number (caseScript list at))
-text-is number at end list l m e p = p ∙ ap (λ s. sets l 0 (caseText number s)) (script-is list at end e)
+pub stored-of : (list l m : List ℕ) (at end k : ℕ) → at ≡ casePlace list k → end ≡ caseEnd list at
+    → m ≡ sets l 0 (caseText (k + 1) (take (end - (at + 5)) (drop (at + 5) list))) → m ≡ sets l 0 (caseOf list k)
+stored-of list l m at end k p e q = q ∙ ap (sets l 0) (text-is list at end k p e)
+
+pub place-start : (list : List ℕ) → 0 ≡ casePlace list 0
+unfolding casePlace
+place-start list = refl
+
+pub place-on : (list : List ℕ) (at next k : ℕ) → at ≡ casePlace list k → next ≡ caseEnd list at → next ≡ casePlace list (k + 1)
+unfolding casePlace
+place-on list at next k p e = rw add-one (e ∙ ap (caseEnd list) p)
 
 -- ---- counting
 

@@ -7,10 +7,9 @@ use libc::STDOUT_FILENO;
 ghost use mathlib.Core.Path.{_≡_};
 ghost use lib.ListN.{length};
 ghost use Prim.Native.Nat.{_+_, _<_, _≤_};
-ghost use Rattle.listing_cases.specs.Cases.{digit as digitOf, scriptLength, caseEnd, caseScript, caseCount};
+ghost use Rattle.listing_cases.specs.Cases.{digit as digitOf, scriptLength, caseEnd, casePlace, caseOf, caseCount};
 ghost use lib.Seq.{sets};
 ghost use Rattle.io.specs.Counts.{Counts};
-ghost use Rattle.listing_text.specs.Lines.{caseText};
 
 const HEAD_BYTES: usize = 5;
 
@@ -59,16 +58,16 @@ fn case_end(list: &[u8], at: usize) -> usize
     list.len()
 }
 
-// The text of the case at a place: the line `-- K` and its script's listing, at the start of out. The answer is the text's length.
-fn put_case(list: &[u8], at: usize, number: u64, out: &mut [u8; 510154]) -> usize
-    requires { ⌜ at + 5 ≤ length (now list) ⌝ }
-    ensures { λ r. ⌜ r ≡ length (caseText number (caseScript (now (list .entry)) at)) ⌝ }
-    ensures { λ r. ⌜ now (out .exit) ≡ sets (now (out .entry)) 0 (caseText number (caseScript (now (list .entry)) at)) ⌝ }
+// The text of the case that starts at a place, after `earlier` others, at the start of out. The answer is the text's length.
+fn put_case(list: &[u8], at: usize, earlier: u64, out: &mut [u8; 510154]) -> usize
+    requires { ⌜ (at + 5 ≤ length (now list)) × (at ≡ casePlace (now list) earlier) × (earlier ≤ at) ⌝ }
+    ensures { λ r. ⌜ r ≡ length (caseOf (now (list .entry)) earlier) ⌝ }
+    ensures { λ r. ⌜ now (out .exit) ≡ sets (now (out .entry)) 0 (caseOf (now (list .entry)) earlier) ⌝ }
     ensures { λ r. ⌜ Counts r (now (out .exit)) ⌝ }
 {
     let start = at + HEAD_BYTES;
     let end = case_end(list, at);
-    listing_text::case_text(number, &list[start..end], out)
+    listing_text::case_text(earlier + 1, &list[start..end], out)
 }
 
 // Writes the text of each case in turn, and hands back how many there are. What is written no contract can say: C's `write` has no record of
@@ -78,14 +77,14 @@ fn write_cases(list: &[u8]) -> u64
 {
     let mut text = [0u8; 510154];
     let mut at: usize = 0;
-    let mut number: u64 = 0;
+    let mut written: u64 = 0;
     while list.len() - at >= HEAD_BYTES {
-        number += 1;
-        let length = put_case(list, at, number, &mut text);
+        let length = put_case(list, at, written, &mut text);
         io::write_all(STDOUT_FILENO, &text[..length]);
         at = case_end(list, at);
+        written += 1;
     }
-    number
+    written
 }
 
 // It reads and writes, and no contract can say what.

@@ -1,5 +1,5 @@
 -- `listing_cases::put_case` meets its contract: the part that is lent is the case's script.
-use Rattle.listing_cases.proofs.CaseLaws.{length-is, text-is}
+use Rattle.listing_cases.proofs.CaseLaws.{length-of, stored-of}
 use borrow.Author.Needs.{needs}
 use Rattle.listing_cases.proofs.put_case.Statement.{statement}
 use Rattle.listing_cases.proofs.put_case.Tie as tie
@@ -9,6 +9,9 @@ add-start c = search needs
 
 case-end-requires : tie.Need-case-end-requires
 case-end-requires c κs = search needs
+
+add-case-text : tie.Need-add-case-text
+add-case-text c = search needs
 
 sub-case-text : tie.Need-sub-case-text
 sub-case-text c = search needs
@@ -24,12 +27,13 @@ case-text-requires c κs = search needs
 
 returns : tie.Need-returns
 returns c =
-    let args = c .before .before .before .before .before .args in
+    let start = c .before .before .before .before .before in
+    let args = start .args in
+    let place = start .pre .1 in
     let end = c .before .before .before .case-end in
-    let list = args .list .now in
     let text = c .case-text .ensures in
-    let sized = length-is (args .number) (args .at) (end .result) (c .case-text .result) list (end .ensures .0) (text .0) in
-    let stored = text-is (args .number) (args .at) (end .result) list (args .out .now) _ (end .ensures .0) (text .1 .0) in
+    let sized = length-of (args .list .now) (args .at) (end .result) (args .earlier) _ place (end .ensures .0) (text .0) in
+    let stored = stored-of (args .list .now) (args .out .now) _ (args .at) (end .result) (args .earlier) place (end .ensures .0) (text .1 .0) in
     (sized, (stored, text .1 .1))
 
 pub put-case-spec : {M : Type 1} → statement M
@@ -38,6 +42,7 @@ put-case-spec =
     (tie.spec
     add-start
     case-end-requires
+    add-case-text
     sub-case-text
     part-case-text-start
     part-case-text-end
