@@ -49,7 +49,8 @@ digits-are (suc zero) (suc f) n t h m =
 digits-are (suc (suc k)) (suc f) n t h m =
     let b = more-digits n k h in
     let g = fewer-digits n k h in
-    simp (le-ltb n 10 b) (digits-are (suc k) f (n / 10) ((0x30 + n % 10) ∷ t) g (omega arith) ∙ ends n (digits 10 k (n / 10 / 10) ++ (glyph (n / 10 % 10) ∷ [])) t)
+    let front = digits-are (suc k) f (n / 10) ((0x30 + n % 10) ∷ t) g (omega arith) in
+    simp (le-ltb n 10 b) (front ∙ ends n (digits 10 k (n / 10 / 10) ++ (glyph (n / 10 % 10) ∷ [])) t)
 
 pub fewest-decimal : (k n : ℕ) → Fewest 10 1 n k → k ≤ 20 → digits 10 k n ≡ decimal n
 fewest-decimal k n h m = sym (digits-are k 20 n [] h m ∙ append-nil (digits 10 k n))

@@ -123,10 +123,11 @@ pub listed-turn : {records old new later : List ℕ} {at next then from n : ℕ}
 listed-turn {records} {old} {new} {later} {at} {next} {then} {from} {n} h e p q =
     let b = drop from records in
     let line = lineText (lineOf (take n b)) in
+    let to-come = recordLines (drop (from + n) records) in
     record {
       text = h .text ++ line;
       put = put-on (h .put) q;
-      rest = append-assoc (h .text) line (recordLines (drop (from + n) records)) ∙ ap (λ t. h .text ++ t) (line-and-rest records from n e p) ∙ h .rest;
+      rest = append-assoc (h .text) line to-come ∙ ap (λ t. h .text ++ t) (line-and-rest records from n e p) ∙ h .rest;
     }
 
 pub listed-end : {records old new : List ℕ} {at next from : ℕ} → Listed records old at new next from → recordLength (drop from records) ≡ 0

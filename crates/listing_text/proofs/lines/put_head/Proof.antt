@@ -25,11 +25,15 @@ same-length c = search needs
 returns : tie.Need-returns
 unfolding headText
 returns c =
-    let line = c .before .before .before .before .before .before .before .before .before .before .before .before .before .before .before .before .before .args .line in
-    let cut = c .before .before .put-spaced3 .ensures in
-    let end = c .before .before .before .before .before .before .put-spaced2 .ensures in
-    let start = c .before .before .before .before .before .before .before .before .before .before .put-spaced .ensures in
-    let kind = c .before .before .before .before .before .before .before .before .before .before .before .before .before .before .put-number .ensures in
+    let at-cut = c .before .before in
+    let at-end = at-cut .before .before .before .before in
+    let at-start = at-end .before .before .before .before in
+    let at-kind = at-start .before .before .before .before in
+    let line = at-kind .before .before .before .args .line in
+    let cut = at-cut .put-spaced3 .ensures in
+    let end = at-end .put-spaced2 .ensures in
+    let start = at-start .put-spaced .ensures in
+    let kind = at-kind .put-number .ensures in
     let ends = put-more (line .end) (line .cut ∷ []) (end .0) (cut .0) in
     let starts = put-more (line .start) (line .end ∷ line .cut ∷ []) (start .0) ends in
     (put-on (kind .0) starts, omega (arith, kind .1, start .1, end .1, cut .1))

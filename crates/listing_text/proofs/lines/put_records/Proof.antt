@@ -11,7 +11,10 @@ use Rattle.listing_text.proofs.lines.put_records.Tie as tie
 
 abbrev Inv-loop : tie.InvT-loop
 Inv-loop out₀ at records next₀ from₀ out next from =
-    (from ≤ length records) × (length out ≡ length out₀) × (next + 10 * (length records - from) ≤ length out₀) × Listed records out₀ next₀ out next from
+    (from ≤ length records)
+    × (length out ≡ length out₀)
+    × (next + 10 * (length records - from) ≤ length out₀)
+    × Listed records out₀ next₀ out next from
 
 abbrev μ-loop : tie.MeasureT-loop
 μ-loop out₀ at records next₀ from₀ out next from = length records - from

@@ -36,13 +36,18 @@ same-length c = search needs
 returns : tie.Need-returns
 unfolding refusedText
 returns c =
-    let end = c .before .before .put-bytes3 .ensures in
-    let place = c .before .before .before .before .before .before .before .put-number2 .ensures in
-    let at = c .before .before .before .before .before .before .before .before .before .before .before .put-bytes2 .ensures in
-    let number = c .before .before .before .before .before .before .before .before .before .before .before .before .before .before .before .before .put-number .ensures in
-    let word = c .before .before .before .before .before .before .before .before .before .before .before .before .before .before .before .before .before .before .before .before .put-bytes .ensures in
+    let at-end = c .before .before in
+    let at-place = at-end .before .before .before .before .before in
+    let at-at = at-place .before .before .before .before in
+    let at-number = at-at .before .before .before .before .before in
+    let end = at-end .put-bytes3 .ensures in
+    let place = at-place .put-number2 .ensures in
+    let at = at-at .put-bytes2 .ensures in
+    let number = at-number .put-number .ensures in
+    let word = at-number .before .before .before .before .put-bytes .ensures in
+    let room = at-number .before .before .before .before .before .before .before .before .pre in
     let all = put-on (put-on (put-on (put-on word (number .0)) at) (place .0)) end in
-    (all, omega (arith, word .behind, number .1, at .behind, place .1, end .behind))
+    (all, omega (arith, room, word .behind, number .1, at .behind, place .1, end .behind))
 
 pub put-refused-spec : {M : Type 1} → statement M
 put-refused-spec =

@@ -19,7 +19,8 @@ same-length c = search needs
 returns-2 : tie.Need-returns-2
 returns-2 c =
     let first = c .before .before .before .before .put-spaced .ensures in
-    (put-as (one-value (c .before .before .before .before .before .before .before .before .before .args .line) (c .if2 .taken)) (first .0), omega (arith, first .1))
+    let line = c .before .before .before .before .before .before .before .before .before .args .line in
+    (put-as (one-value line (c .if2 .taken)) (first .0), omega (arith, first .1))
 
 put-spaced-requires-2 : tie.Need-put-spaced-requires-2
 put-spaced-requires-2 c κs = search needs

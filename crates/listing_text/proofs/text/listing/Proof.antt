@@ -11,7 +11,8 @@ put-listing-requires c κs = search needs
 returns : tie.Need-returns
 returns c =
     let put = c .put-listing .ensures in
-    (omega (arith, put .0 .behind), (put .0 .stored, counted _ (c .before .before .before .args .out .now) (c .put-listing .last .0) (put .1) (c .put-listing .kept .0)))
+    let out = c .before .before .before .args .out .now in
+    (omega (arith, put .0 .behind), (put .0 .stored, counted _ out (c .put-listing .last .0) (put .1) (c .put-listing .kept .0)))
 
 pub listing-spec : {M : Type 1} → statement M
 listing-spec = tie.close (tie.spec put-listing-requires returns)

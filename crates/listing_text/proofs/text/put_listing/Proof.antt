@@ -19,7 +19,8 @@ returns : tie.Need-returns
 returns c =
     let put = c .before .before .put-bytes .ensures in
     let start = c .before .before .before .before .before .before .before .before in
-    (put-as (long-text (start .args .script .now) (c .before .before .before .before .before .if1 .taken)) put, omega (arith, put .behind, start .pre))
+    let long = c .before .before .before .before .before .if1 .taken in
+    (put-as (long-text (start .args .script .now) long) put, omega (arith, put .behind, start .pre))
 
 records-space-requires : tie.Need-records-space-requires
 records-space-requires c κs = search needs
@@ -51,11 +52,12 @@ same-length-2 c = search needs
 returns-2 : tie.Need-returns-2
 returns-2 c =
     let put = c .before .before .put-answer .ensures in
-    let host = c .before .before .before .before .before .before .before .before .ergo-tokenize .ensures .0 in
-    let block = c .before .before .before .before .before .before .before .before .before .before .before .block-space .ensures in
-    let records = c .before .before .before .before .before .before .before .before .before .before .before .before .records-space .ensures .0 in
-    let short = c .before .before .before .before .before .before .before .before .before .before .before .before .before .if1 .left in
-    let script = c .before .before .before .before .before .before .before .before .before .before .before .before .before .before .before .before .args .script .now in
+    let entry = c .before .before .before .before .before .before .before .before in
+    let host = entry .ergo-tokenize .ensures .0 in
+    let block = entry .before .before .before .block-space .ensures in
+    let records = entry .before .before .before .before .records-space .ensures .0 in
+    let short = entry .before .before .before .before .before .if1 .left in
+    let script = entry .before .before .before .before .before .before .before .before .args .script .now in
     (put-as (short-text script _ _ _ short records block host) (put .0), put .1)
 
 pub put-listing-spec : {M : Type 1} → statement M
