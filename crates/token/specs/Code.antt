@@ -80,6 +80,16 @@ inSingle p s =
 unfoldable pub isOrdinary : ℕ → Bool
 isOrdinary c = not (oneOf "\n\"$\\" c)
 
+-- quotes at a place, by bytes
+unfoldable pub twoQuotes : List ℕ → ℕ → Bool
+twoQuotes s i = eqb (getD s i 0) 0x22 && eqb (getD s (i + 1) 0) 0x22
+
+unfoldable pub fourQuotes : List ℕ → ℕ → Bool
+fourQuotes s i = twoQuotes s i && twoQuotes s (i + 2)
+
+unfoldable pub eightQuotes : List ℕ → ℕ → Bool
+eightQuotes s i = leb (i + 8) (length s) && (fourQuotes s i && fourQuotes s (i + 4))
+
 -- a `$` in a prefixed string
 unfoldable pub dollarOf : ℕ → Text → Ended
 dollarOf n s = cond (dollarBrace s) (ended.Refused 11 (place n s)) (ended.At (cursorAt (place n (drop 1 s))))

@@ -15,14 +15,22 @@ Inv-loop s i₀ i = (i ≤ length s) × (afterRun quote (from s i) ≡ afterRun 
 abbrev μ-loop : tie.MeasureT-loop
 μ-loop s i₀ i = length s - i
 
+consume-eights-requires : tie.Need-consume-eights-requires Inv-loop μ-loop
+consume-eights-requires c κs = c .before .pre
+
 loop-holds : tie.Need-loop-holds Inv-loop μ-loop
-loop-holds c = ((c .pre), refl)
+loop-holds c = (c .consume-eights .ensures .0, refl)
 
 shared-slice-read-if1 : tie.Need-shared-slice-read-if1 Inv-loop μ-loop
 shared-slice-read-if1 c = c .before .loop-test .taken
 
 returns : tie.Need-returns Inv-loop μ-loop
-returns c = (c .before .before .before .loop .inv .0, quotes-stop (c .before .before .before .before .args .s .now) _ (c .before .before .loop-test .taken) (c .if1 .taken) ∙ c .before .before .before .loop .inv .1)
+returns c =
+    let s = c .before .before .before .before .before .before .args .s .now in
+    let loop = c .before .before .before .loop in
+    let h = c .before .before .loop-test .taken in
+    let eights = c .before .before .before .before .consume-eights .ensures in
+    (loop .inv .0, quotes-stop s _ h (c .if1 .taken) ∙ loop .inv .1 ∙ eights .1)
 
 add-i : tie.Need-add-i Inv-loop μ-loop
 add-i c = let h = c .before .before .loop-test .taken in omega arith
@@ -32,11 +40,16 @@ loop-less c = let h = c .before .before .loop-test .taken in omega arith
 
 loop-again : tie.Need-loop-again Inv-loop μ-loop
 loop-again c =
+    let s = c .before .before .before .before .before .before .args .s .now in
+    let loop = c .before .before .before .loop in
     let h = c .before .before .loop-test .taken in
-    (omega arith, quotes-next (c .before .before .before .before .args .s .now) _ h (c .if1 .left) ∙ c .before .before .before .loop .inv .1)
+    (omega arith, quotes-next s _ h (c .if1 .left) ∙ loop .inv .1)
 
 returns-2 : tie.Need-returns-2 Inv-loop μ-loop
-returns-2 c = (c .before .loop .inv .0, quotes-end (c .before .before .args .s .now) _ (c .loop-test .left) ∙ c .before .loop .inv .1)
+returns-2 c =
+    let s = c .before .before .before .before .args .s .now in
+    let loop = c .before .loop in
+    (loop .inv .0, quotes-end s _ (c .loop-test .left) ∙ loop .inv .1 ∙ c .before .before .consume-eights .ensures .1)
 
 pub consume-quotes-spec : {M : Type 1} → statement M
 consume-quotes-spec =
@@ -44,6 +57,7 @@ consume-quotes-spec =
     (tie.spec
     Inv-loop
     μ-loop
+    consume-eights-requires
     loop-holds
     shared-slice-read-if1
     returns
