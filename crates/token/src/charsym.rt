@@ -2,9 +2,9 @@
 use crate::cursor::Cursor;
 use crate::cursor::Peeked;
 use crate::cursor::byte_at;
-use crate::ident::consume_id_rest;
 use crate::ident::consume_op_run;
 use crate::ident::opens_comment;
+use crate::ident::skip_id_rest;
 use crate::kinds::TokenKind;
 use crate::piece::Ended;
 use crate::piece::Piece;
@@ -82,7 +82,7 @@ fn lex_symbol(s: &[u8], c: Cursor) -> Piece
         return Piece::Refused(16, c.at);
     };
     if chars::classes::is_id_start(code) {
-        return Piece::Token(TokenKind::CharSym, consume_id_rest(s, next));
+        return Piece::Token(TokenKind::CharSym, skip_id_rest(s, next));
     }
     if chars::classes::is_op_char(code) {
         if opens_comment(s, c) {

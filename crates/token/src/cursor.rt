@@ -59,6 +59,18 @@ impl Cursor {
         }
     }
 
+    // Past one character, if one stands there.
+    pub fn step(self, s: &[u8]) -> Cursor
+        requires { ⌜ self .at ≤ length (now s) ⌝ }
+        ensures { λ r. ⌜ (r .at ≤ length (now (s .entry))) × (from (now (s .entry)) (r .at) ≡ drop 1 (from (now (s .entry)) (self .at))) ⌝ }
+    {
+        let here = chars::text::char_at(s, self.at);
+        match here {
+            Step::Char { code: _, next } => Cursor { at: next },
+            Step::End => self,
+        }
+    }
+
     // Past the spaces and tabs that stand there.
     pub fn skip_blanks(self, s: &[u8]) -> Cursor
         requires { ⌜ self .at ≤ length (now s) ⌝ }

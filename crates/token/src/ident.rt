@@ -69,20 +69,20 @@ fn consume_signs(s: &[u8], c: Cursor) -> Cursor
     }
 }
 
-// Past an identifier's rest. Most have no underscore: then one run of id characters is all of it.
-pub fn consume_id_rest(s: &[u8], c: Cursor) -> Cursor
+// Past an identifier's rest. Most have no underscore: then one run of id characters is all of it, and no chunks are counted.
+pub fn skip_id_rest(s: &[u8], c: Cursor) -> Cursor
     requires { ⌜ c .at ≤ length (now s) ⌝ }
     ensures { λ r. ⌜ (r .at ≤ length (now (s .entry))) × (from (now (s .entry)) (r .at) ≡ afterIdent false (from (now (s .entry)) (c .at))) ⌝ }
 {
     let end = chars::classes::id_run_end(s, c.at);
     if byte_at(s, end) == 0x5F {
-        return consume_chunks(s, Cursor { at: end });
+        return consume_id_rest(s, Cursor { at: end });
     }
     Cursor { at: end }
 }
 
 // The same by chunks, each of zero or more underscores and one or more id characters, then signs where underscores are left.
-fn consume_chunks(s: &[u8], c: Cursor) -> Cursor
+fn consume_id_rest(s: &[u8], c: Cursor) -> Cursor
     requires { ⌜ c .at ≤ length (now s) ⌝ }
     ensures { λ r. ⌜ (r .at ≤ length (now (s .entry))) × (from (now (s .entry)) (r .at) ≡ afterIdent false (from (now (s .entry)) (c .at))) ⌝ }
 {
@@ -266,7 +266,7 @@ pub fn lex_ident(s: &[u8], c: Cursor, rest: Cursor) -> Piece
     requires { ⌜ (c .at ≤ length (now s)) × (head isIdStart (from (now s) (c .at)) ≡ true) × (rest .at ≤ length (now s)) × (from (now s) (rest .at) ≡ drop 1 (from (now s) (c .at))) ⌝ }
     ensures { λ r. ⌜ r ≡ pieceOf (length (now (s .entry))) (scanIdent (length (now (s .entry))) (from (now (s .entry)) (c .at))) ⌝ }
 {
-    let end = consume_id_rest(s, rest);
+    let end = skip_id_rest(s, rest);
     let word = word_keyword(s, c.at, end.at);
     match word {
         Keyword::Is(k) => Piece::Token(TokenKind::Kw(k), end),

@@ -72,11 +72,11 @@ fn lex_wide_word(s: &[u8], c: Cursor) -> Piece
     ensures { λ r. ⌜ r ≡ pieceOf (length (now (s .entry))) (scan (length (now (s .entry))) (from (now (s .entry)) (c .at))) ⌝ }
 {
     let here = c.peek(s);
-    let Peeked::Char(code, next) = here else {
+    let Peeked::Char(code, _) = here else {
         return Piece::Refused(3, c.at);
     };
     if chars::classes::is_id_start(code) {
-        return crate::ident::lex_ident(s, c, next);
+        return crate::ident::lex_ident(s, c, c.step(s));
     }
     if chars::classes::is_op_char(code) {
         return crate::ident::lex_op_run(s, c);

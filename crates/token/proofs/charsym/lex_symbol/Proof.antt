@@ -26,8 +26,8 @@ returns c =
 is-id-start-requires : tie.Need-is-id-start-requires
 is-id-start-requires c κs = search needs
 
-consume-id-rest-requires : tie.Need-consume-id-rest-requires
-consume-id-rest-requires c κs =
+skip-id-rest-requires : tie.Need-skip-id-rest-requires
+skip-id-rest-requires c κs =
     let s = (c .before .before .before .before .before .before .before .args) .s .now in
     let at = (c .before .before .before .before .before .before .before .args) .c .at in
     peeked-char s at _ _ (sym ((c .before .before .before .here) .given .1) ∙ (c .before .before .before .before .before .peek) .ensures) .within
@@ -37,7 +37,7 @@ returns-2 c =
     let s = (c .before .before .before .before .before .before .before .before .args) .s .now in
     let at = (c .before .before .before .before .before .before .before .before .args) .c .at in
     let h = peeked-char s at _ _ (sym ((c .before .before .before .before .here) .given .1) ∙ (c .before .before .before .before .before .before .peek) .ensures) in
-    sym-token s ((c .consume-id-rest) .result .at) _ _ ((c .consume-id-rest) .ensures .0) ((c .consume-id-rest) .ensures .1) (word-is _ _ _ _ h (sym ((c .before .before .is-id-start) .ensures) ∙ (c .before .if1) .taken))
+    sym-token s ((c .skip-id-rest) .result .at) _ _ ((c .skip-id-rest) .ensures .0) ((c .skip-id-rest) .ensures .1) (word-is _ _ _ _ h (sym ((c .before .before .is-id-start) .ensures) ∙ (c .before .if1) .taken))
 
 is-op-char-requires : tie.Need-is-op-char-requires
 is-op-char-requires c κs = search needs
@@ -95,7 +95,7 @@ lex-symbol-spec =
     enum-told
     returns
     is-id-start-requires
-    consume-id-rest-requires
+    skip-id-rest-requires
     returns-2
     is-op-char-requires
     opens-comment-requires

@@ -13,15 +13,15 @@ use borrow.Author.Needs.{needs}
 use Rattle.token.proofs.ident.lex_ident.Statement.{statement}
 use Rattle.token.proofs.ident.lex_ident.Tie as tie
 
-consume-id-rest-requires : tie.Need-consume-id-rest-requires
-consume-id-rest-requires c κs = c .before .pre .2
+skip-id-rest-requires : tie.Need-skip-id-rest-requires
+skip-id-rest-requires c κs = c .before .pre .2
 
 word-keyword-requires : tie.Need-word-keyword-requires
 word-keyword-requires c κs =
     let s = c .before .before .args .s .now in
     let i = c .before .before .args .c .at in
     let pre = c .before .before .pre in
-    let e = c .consume-id-rest .ensures in
+    let e = c .skip-id-rest .ensures in
     left-to s i _ _ (pre .0) (e .0) (e .1 ∙ ap (afterIdent false) (pre .3)) (ident-left (from s i) (pre .1))
 
 enum-known-word : tie.Need-enum-known-word
@@ -35,15 +35,15 @@ or-prefixed-requires c κs =
     let s = c .before .before .before .before .before .args .s .now in
     let i = c .before .before .before .before .before .args .c .at in
     let pre = c .before .before .before .before .before .pre in
-    let e = c .before .before .before .consume-id-rest .ensures in
+    let e = c .before .before .before .skip-id-rest .ensures in
     let l = left-to s i _ _ (pre .0) (e .0) (e .1 ∙ ap (afterIdent false) (pre .3)) (ident-left (from s i) (pre .1)) in
     (l .0, l .1)
 
 returns : tie.Need-returns
 returns c =
     let s = c .before .before .before .before .before .before .args .s .now in
-    let e = c .before .before .before .before .consume-id-rest .ensures in
-    let r = from s (c .before .before .before .before .consume-id-rest .result .at) in
+    let e = c .before .before .before .before .skip-id-rest .ensures in
+    let r = from s (c .before .before .before .before .skip-id-rest .result .at) in
     let q = e .1 ∙ ap (afterIdent false) (c .before .before .before .before .before .before .pre .3) in
     let k = c .before .word .given .0 .0 in
     let key = key-is _ k (sym (c .before .word .given .1) ∙ c .before .before .before .word-keyword .ensures) in
@@ -53,8 +53,8 @@ returns c =
 returns-2 : tie.Need-returns-2
 returns-2 c =
     let s = c .before .before .before .before .before .before .args .s .now in
-    let e = c .before .before .before .before .consume-id-rest .ensures in
-    let r = from s (c .before .before .before .before .consume-id-rest .result .at) in
+    let e = c .before .before .before .before .skip-id-rest .ensures in
+    let r = from s (c .before .before .before .before .skip-id-rest .result .at) in
     let q = e .1 ∙ ap (afterIdent false) (c .before .before .before .before .before .before .pre .3) in
     let key = key-not _ (sym (c .before .enum-told .given .1) ∙ c .before .before .before .word-keyword .ensures) in
     let w = scan-word (length s) (from s (c .before .before .before .before .before .before .args .c .at)) r none q key in
@@ -64,7 +64,7 @@ pub lex-ident-spec : {M : Type 1} → statement M
 lex-ident-spec =
     tie.close
     (tie.spec
-    consume-id-rest-requires
+    skip-id-rest-requires
     word-keyword-requires
     enum-known-word
     enum-told

@@ -1,7 +1,7 @@
 use mathlib.Core.Path.{_≡_, sym, _∙_, ap}
 use mathlib.Core.Bool.{true, false}
 use native.Mathlib.Omega.{arith}
-use lib.ListN.{length, drop}
+use lib.ListN.{length}
 use Rattle.chars.specs.Classes.{isIdStart, isOpSign}
 use Rattle.chars.specs.Text.{from, head}
 use Rattle.chars.proofs.Places.{place-from}
@@ -32,24 +32,27 @@ returns c =
 is-id-start-requires : tie.Need-is-id-start-requires
 is-id-start-requires c κs = search needs
 
+step-requires : tie.Need-step-requires
+step-requires c κs = search needs
+
 lex-ident-requires : tie.Need-lex-ident-requires
 lex-ident-requires c κs =
-    let args = c .before .before .before .before .before .before .before .args in
-    let here = c .before .before .before .here in
-    let peek = c .before .before .before .before .before .peek in
-    let h = peeked-char (args .s .now) (args .c .at) _ _ (sym (here .given .1) ∙ peek .ensures) in
-    (omega arith, ap (head isIdStart) (h .text) ∙ sym (c .before .is-id-start .ensures) ∙ c .if1 .taken, h .within, sym (ap (drop 1) (h .text)))
-
-returns-2 : tie.Need-returns-2
-returns-2 c =
     let args = c .before .before .before .before .before .before .before .before .args in
     let here = c .before .before .before .before .here in
     let peek = c .before .before .before .before .before .before .peek in
-    let is-id-start = c .before .before .is-id-start in
-    let pre = c .before .before .before .before .before .before .before .before .pre in
+    let h = peeked-char (args .s .now) (args .c .at) _ _ (sym (here .given .1) ∙ peek .ensures) in
+    (omega arith, ap (head isIdStart) (h .text) ∙ sym (c .before .before .is-id-start .ensures) ∙ c .before .if1 .taken, c .step .ensures .0, c .step .ensures .1)
+
+returns-2 : tie.Need-returns-2
+returns-2 c =
+    let args = c .before .before .before .before .before .before .before .before .before .args in
+    let here = c .before .before .before .before .before .here in
+    let peek = c .before .before .before .before .before .before .before .peek in
+    let is-id-start = c .before .before .before .is-id-start in
+    let pre = c .before .before .before .before .before .before .before .before .before .pre in
     let s = args .s .now in
     let h = peeked-char s (args .c .at) _ _ (sym (here .given .1) ∙ peek .ensures) in
-    let e = ap (head isIdStart) (h .text) ∙ sym (is-id-start .ensures) ∙ c .before .if1 .taken in
+    let e = ap (head isIdStart) (h .text) ∙ sym (is-id-start .ensures) ∙ c .before .before .if1 .taken in
     c .lex-ident .ensures ∙ ap (pieceOf (length s)) (sym (word-at s (args .c .at) (pre .0) (pre .2) e))
 
 is-op-char-requires : tie.Need-is-op-char-requires
@@ -94,6 +97,7 @@ lex-wide-word-spec =
     enum-told
     returns
     is-id-start-requires
+    step-requires
     lex-ident-requires
     returns-2
     is-op-char-requires
