@@ -14,7 +14,7 @@ ghost use Rattle.chars.specs.Ranges.{pairs, inRanges, ascendingFrom};
 ghost use lib.Dec.{ltb};
 ghost use lib.ListN.{length};
 ghost use Rattle.chars.specs.Tables.{alphabeticTable, alphaNotLetterTable};
-ghost use Rattle.chars.specs.Classes.{isIdStart, isIdChar, isOpSign, isPrintable, lowercase, uppercase, alphabetic, alphaNotLetter, IdTables};
+ghost use Rattle.chars.specs.Classes.{isIdStart, isIdChar, isOpSign, isPrintable, plainIdChar, lowercase, uppercase, alphabetic, alphaNotLetter, IdTables};
 ghost use Rattle.chars.specs.Text.{from, place, idChar, afterRun};
 
 // The last code that the tables speak of.
@@ -94,13 +94,16 @@ pub fn is_printable_char(c: u32) -> bool
     c < 0xFFF0
 }
 
-// Whether c may start an identifier. A table is written to the stack where a function that lends it begins, so that ASCII has to be
-// answered before such a function is called.
+// Whether c may start an identifier. A table is written to the stack where a function that lends it begins, so that ASCII and the Russian
+// letters are answered before such a function is called.
 pub fn is_id_start(c: u32) -> bool
     ensures { λ r. ⌜ r ≡ isIdStart c ⌝ }
 {
     if c < 0x80 {
         return is_ascii_id_start(c);
+    }
+    if is_between(0x0410, 0x044F, c) {
+        return true;
     }
     if LAST < c {
         return false;
@@ -217,7 +220,7 @@ pub fn id_run_end(s: &[u8], at: usize) -> usize
         let b = s[i];
         if !is_id_byte(b) {
             if 0x80 <= b {
-                return lend_run_end(s, i);
+                return plain_run_end(s, i);
             }
             return i;
         }
@@ -226,7 +229,38 @@ pub fn id_run_end(s: &[u8], at: usize) -> usize
     s.len()
 }
 
-// The same past ASCII: lends the tables.
+// Whether c continues an identifier by a test without tables: ASCII, and the Russian letters, which make up most text past ASCII.
+fn is_plain_id_char(c: u32) -> bool
+    ensures { λ r. ⌜ r ≡ plainIdChar c ⌝ }
+{
+    if c < 0x80 {
+        return is_ascii_id_char(c);
+    }
+    is_between(0x0410, 0x044F, c)
+}
+
+// The same from the first character past ASCII on. The tables are lent at the first that needs them.
+fn plain_run_end(s: &[u8], at: usize) -> usize
+    ensures { λ r. ⌜ r ≡ place (length (now (s .entry))) (afterRun idChar (from (now (s .entry)) at)) ⌝ }
+{
+    let mut i = at;
+    while i < s.len() {
+        let here = char_at(s, i);
+        let Step::Char { code, next } = here else {
+            return i;
+        };
+        if !is_plain_id_char(code) {
+            if 0x80 <= code {
+                return lend_run_end(s, i);
+            }
+            return i;
+        }
+        i = next;
+    }
+    s.len()
+}
+
+// The same where a character needs the tables: lends them.
 fn lend_run_end(s: &[u8], at: usize) -> usize
     ensures { λ r. ⌜ r ≡ place (length (now (s .entry))) (afterRun idChar (from (now (s .entry)) at)) ⌝ }
 {

@@ -204,14 +204,6 @@ fn replay(list: &[u8], records: &mut [u8]) -> Counts
     }
 }
 
-// No ensures: no contract can speak of what was written to standard output.
-fn print_result(counts: Counts) {
-    io::print_decimal(STDOUT_FILENO, counts.scripts);
-    io::write_all(STDOUT_FILENO, b" scripts replayed, ");
-    io::print_decimal(STDOUT_FILENO, counts.differ);
-    io::write_all(STDOUT_FILENO, b" differ\n");
-}
-
 // Room for the list.
 fn list_space() -> [u8; 1048576]
     ensures { λ r. ⌜ r ≡ zeros 1048576 ⌝ }
@@ -220,10 +212,14 @@ fn list_space() -> [u8; 1048576]
     [0; 1048576]
 }
 
+// No ensures: no contract can speak of what was written to standard output.
 fn main() {
     let mut list = list_space();
     let mut records = io::large_buffer();
     let n = io::read_full(STDIN_FILENO, &mut list);
     let counts = replay(&list[..n], &mut records);
-    print_result(counts);
+    io::print_decimal(STDOUT_FILENO, counts.scripts);
+    io::write_all(STDOUT_FILENO, b" scripts replayed, ");
+    io::print_decimal(STDOUT_FILENO, counts.differ);
+    io::write_all(STDOUT_FILENO, b" differ\n");
 }

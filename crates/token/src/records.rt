@@ -80,9 +80,7 @@ fn walk_script(s: &[u8], out: &mut [u8], stores: bool) -> Measured
                 put_if(out, b, TokenKind::Eof, last, last, cut, stores);
                 return Measured::Total(n + 1, b + TokenKind::HEAD_LENGTH as usize);
             }
-            Next::Refused(number, place) => {
-                return Measured::Stopped(number, place);
-            }
+            Next::Refused(number, place) => return Measured::Stopped(number, place),
         }
     }
 }

@@ -27,13 +27,13 @@ shared-slice-read-b c = search needs
 is-id-byte-requires : tie.Need-is-id-byte-requires Inv-loop μ-loop
 is-id-byte-requires c κs = search needs
 
-lend-run-end-requires : tie.Need-lend-run-end-requires Inv-loop μ-loop
-lend-run-end-requires c κs = search needs
+plain-run-end-requires : tie.Need-plain-run-end-requires Inv-loop μ-loop
+plain-run-end-requires c κs = search needs
 
 returns : tie.Need-returns Inv-loop μ-loop
 returns c =
     let args = c .before .before .before .before .before .before .before .before .args in
-    c .lend-run-end .ensures ∙ ap (place (length (args .s .now))) (c .before .before .before .before .before .before .loop .inv)
+    c .plain-run-end .ensures ∙ ap (place (length (args .s .now))) (c .before .before .before .before .before .before .loop .inv)
 
 returns-2 : tie.Need-returns-2 Inv-loop μ-loop
 returns-2 c =
@@ -76,7 +76,7 @@ id-run-end-spec =
     loop-holds
     shared-slice-read-b
     is-id-byte-requires
-    lend-run-end-requires
+    plain-run-end-requires
     returns
     returns-2
     add-i

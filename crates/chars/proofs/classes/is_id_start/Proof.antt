@@ -3,7 +3,7 @@ use mathlib.Core.Bool.{true, false, _||_}
 use native.Mathlib.Omega.{arith}
 use Rattle.chars.specs.Classes.{lowercase, uppercase}
 use Rattle.chars.proofs.Ranges.{in-between, not-between}
-use Rattle.chars.proofs.ClassLaws.{above-no-start, circled-no-start, wide-start}
+use Rattle.chars.proofs.ClassLaws.{above-no-start, circled-no-start, wide-start, russian-start}
 use borrow.Author.Needs.{needs}
 use Rattle.chars.proofs.classes.is_id_start.Statement.{statement}
 use Rattle.chars.proofs.classes.is_id_start.Tie as tie
@@ -14,20 +14,31 @@ is-ascii-id-start-requires c κs = search needs
 returns : tie.Need-returns
 returns c = search needs
 
-returns-2 : tie.Need-returns-2
-returns-2 c =
-    let args = c .before .before .args in
-    sym (above-no-start (args .c) (omega arith))
-
 is-between-requires : tie.Need-is-between-requires
 is-between-requires c κs = search needs
 
+returns-2 : tie.Need-returns-2
+returns-2 c =
+    let args′ = c .before .before .before .args in
+    let is-between′ = c .before .is-between in
+    let if2′ = c .if2 in
+    sym (russian-start (args′ .c) (sym (is-between′ .ensures) ∙ if2′ .taken))
+
 returns-3 : tie.Need-returns-3
 returns-3 c =
-    let args = c .before .before .before .before .args in
-    let x = args .c in
-    let r = in-between _ _ x (sym (c .before .is-between .ensures) ∙ c .if3 .taken) in
-    sym (circled-no-start x (omega arith) (omega arith))
+    let args′ = c .before .before .before .before .args in
+    sym (above-no-start (args′ .c) (omega arith))
+
+is-between-requires-2 : tie.Need-is-between-requires-2
+is-between-requires-2 c κs = search needs
+
+returns-4 : tie.Need-returns-4
+returns-4 c =
+    let args′ = c .before .before .before .before .before .before .args in
+    let is-between2′ = c .before .is-between2 in
+    let if4′ = c .if4 in
+    let r = in-between _ _ (args′ .c) (sym (is-between2′ .ensures) ∙ if4′ .taken) in
+    sym (circled-no-start (args′ .c) (omega arith) (omega arith))
 
 cast-k : tie.Need-cast-k
 cast-k c = search needs
@@ -35,29 +46,31 @@ cast-k c = search needs
 is-lowercase-requires : tie.Need-is-lowercase-requires
 is-lowercase-requires c κs = search needs
 
-returns-4 : tie.Need-returns-4
-returns-4 c =
-    let args = c .before .before .before .before .before .before .args in
-    let is-between = c .before .before .before .is-between in
-    let if3 = c .before .before .if3 in
-    let x = args .c in
-    let out = not-between _ _ x (sym (is-between .ensures) ∙ if3 .left) in
-    let low : lowercase x ≡ true = sym (c .before .is-lowercase .ensures) ∙ c .if4 .taken in
-    sym (wide-start x (omega arith) (omega arith) (λ l. omega (arith, out (omega arith))) ∙ ap (λ b. b || uppercase x) low)
+returns-5 : tie.Need-returns-5
+returns-5 c =
+    let args′ = c .before .before .before .before .before .before .before .before .args in
+    let is-between2′ = c .before .before .before .is-between2 in
+    let if4′ = c .before .before .if4 in
+    let is-lowercase′ = c .before .is-lowercase in
+    let if5′ = c .if5 in
+    let out = not-between _ _ (args′ .c) (sym (is-between2′ .ensures) ∙ if4′ .left) in
+    let low : lowercase (args′ .c) ≡ true = sym (is-lowercase′ .ensures) ∙ if5′ .taken in
+    sym (wide-start (args′ .c) (omega arith) (omega arith) (λ l. omega (arith, out (omega arith))) ∙ ap (λ b. b || uppercase (args′ .c)) low)
 
 is-uppercase-requires : tie.Need-is-uppercase-requires
 is-uppercase-requires c κs = search needs
 
-returns-5 : tie.Need-returns-5
-returns-5 c =
-    let args = c .before .before .before .before .before .before .before .args in
-    let is-between = c .before .before .before .before .is-between in
-    let if3 = c .before .before .before .if3 in
-    let is-lowercase = c .before .before .is-lowercase in
-    let x = args .c in
-    let out = not-between _ _ x (sym (is-between .ensures) ∙ if3 .left) in
-    let low : lowercase x ≡ false = sym (is-lowercase .ensures) ∙ c .before .if4 .left in
-    c .is-uppercase .ensures ∙ sym (wide-start x (omega arith) (omega arith) (λ l. omega (arith, out (omega arith))) ∙ ap (λ b. b || uppercase x) low)
+returns-6 : tie.Need-returns-6
+returns-6 c =
+    let args′ = c .before .before .before .before .before .before .before .before .before .args in
+    let is-between2′ = c .before .before .before .before .is-between2 in
+    let if4′ = c .before .before .before .if4 in
+    let is-lowercase′ = c .before .before .is-lowercase in
+    let if5′ = c .before .if5 in
+    let is-uppercase′ = c .is-uppercase in
+    let out = not-between _ _ (args′ .c) (sym (is-between2′ .ensures) ∙ if4′ .left) in
+    let low : lowercase (args′ .c) ≡ false = sym (is-lowercase′ .ensures) ∙ if5′ .left in
+    is-uppercase′ .ensures ∙ sym (wide-start (args′ .c) (omega arith) (omega arith) (λ l. omega (arith, out (omega arith))) ∙ ap (λ b. b || uppercase (args′ .c)) low)
 
 pub is-id-start-spec : {M : Type 1} → statement M
 is-id-start-spec =
@@ -65,11 +78,13 @@ is-id-start-spec =
     (tie.spec
     is-ascii-id-start-requires
     returns
-    returns-2
     is-between-requires
+    returns-2
     returns-3
+    is-between-requires-2
+    returns-4
     cast-k
     is-lowercase-requires
-    returns-4
+    returns-5
     is-uppercase-requires
-    returns-5)
+    returns-6)
