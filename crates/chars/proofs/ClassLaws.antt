@@ -1,7 +1,7 @@
 -- What the crate above needs to know of the character classes: each computed at the few characters that document 01 names.
 use Prim.Native.Nat.{ℕ, _≤_, _<_}
 use Prim.Native.String.{String}
-use mathlib.Core.Path.{_≡_, refl}
+use mathlib.Core.Path.{_≡_, refl, sym, ap}
 use mathlib.Core.Bool.{Bool, true, false, cond, not, _&&_, _||_, or-false}
 use native.Mathlib.Omega.{arith}
 use borrow.Author.Tests.{eqb-true, le-leb, lt-leb, lt-ltb, le-ltb, ne-eqb}
@@ -142,6 +142,10 @@ module _ (c : ℕ) (h : 0xFFFF < c) where
   pub above-no-print : isPrintable c ≡ false
   unfolding isPrintable
   above-no-print = rw (lt-leb c 0xFFFF h)
+
+-- an ASCII sign by its byte
+pub sign-byte : (b : ℕ) → b < 0x80 → isOpSign b ≡ ltb b 0x80 && isOpSign b
+sign-byte b l = sym (ap (λ z. z && isOpSign b) (lt-ltb b 0x80 l))
 
 -- ---- the Russian letters
 

@@ -34,7 +34,7 @@ fn sign_end(s: &[u8], at: usize) -> usize
     if 0x80 <= b {
         return wide_sign_end(s, at);
     }
-    if chars::classes::is_op_char(b as u32) {
+    if chars::classes::is_op_byte(b) {
         return at + 1;
     }
     at

@@ -60,7 +60,7 @@ fn lex_word(s: &[u8], c: Cursor) -> Piece
     if 0x80 <= b {
         return lex_wide_word(s, c);
     }
-    if chars::classes::is_op_char(b as u32) {
+    if chars::classes::is_op_byte(b) {
         return crate::ident::lex_op_run(s, c);
     }
     Piece::Refused(3, at)

@@ -4,7 +4,7 @@ use mathlib.Core.Path.{sym, ap, _∙_}
 use native.Mathlib.Omega.{arith}
 use Rattle.chars.specs.Classes.{isOpSign}
 use Rattle.chars.proofs.Places.{ascii-next}
-use Rattle.chars.proofs.ClassLaws.{nul-no-sign}
+use Rattle.chars.proofs.ClassLaws.{nul-no-sign, sign-byte}
 use Rattle.token.proofs.IdentLaws.{head-inside, head-low, past-on, past-off}
 use borrow.Author.Needs.{needs}
 use Rattle.token.proofs.ident.sign_end.Statement.{statement}
@@ -19,18 +19,15 @@ wide-sign-end-requires c κs = search needs
 returns : tie.Need-returns
 returns c = c .wide-sign-end .ensures
 
-cast-is-op-char : tie.Need-cast-is-op-char
-cast-is-op-char c = search needs
-
-is-op-char-requires : tie.Need-is-op-char-requires
-is-op-char-requires c κs = search needs
+is-op-byte-requires : tie.Need-is-op-byte-requires
+is-op-byte-requires c κs = search needs
 
 add-result : tie.Need-add-result
 add-result c =
     let s = c .before .before .before .before .before .args .s .now in
     let i = c .before .before .before .before .before .args .at in
     let b = c .before .before .before .byte-at .ensures in
-    let e = head-low isOpSign s i nul-no-sign (omega arith) ∙ ap isOpSign (sym b) ∙ sym (c .before .is-op-char .ensures) ∙ c .if2 .taken in
+    let e = head-low isOpSign s i nul-no-sign (omega arith) ∙ ap isOpSign (sym b) ∙ sign-byte _ (omega arith) ∙ sym (c .before .is-op-byte .ensures) ∙ c .if2 .taken in
     let l = head-inside isOpSign s i e in
     omega arith
 
@@ -39,7 +36,7 @@ returns-2 c =
     let s = c .before .before .before .before .before .args .s .now in
     let i = c .before .before .before .before .before .args .at in
     let b = c .before .before .before .byte-at .ensures in
-    let e = head-low isOpSign s i nul-no-sign (omega arith) ∙ ap isOpSign (sym b) ∙ sym (c .before .is-op-char .ensures) ∙ c .if2 .taken in
+    let e = head-low isOpSign s i nul-no-sign (omega arith) ∙ ap isOpSign (sym b) ∙ sign-byte _ (omega arith) ∙ sym (c .before .is-op-byte .ensures) ∙ c .if2 .taken in
     past-on isOpSign s i (i + 1) e (sym (ascii-next s i (head-inside isOpSign s i e) (omega arith)))
 
 returns-3 : tie.Need-returns-3
@@ -47,7 +44,7 @@ returns-3 c =
     let s = c .before .before .before .before .before .args .s .now in
     let i = c .before .before .before .before .before .args .at in
     let b = c .before .before .before .byte-at .ensures in
-    let e = head-low isOpSign s i nul-no-sign (omega arith) ∙ ap isOpSign (sym b) ∙ sym (c .before .is-op-char .ensures) ∙ c .if2 .left in
+    let e = head-low isOpSign s i nul-no-sign (omega arith) ∙ ap isOpSign (sym b) ∙ sign-byte _ (omega arith) ∙ sym (c .before .is-op-byte .ensures) ∙ c .if2 .left in
     past-off isOpSign s i e
 
 pub sign-end-spec : {M : Type 1} → statement M
@@ -57,8 +54,7 @@ sign-end-spec =
     byte-at-requires
     wide-sign-end-requires
     returns
-    cast-is-op-char
-    is-op-char-requires
+    is-op-byte-requires
     add-result
     returns-2
     returns-3)

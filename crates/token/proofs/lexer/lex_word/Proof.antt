@@ -5,6 +5,7 @@ use native.Mathlib.Omega.{arith}
 use lib.ListN.{length}
 use Rattle.chars.specs.Classes.{isIdStart, isOpSign}
 use Rattle.chars.specs.Text.{from, head}
+use Rattle.chars.proofs.ClassLaws.{sign-byte}
 use Rattle.chars.proofs.Places.{place-from}
 use Rattle.token.specs.Code.{pieceOf}
 use Rattle.token.specs.declared.piece.Piece.the-variants as piece
@@ -44,11 +45,8 @@ lex-wide-word-requires c κs = c .before .before .before .before .before .pre
 returns-2 : tie.Need-returns-2
 returns-2 c = c .lex-wide-word .ensures
 
-cast-is-op-char : tie.Need-cast-is-op-char
-cast-is-op-char c = search needs
-
-is-op-char-requires : tie.Need-is-op-char-requires
-is-op-char-requires c κs = search needs
+is-op-byte-requires : tie.Need-is-op-byte-requires
+is-op-byte-requires c κs = search needs
 
 lex-op-run-requires : tie.Need-lex-op-run-requires
 lex-op-run-requires c κs = search needs
@@ -58,7 +56,7 @@ returns-3 c =
     let s = c .before .before .before .before .before .before .before .before .args .s .now in
     let i = c .before .before .before .before .before .before .before .before .args .c .at in
     let pre = c .before .before .before .before .before .before .before .before .pre in
-    let e = ascii-head s i (pre .0) isOpSign (omega arith) ∙ sym (c .before .before .is-op-char .ensures) ∙ c .before .if3 .taken in
+    let e = ascii-head s i (pre .0) isOpSign (omega arith) ∙ sign-byte _ (omega arith) ∙ sym (c .before .before .is-op-byte .ensures) ∙ c .before .if3 .taken in
     c .lex-op-run .ensures ∙ ap (pieceOf (length s)) (sym (operator-at s i (pre .0) (pre .2) e))
 
 returns-4 : tie.Need-returns-4
@@ -68,7 +66,7 @@ returns-4 c =
     let i = c .before .before .before .before .before .before .before .args .c .at in
     let pre = c .before .before .before .before .before .before .before .pre in
     let a = ascii-no-start s i (pre .0) (omega arith) (sym (c .before .before .before .before .is-ascii-start .ensures) ∙ c .before .before .before .if1 .left) in
-    let b = ascii-head s i (pre .0) isOpSign (omega arith) ∙ sym (c .before .is-op-char .ensures) ∙ c .if3 .left in
+    let b = ascii-head s i (pre .0) isOpSign (omega arith) ∙ sign-byte _ (omega arith) ∙ sym (c .before .is-op-byte .ensures) ∙ c .if3 .left in
     sym (ap (pieceOf (length s)) (other-at (length s) (from s i) (pre .2) (pre .1) a b) ∙ ap (piece.Refused 3) (place-from s i (omega arith)))
 
 pub lex-word-spec : {M : Type 1} → statement M
@@ -82,8 +80,7 @@ lex-word-spec =
     returns
     lex-wide-word-requires
     returns-2
-    cast-is-op-char
-    is-op-char-requires
+    is-op-byte-requires
     lex-op-run-requires
     returns-3
     returns-4)
