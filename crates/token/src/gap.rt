@@ -86,12 +86,16 @@ pub enum Closed {
     Open,
 }
 
-// Does an LF or a CR LF stand at a place?
+// Does an LF or a CR LF stand at a place? Most bytes are above both.
 fn line_ends_at(s: &[u8], at: usize) -> bool
     requires { ⌜ at ≤ length (now s) ⌝ }
     ensures { λ r. ⌜ r ≡ endsLine (from (now (s .entry)) at) ⌝ }
 {
-    if byte_at(s, at) == 0x0A {
+    let b = byte_at(s, at);
+    if 0x0D < b {
+        return false;
+    }
+    if b == 0x0A {
         return true;
     }
     two_at(s, at, 0x0D, 0x0A)

@@ -1,4 +1,7 @@
+use Prim.Native.Nat.{_<_}
 use mathlib.Core.Path.{_≡_, sym, _∙_, ap}
+use native.Mathlib.Omega.{arith}
+use lib.ListN.{getD}
 use mathlib.Core.Bool.{_||_, _&&_}
 use lib.Dec.{eqb}
 use borrow.Author.Tests.{eq-eqb, ne-eqb}
@@ -13,16 +16,24 @@ byte-at-requires c κs = search needs
 returns : tie.Need-returns
 returns c =
     let args = c .before .before .before .args in
-    sym (ends-line (args .s .now) (args .at) ∙ rw (eq-eqb _ _ (sym (c .before .byte-at .ensures) ∙ c .if1 .taken)))
-
-two-at-requires : tie.Need-two-at-requires
-two-at-requires c κs = search needs
+    let s = args .s .now in
+    let b = getD s (args .at) 0 in
+    let l : 0x0D < b = omega (arith, c .before .byte-at .ensures, c .if1 .taken) in
+    sym (ends-line s (args .at) ∙ simp (ne-eqb b 0x0A (λ e. omega arith), ne-eqb b 0x0D (λ e. omega arith)))
 
 returns-2 : tie.Need-returns-2
 returns-2 c =
     let args = c .before .before .before .before .args in
-    let byte-at = c .before .before .byte-at in
-    sym (ends-line (args .s .now) (args .at) ∙ simp (ne-eqb _ _ (λ e. c .before .if1 .left (byte-at .ensures ∙ e)), ← c .two-at .ensures))
+    sym (ends-line (args .s .now) (args .at) ∙ rw (eq-eqb _ _ (sym (c .before .before .byte-at .ensures) ∙ c .if2 .taken)))
+
+two-at-requires : tie.Need-two-at-requires
+two-at-requires c κs = search needs
+
+returns-3 : tie.Need-returns-3
+returns-3 c =
+    let args = c .before .before .before .before .before .args in
+    let byte-at = c .before .before .before .byte-at in
+    sym (ends-line (args .s .now) (args .at) ∙ simp (ne-eqb _ _ (λ e. c .before .if2 .left (byte-at .ensures ∙ e)), ← c .two-at .ensures))
 
 pub line-ends-at-spec : {M : Type 1} → statement M
-line-ends-at-spec = tie.close (tie.spec byte-at-requires returns two-at-requires returns-2)
+line-ends-at-spec = tie.close (tie.spec byte-at-requires returns returns-2 two-at-requires returns-3)
