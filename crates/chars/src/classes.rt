@@ -229,7 +229,7 @@ fn is_id_byte(b: u8) -> bool
     b == 0x24
 }
 
-// Where the run of id characters from a place on ends: a run lends the three tables once, and none while it is ASCII.
+// Where the run of id characters from a place on ends: a run lends the three tables at most once, and none while it is plain.
 pub fn id_run_end(s: &[u8], at: usize) -> usize
     ensures { λ r. ⌜ r ≡ place (length (now (s .entry))) (afterRun idChar (from (now (s .entry)) at)) ⌝ }
 {
@@ -247,7 +247,7 @@ pub fn id_run_end(s: &[u8], at: usize) -> usize
     s.len()
 }
 
-// Whether c continues an identifier by a test without tables: ASCII, and the Russian letters, which make up most text past ASCII.
+// Whether c continues an identifier by a test without tables: ASCII and the Russian letters. All others go by the tables.
 fn is_plain_id_char(c: u32) -> bool
     ensures { λ r. ⌜ r ≡ plainIdChar c ⌝ }
 {
