@@ -11,3 +11,4 @@ pub mod Wide
 pub mod Texts
 pub mod Steps
 pub mod Places
+pub mod IdRuns

@@ -16,6 +16,7 @@ ghost use lib.ListN.{length};
 ghost use Rattle.chars.specs.Tables.{alphabeticTable, alphaNotLetterTable};
 ghost use Rattle.chars.specs.Classes.{isIdStart, isIdChar, isOpSign, isPrintable, plainIdChar, lowercase, uppercase, alphabetic, alphaNotLetter, IdTables};
 ghost use Rattle.chars.specs.Text.{from, place, idChar, afterRun};
+ghost use Rattle.chars.specs.Code.{asciiIdChar};
 
 // The last code that the tables speak of.
 const LAST: u32 = 0xFFFF;
@@ -213,8 +214,24 @@ fn is_ascii_id_char(c: u32) -> bool
     is_id_byte(c as u8)
 }
 
+// Whether a byte is an ASCII character that starts an identifier: a letter, `$` or `_`. The commonest are tested first.
+pub fn is_ascii_start(b: u8) -> bool
+    ensures { λ r. ⌜ r ≡ ltb b 0x80 && isIdStart b ⌝ }
+{
+    if 0x61 <= b {
+        return b <= 0x7A;
+    }
+    if 0x41 <= b {
+        if b <= 0x5A {
+            return true;
+        }
+        return b == 0x5F;
+    }
+    b == 0x24
+}
+
 // Whether a byte is an ASCII id character: a letter, a digit or `$`. The commonest are tested first.
-fn is_id_byte(b: u8) -> bool
+pub fn is_id_byte(b: u8) -> bool
     ensures { λ r. ⌜ r ≡ ltb b 0x80 && isIdChar b ⌝ }
 {
     if 0x61 <= b {
@@ -227,6 +244,20 @@ fn is_id_byte(b: u8) -> bool
         return b <= 0x39;
     }
     b == 0x24
+}
+
+// Where the run of ASCII id characters from a place on ends.
+pub fn ascii_run_end(s: &[u8], at: usize) -> usize
+    ensures { λ r. ⌜ r ≡ place (length (now (s .entry))) (afterRun asciiIdChar (from (now (s .entry)) at)) ⌝ }
+{
+    let mut i = at;
+    while i < s.len() {
+        if !is_id_byte(s[i]) {
+            return i;
+        }
+        i += 1;
+    }
+    s.len()
 }
 
 // Where the run of id characters from a place on ends: a run lends the three tables at most once, and none while it is plain.
