@@ -1,6 +1,7 @@
 -- Stores that follow one another are one store; what each writer of src/store.rt stores is one list.
 use Prim.Native.Nat.{ℕ, suc, _≤_, _+_, _/_, _%_}
 use mathlib.Core.Path.{_≡_, refl, sym, _∙_, ap}
+use mathlib.Core.Bool.{Bool}
 use mathlib.Core.List.{List, [], _∷_, _++_, append-nil}
 use lib.ListN.{length, set, drop, length-append}
 use lib.Seq.{sets, sets-eq, drop-length}
@@ -10,6 +11,7 @@ use native.Mathlib.Omega.{arith}
 use Rattle.token.specs.Kinds.{kindNumber, Token}
 use Rattle.token.specs.Records.{bit, le2, le4, le8, values, recordLength, headOf, recordOf}
 use Rattle.token.specs.Host.{blockOf}
+use Rattle.token.specs.Code.{fieldsOf}
 use Rattle.token.specs.declared.kinds.TokenKind.{TokenKind}
 
 pub sets-append : (l : List ℕ) (i : ℕ) (a b : List ℕ) → sets l i (a ++ b) ≡ sets (sets l i a) (i + length a) b
@@ -67,31 +69,34 @@ put-eight l m n w x = put-fours l m n w (x % 4294967296) (x / 4294967296)
 
 -- ---- records
 
-head-parts : (t : Token)
-    → le2 (recordLength (t .kind)) ++ (le2 (kindNumber (t .kind)) ++ (le4 (t .start) ++ (le4 (t .end) ++ (bit (t .cut) ∷ [])))) ≡ headOf t
-unfolding headOf le2 le4
-head-parts t = refl
+pub head-fields : (t : Token) → fieldsOf (recordLength (t .kind)) (kindNumber (t .kind)) (t .start) (t .end) (t .cut) ≡ headOf t
+unfolding fieldsOf headOf le2 le4
+head-fields t = refl
 
-pub put-thirteen : (t : Token) (l m n o p : List ℕ) (w x k c : ℕ)
-    → x ≡ recordLength (t .kind) → k ≡ kindNumber (t .kind) → c ≡ bit (t .cut)
-    → m ≡ sets l w (le2 x) → n ≡ sets m (w + 2) (le2 k) → o ≡ sets n (w + 4) (le4 (t .start)) → p ≡ sets o (w + 8) (le4 (t .end))
-    → set p (w + 12) c ≡ sets l w (headOf t)
-put-thirteen t l m n o p w x k c ex ek ec p1 p2 p3 p4 =
-    let cut = bit (t .cut) ∷ [] in
-    let end = le4 (t .end) ++ cut in
-    let start = le4 (t .start) ++ end in
-    let number = le2 (kindNumber (t .kind)) in
-    let size = le2 (recordLength (t .kind)) in
-    let n1 = length-two (recordLength (t .kind)) in
-    let n2 = length-two (kindNumber (t .kind)) in
-    let n3 = length-four (t .start) in
-    let n4 = length-four (t .end) in
+pub put-thirteen : (x k a e c : ℕ) (b : Bool) (l m n o p : List ℕ) (w : ℕ) → c ≡ bit b
+    → m ≡ sets l w (le2 x) → n ≡ sets m (w + 2) (le2 k) → o ≡ sets n (w + 4) (le4 a) → p ≡ sets o (w + 8) (le4 e)
+    → set p (w + 12) c ≡ sets l w (fieldsOf x k a e b)
+unfolding fieldsOf
+put-thirteen x k a e c b l m n o p w ec p1 p2 p3 p4 =
+    let cut = bit b ∷ [] in
+    let end = le4 e ++ cut in
+    let start = le4 a ++ end in
+    let n1 = length-two x in
+    let n2 = length-two k in
+    let n3 = length-four a in
+    let n4 = length-four e in
     ap (set p (w + 12)) ec
-    ∙ after (le4 (t .end)) cut o p (w + 8) (w + 12) p4 (omega arith)
-    ∙ after (le4 (t .start)) end n o (w + 4) (w + 8) p3 (omega arith)
-    ∙ after number start m n (w + 2) (w + 4) (p2 ∙ ap (λ i. sets m (w + 2) (le2 i)) ek) (omega arith)
-    ∙ after size (number ++ start) l m w (w + 2) (p1 ∙ ap (λ i. sets l w (le2 i)) ex) (omega arith)
-    ∙ ap (sets l w) (head-parts t)
+    ∙ after (le4 e) cut o p (w + 8) (w + 12) p4 (omega arith)
+    ∙ after (le4 a) end n o (w + 4) (w + 8) p3 (omega arith)
+    ∙ after (le2 k) start m n (w + 2) (w + 4) p2 (omega arith)
+    ∙ after (le2 x) (le2 k ++ start) l m w (w + 2) p1 (omega arith)
+
+pub put-kind : (t : Token) (l m : List ℕ) (w x k : ℕ) → x ≡ recordLength (t .kind) → k ≡ kindNumber (t .kind)
+    → m ≡ sets l w (fieldsOf x k (t .start) (t .end) (t .cut)) → m ≡ sets l w (headOf t)
+put-kind t l m w x k ex ek q =
+    q ∙ ap (λ z. sets l w (fieldsOf z k (t .start) (t .end) (t .cut))) ex
+    ∙ ap (λ z. sets l w (fieldsOf (recordLength (t .kind)) z (t .start) (t .end) (t .cut))) ek
+    ∙ ap (sets l w) (head-fields t)
 
 -- what is known of a kind's values, and stored
 pub put-known : (l m v : List ℕ) (w : ℕ) {k j : TokenKind} → k ≡ j → values j ≡ v → m ≡ sets l w v → m ≡ sets l w (values k)

@@ -2,16 +2,18 @@
 use Prim.Native.Nat.{ℕ, zero, suc, _+_, _-_, _≤_, _<_}
 use mathlib.Core.Path.{_≡_}
 use mathlib.Core.Bool.{Bool, true, false, cond, not, _&&_}
-use mathlib.Core.List.{List, [], _∷_}
+use mathlib.Core.List.{List, [], _∷_, _++_}
+use mathlib.Core.Logic.{_⊎_}
 use mathlib.Core.Option.{Option, none, some}
 use lib.ListN.{length, drop, getD}
 use lib.Dec.{eqb, leb, ltb}
 use Rattle.chars.specs.Quoted.{codes, oneOf}
-use Rattle.chars.specs.Classes.{isIdStart}
+use Rattle.chars.specs.Classes.{isIdStart, isOpSign}
 use Rattle.chars.specs.Text.{Char, Text, from, place, head, afterRun}
-use Rattle.token.specs.Tests.{isDigit, isHexDigit, isAny, dollarBrace, opSign, freeSign}
-use Rattle.token.specs.Kinds.{Word, word}
-use Rattle.token.specs.Answer.{Found, Esc, good, bad, hexes, afterSlash, Inside, closed, wrong, inPlain, inPrefixed, afterIdent, escapedOf}
+use Rattle.token.specs.Tests.{isDigit, isHexDigit, isAny, dollarBrace, quote, opSign, freeSign, opensComment}
+use Rattle.token.specs.Kinds.{Word, word, kindNumber}
+use Rattle.token.specs.Answer.{Found, Esc, good, bad, hexes, afterSlash, Inside, closed, wrong, inPlain, inPrefixed, afterIdent, escapedOf, signOf}
+use Rattle.token.specs.Records.{bit, le2, le4}
 use Rattle.token.specs.declared.kinds.Kw.{Kw}
 use Rattle.token.specs.declared.kinds.TokenKind.{TokenKind}
 use Rattle.token.specs.declared.kinds.TokenKind.the-variants as tk
@@ -164,3 +166,31 @@ symbolOf m =
     (cond (freeSign m) run
     (cond (isAny ";" m && not (opSign (drop 1 m))) (Found.token tk.CharSym (drop 1 m))
     (Found.stuck 16 m)))
+
+-- ---- tokens that their ASCII bytes tell
+
+-- A token without values that stands from i to e: one of the nine signs; a word of ASCII id characters that prefixes no string; or a run of
+-- ASCII operator signs that has no `/` and that none follows.
+pub data Plain (s : List ℕ) (i e : ℕ) : Type 0 where
+  single : oneOf "()[]{},;." (getD s i 0) ≡ true → e ≡ i + 1 → Plain s i e
+  letters : ltb (getD s i 0) 0x80 && isIdStart (getD s i 0) ≡ true → e ≤ length s → from s e ≡ afterIdent false (from s (i + 1))
+      → quote (from s e) ≡ false → Plain s i e
+  signs : ltb (getD s i 0) 0x80 && isOpSign (getD s i 0) ≡ true → e ≤ length s → from s e ≡ afterRun freeSign (from s i)
+      → opensComment (from s i) ≡ false → opensComment (from s e) ≡ false → Plain s i e
+
+-- such a token, or the place itself
+abbrev pub PlainOr : List ℕ → ℕ → ℕ → Type 0
+PlainOr s i e = (e ≡ i) ⊎ Plain s i e
+
+-- the number of a sign's kind; 0 for any other byte
+unfoldable pub signNumber : ℕ → ℕ
+signNumber b = cond (oneOf "()[]{},;." b) (kindNumber (signOf (record { code = b; at = 0 } ∷ []))) 0
+
+-- the number of a token's kind
+abbrev pub pieceNumber : Piece → ℕ
+pieceNumber (piece.Token k c) = kindNumber k
+pieceNumber (piece.Refused j a) = 0
+
+-- a record's first 13 bytes, from its length and its kind's number
+unfoldable pub fieldsOf : ℕ → ℕ → ℕ → ℕ → Bool → List ℕ
+fieldsOf size number start end cut = le2 size ++ (le2 number ++ (le4 start ++ (le4 end ++ (bit cut ∷ []))))

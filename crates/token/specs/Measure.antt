@@ -5,6 +5,7 @@ use mathlib.Core.Bool.{Bool, true, false}
 use mathlib.Core.List.{List, []}
 use lib.ListN.{length}
 use Rattle.token.specs.Kinds.{Token}
+use Rattle.token.specs.declared.kinds.TokenKind.the-variants as tk
 use Rattle.token.specs.Answer.{Answer, accepted, refused}
 use Rattle.token.specs.Records.{recordBytes}
 use Rattle.token.specs.declared.records.Measured.{Measured}
@@ -12,6 +13,16 @@ use Rattle.token.specs.declared.records.Measured.the-variants as measure
 use Rattle.token.specs.Host.{Verdict, good, bad, short}
 use Rattle.token.specs.declared.host.Judged.{Judged}
 use Rattle.token.specs.declared.host.Judged.the-variants as judged
+
+-- a line end's token, and the end's
+abbrev pub lineEndAt : ℕ → ℕ → Bool → Token
+lineEndAt start end mark = record { kind = tk.Newline mark; start = start; end = end; cut = false }
+
+abbrev pub eofAt : ℕ → Bool → Token
+eofAt last cut = record { kind = tk.Eof; start = last; end = last; cut = cut }
+
+abbrev pub total : ℕ → ℕ → Measured
+total c b = measured.Total c b
 
 -- token count and record bytes after c tokens and b bytes that were counted before, or the refusal
 unfoldable pub measuredOf : ℕ → ℕ → Answer → Measured

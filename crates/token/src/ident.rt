@@ -160,7 +160,7 @@ fn keyword_if(found: bool, k: Kw) -> Keyword
 }
 
 // The keyword among the nine words that stands from `start` to `end`. Most identifiers differ from all nine in their length.
-fn word_keyword(s: &[u8], start: usize, end: usize) -> Keyword
+pub fn word_keyword(s: &[u8], start: usize, end: usize) -> Keyword
     requires { ⌜ (start ≤ end) × (end ≤ length (now s)) × LeftOf (from (now s) start) (from (now s) end) ⌝ }
     ensures { λ r. ⌜ r ≡ keywordOf (wordOf (codesTo (from (now (s .entry)) start) (from (now (s .entry)) end))) ⌝ }
 {
@@ -226,7 +226,7 @@ fn word_of_eight(s: &[u8], at: usize) -> Keyword
 }
 
 // The keyword among the five runs that stands from `start` to `end`.
-fn run_keyword(s: &[u8], start: usize, end: usize) -> Keyword
+pub fn run_keyword(s: &[u8], start: usize, end: usize) -> Keyword
     requires { ⌜ (start ≤ end) × (end ≤ length (now s)) × LeftOf (from (now s) start) (from (now s) end) ⌝ }
     ensures { λ r. ⌜ r ≡ keywordOf (runOf (codesTo (from (now (s .entry)) start) (from (now (s .entry)) end))) ⌝ }
 {

@@ -7,6 +7,7 @@ ghost use lib.ListN.{length};
 ghost use lib.Seq.{sets};
 ghost use Rattle.token.specs.Records.{bit, le2, le4, le8, values, recordLength, headOf, recordOf};
 ghost use Rattle.token.specs.Host.{blockOf};
+ghost use Rattle.token.specs.Code.{fieldsOf};
 
 fn bit_of(b: bool) -> u8
     ensures { λ r. ⌜ r ≡ bit b ⌝ }
@@ -40,16 +41,32 @@ fn put8(out: &mut [u8], w: usize, x: u64)
     put4(out, w + 4, (x / 4294967296) as usize);
 }
 
-// A record's first 13 bytes.
+// A record's first 13 bytes, from its length and its kind's number.
+pub fn put_fields(
+    out: &mut [u8],
+    w: usize,
+    size: u16,
+    number: u16,
+    start: usize,
+    end: usize,
+    cut: bool,
+)
+    requires { ⌜ w + 13 ≤ length (now out) ⌝ }
+    ensures { λ r. ⌜ now (out .exit) ≡ sets (now (out .entry)) w (fieldsOf size number start end cut) ⌝ }
+{
+    put2(out, w, size as usize);
+    put2(out, w + 2, number as usize);
+    put4(out, w + 4, start);
+    put4(out, w + 8, end);
+    out[w + 12] = bit_of(cut);
+}
+
+// The same from the kind.
 fn put_head(out: &mut [u8], w: usize, kind: TokenKind, start: usize, end: usize, cut: bool)
     requires { ⌜ w + 13 ≤ length (now out) ⌝ }
     ensures { λ r. ⌜ now (out .exit) ≡ sets (now (out .entry)) w (headOf (record { kind = kind; start = start; end = end; cut = cut })) ⌝ }
 {
-    put2(out, w, kind.length() as usize);
-    put2(out, w + 2, kind.number() as usize);
-    put4(out, w + 4, start);
-    put4(out, w + 8, end);
-    out[w + 12] = bit_of(cut);
+    put_fields(out, w, kind.length(), kind.number(), start, end, cut);
 }
 
 // A record's values.

@@ -1,0 +1,291 @@
+-- Tokens that their ASCII bytes tell are what the scanner finds.
+use Prim.Native.Nat.{ℕ, _+_, _≤_, _<_}
+use mathlib.Core.Path.{_≡_, refl, sym, _∙_, ap}
+use mathlib.Core.Bool.{Bool, true, false, cond, not, _&&_, _||_}
+use mathlib.Core.Logic.{_⊎_, inl, inr}
+use mathlib.Core.List.{List, [], _∷_, append-nil}
+use mathlib.Core.Option.{Option, none, some}
+use lib.ListN.{length, drop, getD}
+use lib.Dec.{eqb, leb, ltb}
+use native.Mathlib.Omega.{arith}
+use borrow.Author.Tests.{ltb-true, leb-true, lt-ltb, ne-eqb}
+use Rattle.chars.specs.Quoted.{codes, oneOf}
+use Rattle.chars.specs.Classes.{isIdStart, isOpSign}
+use Rattle.chars.specs.Text.{Char, Text, from, place, head, idChar, afterRun}
+use Rattle.chars.specs.Code.{asciiIdChar}
+use Rattle.chars.proofs.Bools.{clash, and-both}
+use Rattle.chars.proofs.Carry.{every, carry, carry-not}
+use Rattle.chars.proofs.ClassLaws.{start-not, sign-not, sign-no-start, slash-no-start}
+use Rattle.chars.proofs.IdRuns.{ascii-whole}
+use Rattle.chars.proofs.Places.{at-ascii, ascii-next, place-from, run-next}
+use Rattle.chars.proofs.Texts.{Suffix}
+use Rattle.token.specs.Tests.{isAny, begins, quote, opSign, freeSign, opensComment}
+use Rattle.token.specs.Kinds.{Token, kindNumber, wordOf, runOf}
+use Rattle.token.specs.Records.{bit, le2, le4, values, recordLength, headOf, recordOf}
+use Rattle.token.specs.Flags.{GapKind, fresh, push, cutOf}
+use Rattle.token.specs.Answer.{Found, Start, signOf, scan, afterIdent, codesTo, wordOr, runOr}
+use Rattle.token.specs.Seek.{seek, nextOf}
+use Rattle.token.specs.Measure.{lineEndAt}
+use Rattle.token.specs.Code.{Plain, PlainOr, LeftOf, cursorAt, pieceOf, pieceNumber, signNumber, fieldsOf}
+use Rattle.token.specs.declared.gap.Gap.{Gap}
+use Rattle.token.specs.declared.kinds.Kw.{Kw}
+use Rattle.token.specs.declared.kinds.TokenKind.{TokenKind}
+use Rattle.token.specs.declared.kinds.TokenKind.the-variants as tk
+use Rattle.token.specs.declared.piece.Piece.{Piece}
+use Rattle.token.specs.declared.piece.Piece.the-variants as piece
+use Rattle.token.proofs.Bytes.{inside, two-bytes}
+use Rattle.token.proofs.IdentLaws.{after-stays, left-to, run-left, ident-left, pass-all, quote-byte, scan-word, scan-run, run-alone, not-prefixed, token-at}
+use Rattle.token.proofs.Lexes.{sign-at, word-at, operator-at, ascii-head, ascii-start, next-token, next-lf}
+use Rattle.token.proofs.Seeks.{seek-blanks}
+use Rattle.token.proofs.Stores.{head-fields}
+use Rattle.token.proofs.Turns.{Turn, turn-token, turn-line}
+
+-- ---- bytes
+
+-- a byte that is no `/` opens no comment
+pub no-comment : (s : List ℕ) (i : ℕ) → (getD s i 0 ≡ 0x2F → ⊥) → opensComment (from s i) ≡ false
+unfolding begins
+no-comment s i h =
+    let a = two-bytes 0x2F 0x2F (omega arith) (omega arith) (omega arith) (omega arith) s i in
+    let b = two-bytes 0x2F 0x2A (omega arith) (omega arith) (omega arith) (omega arith) s i in
+    rw (a, b, ne-eqb (getD s i 0) 0x2F h)
+
+abbrev isStart : ℕ → Bool
+isStart b = ltb b 0x80 && isIdStart b
+
+start-no-slash : (b : ℕ) → isStart b ≡ true → b ≡ 0x2F → ⊥
+start-no-slash b e q = clash (sym slash-no-start ∙ ap isIdStart (sym q) ∙ and-both (ltb b 0x80) (isIdStart b) e .1)
+
+-- ---- signs
+
+-- what holds of the nine kinds
+nine : (P : TokenKind → Type 0) → P tk.LParen → P tk.RParen → P tk.LBracket → P tk.RBracket → P tk.LBrace → P tk.RBrace → P tk.Comma → P tk.Semi → P tk.Dot
+    → (t : Text) → P (signOf t)
+unfolding signOf
+nine P a b c d e f g h i t =
+    either (isAny "(" t) a (either (isAny ")" t) b (either (isAny "[" t) c (either (isAny "]" t) d (either (isAny "{" t) e
+    (either (isAny "}" t) f (either (isAny "," t) g (either (isAny ";" t) h i)))))))
+  where
+    either : (x : Bool) {k l : TokenKind} → P k → P l → P (cond x k l)
+    either true p q = p
+    either false p q = q
+
+sign-bare : (t : Text) → values (signOf t) ≡ []
+unfolding values
+sign-bare t = nine (λ k. values k ≡ []) refl refl refl refl refl refl refl refl refl t
+
+sign-counts : (t : Text) → 8 ≤ kindNumber (signOf t)
+sign-counts t =
+    nine (λ k. 8 ≤ kindNumber k) (omega arith) (omega arith) (omega arith) (omega arith) (omega arith) (omega arith) (omega arith) (omega arith) (omega arith) t
+
+sign-low : (b : ℕ) → oneOf "()[]{},;." b ≡ true → (1 ≤ b) × (b < 0x80)
+sign-low b e =
+    let k = carry (λ x. leb 1 x && ltb x 0x80) (codes "()[]{},;.") b refl e in
+    let q = and-both (leb 1 b) (ltb b 0x80) k in
+    (leb-true 1 b (q .0), ltb-true b 0x80 (q .1))
+
+-- ---- words and runs
+
+abbrev pub wordKind : Option Kw → TokenKind
+wordKind none = tk.Ident
+wordKind (some k) = tk.Kw k
+
+abbrev pub runKind : Option Kw → TokenKind
+runKind none = tk.OpId
+runKind (some k) = tk.Kw k
+
+word-bare : (o : Option Kw) → values (wordKind o) ≡ []
+unfolding values
+word-bare none = refl
+word-bare (some k) = refl
+
+run-bare : (o : Option Kw) → values (runKind o) ≡ []
+unfolding values
+run-bare none = refl
+run-bare (some k) = refl
+
+module _ (s : List ℕ) (i e : ℕ) (h : i < length s) where
+  abbrev n : ℕ
+  n = length s
+
+  abbrev here : Piece
+  here = pieceOf n (scan n (from s i))
+
+  -- a word
+  module _ (a : isStart (getD s i 0) ≡ true) (l : e ≤ n) (r : from s e ≡ afterIdent false (from s (i + 1))) where
+    word-rest : from s e ≡ afterIdent false (drop 1 (from s i))
+    word-rest = r ∙ ap (afterIdent false) (ascii-start s i h a .2)
+
+    pub word-left : (i ≤ e) × (e ≤ n) × LeftOf (from s i) (from s e)
+    word-left = left-to s i e _ (omega arith) l word-rest (ident-left (from s i) (ascii-start s i h a .0))
+
+    pub word-found : quote (from s e) ≡ false → (o : Option Kw) → wordOf (codesTo (from s i) (from s e)) ≡ o → piece.Token (wordKind o) (cursorAt e) ≡ here
+    word-found z o q =
+        token-at s (wordKind o) (cursorAt e) (from s e) l refl
+        ∙ ap (pieceOf n) (sym (word-at s i h (no-comment s i (start-no-slash _ a)) (ascii-start s i h a .0) ∙ scan-word n (from s i) (from s e) o word-rest q ∙ by o))
+      where
+        by : (o : Option Kw) → wordOr n (from s i) (from s e) o ≡ Found.token (wordKind o) (from s e)
+        by none = not-prefixed n tk.Ident (from s i) (from s e) z
+        by (some k) = refl
+
+  -- a run of operator signs
+  module _ (a : ltb (getD s i 0) 0x80 && isOpSign (getD s i 0) ≡ true) (l : e ≤ n) (r : from s e ≡ afterRun freeSign (from s i)) where
+    pub run-to : (i ≤ e) × (e ≤ n) × LeftOf (from s i) (from s e)
+    run-to = left-to s i e _ (omega arith) l r (run-left freeSign (from s i))
+
+    pub run-found : opensComment (from s i) ≡ false → opensComment (from s e) ≡ false → (o : Option Kw) → runOf (codesTo (from s i) (from s e)) ≡ o
+        → piece.Token (runKind o) (cursorAt e) ≡ here
+    run-found y z o q =
+        let k = and-both (ltb (getD s i 0) 0x80) (isOpSign (getD s i 0)) a in
+        let v = ascii-head s i h isOpSign (ltb-true (getD s i 0) 0x80 (k .0)) ∙ k .1 in
+        token-at s (runKind o) (cursorAt e) (from s e) l refl
+        ∙ ap (pieceOf n) (sym (operator-at s i h y v ∙ scan-run (from s i) (from s e) o r q ∙ by o))
+      where
+        by : (o : Option Kw) → runOr (from s e) o ≡ Found.token (runKind o) (from s e)
+        by none = refl
+        by (some k) = run-alone (from s e) k z
+
+  -- a sign
+  module _ (a : oneOf "()[]{},;." (getD s i 0) ≡ true) where
+    abbrev signText : Text
+    signText = record { code = getD s i 0; at = i } ∷ from s (i + 1)
+
+    pub sign-found : piece.Token (signOf signText) (cursorAt (i + 1)) ≡ here
+    sign-found = sign-at s i h (getD s i 0) (signOf signText) refl (sign-low (getD s i 0) a .1) a refl
+
+    pub sign-number : signNumber (getD s i 0) ≡ pieceNumber here
+    unfolding signNumber signOf
+    sign-number = rw a (ap pieceNumber sign-found)
+
+  -- ---- any of them: its kind, which has no values
+
+  pub record Told : Type 0 where
+    pub kind : TokenKind
+    pub bare : values kind ≡ []
+    pub found : piece.Token kind (cursorAt e) ≡ here
+
+  pub told : Plain s i e → Told
+  told (Plain.single a q) = record { kind = _; bare = sign-bare _; found = ap (λ j. piece.Token (signOf (signText a)) (cursorAt j)) q ∙ sign-found a }
+  told (Plain.letters a l r z) = record { kind = _; bare = word-bare (wordOf (codesTo (from s i) (from s e))); found = word-found a l r z _ refl }
+  told (Plain.signs a l r y z) = record { kind = _; bare = run-bare (runOf (codesTo (from s i) (from s e))); found = run-found a l r y z _ refl }
+
+  -- ---- which of them, by the first byte
+
+  pub plain-word : Plain s i e → isStart (getD s i 0) ≡ true
+      → (e ≤ n) × (from s e ≡ afterIdent false (from s (i + 1))) × (quote (from s e) ≡ false)
+  plain-word (Plain.letters a l r z) b = (l, r, z)
+  plain-word (Plain.single a q) b =
+      clash (sym (carry-not isIdStart (codes "()[]{},;.") (getD s i 0) (start-not "()[]{},;." refl) a) ∙ and-both (ltb (getD s i 0) 0x80) (isIdStart (getD s i 0)) b .1)
+  plain-word (Plain.signs a l r y z) b =
+      clash (sym (sign-no-start (getD s i 0) (and-both (ltb (getD s i 0) 0x80) (isOpSign (getD s i 0)) a .1)) ∙ and-both (ltb (getD s i 0) 0x80) (isIdStart (getD s i 0)) b .1)
+
+  pub record Run : Type 0 where
+    pub sign : ltb (getD s i 0) 0x80 && isOpSign (getD s i 0) ≡ true
+    pub within : e ≤ n
+    pub rest : from s e ≡ afterRun freeSign (from s i)
+    pub clear : opensComment (from s i) ≡ false
+    pub alone : opensComment (from s e) ≡ false
+
+  pub plain-run : Plain s i e → isStart (getD s i 0) ≡ false → signNumber (getD s i 0) ≡ 0 → Run
+  unfolding signNumber
+  plain-run (Plain.signs a l r y z) b c = record { sign = a; within = l; rest = r; clear = y; alone = z }
+  plain-run (Plain.letters a l r z) b c = clash (sym b ∙ a)
+  plain-run (Plain.single a q) b c = let z = rw a at c in let k = sign-counts (record { code = getD s i 0; at = 0 } ∷ []) in absurd (omega arith)
+
+-- a byte whose sign number is not 0 is a sign
+pub counted-sign : (b : ℕ) → (signNumber b ≡ 0 → ⊥) → oneOf "()[]{},;." b ≡ true
+unfolding signNumber
+counted-sign b h = go (oneOf "()[]{},;." b) refl
+  where
+    go : (x : Bool) → oneOf "()[]{},;." b ≡ x → x ≡ true
+    go true e = refl
+    go false e = absurd (h (rw e))
+
+-- where the end is another place
+pub plain-of : (s : List ℕ) (i e : ℕ) → PlainOr s i e → i < e → Plain s i e
+plain-of s i e (inl q) l = absurd (omega arith)
+plain-of s i e (inr p) l = p
+
+-- it begins within the script
+pub plain-inside : (s : List ℕ) (i e : ℕ) → Plain s i e → i < e → i < length s
+plain-inside s i e (Plain.single a q) l = inside s i (sign-low (getD s i 0) a .0)
+plain-inside s i e (Plain.letters a w r z) l = omega arith
+plain-inside s i e (Plain.signs a w r y z) l = omega arith
+
+-- ---- what the code finds
+
+-- a word up to a byte of ASCII that is neither `_` nor a quote
+pub word-plain : (s : List ℕ) (i e : ℕ) → i < length s → isStart (getD s i 0) ≡ true → e ≡ place (length s) (afterRun asciiIdChar (from s (i + 1)))
+    → getD s e 0 < 0x80 → (getD s e 0 ≡ 0x5F → ⊥) → (getD s e 0 ≡ 0x22 → ⊥) → Plain s i e
+word-plain s i e h a q l u z =
+    let k : i + 1 ≤ length s = omega arith in
+    let w = ascii-whole s (i + 1) e k q l in
+    let p : e ≡ place (length s) (afterRun idChar (from s (i + 1))) = sym (ap (place (length s)) (w .2) ∙ place-from s e (w .1)) in
+    Plain.letters a (w .1) (pass-all s (i + 1) e k p u) (quote-byte s e ∙ ne-eqb (getD s e 0) 0x22 z)
+
+-- one more sign of a run, or its end
+module _ (s : List ℕ) (i : ℕ) (h : i < length s) (l : getD s i 0 < 0x80) (c : getD s i 0 ≡ 0x2F → ⊥) where
+  free-byte : (b : Bool) → ltb (getD s i 0) 0x80 && isOpSign (getD s i 0) ≡ b → freeSign (from s i) ≡ b
+  free-byte b e =
+      let o : opSign (from s i) ≡ b = ascii-head s i h isOpSign l ∙ (rw (lt-ltb (getD s i 0) 0x80 l) at e) in
+      rw (o, no-comment s i c) (last b)
+    where
+      last : (b : Bool) → b && true ≡ b
+      last true = refl
+      last false = refl
+
+  pub run-more : ltb (getD s i 0) 0x80 && isOpSign (getD s i 0) ≡ true → afterRun freeSign (from s (i + 1)) ≡ afterRun freeSign (from s i)
+  run-more e = ap (λ j. afterRun freeSign (from s j)) (sym (ascii-next s i h l)) ∙ run-next freeSign s i h (free-byte true e)
+
+  pub run-over : ltb (getD s i 0) 0x80 && isOpSign (getD s i 0) ≡ false → afterRun freeSign (from s i) ≡ from s i
+  run-over e = after-stays freeSign (from s i) (free-byte false e)
+
+-- where the first sign was passed it is no `/`
+pub first : (s : List ℕ) (a i : ℕ) → (i ≡ a) ⊎ (opensComment (from s a) ≡ false) → (getD s i 0 ≡ 0x2F → ⊥) → opensComment (from s a) ≡ false
+first s a i (inl e) c = no-comment s a (λ q. c (ap (λ j. getD s j 0) e ∙ q))
+first s a i (inr k) c = k
+
+-- ---- records
+
+pub bare-length : (k : TokenKind) → values k ≡ [] → 13 ≡ recordLength k
+unfolding recordLength
+bare-length k e = rw e
+
+pub bare-record : (t : Token) → values (t .kind) ≡ [] → recordOf t ≡ fieldsOf 13 (kindNumber (t .kind)) (t .start) (t .end) (t .cut)
+unfolding recordOf
+bare-record t e =
+    rw e (append-nil (headOf t) ∙ sym (head-fields t) ∙ ap (λ z. fieldsOf z (kindNumber (t .kind)) (t .start) (t .end) (t .cut)) (sym (bare-length (t .kind) e)))
+
+-- ---- a turn
+
+-- past blanks the search goes on as before
+pub next-blanks : (s : List ℕ) (i d : ℕ) (g : Gap) → from s d ≡ afterRun (isAny " \t") (from s i)
+    → nextOf (length s) (seek (length s) 0 g (from s d)) ≡ nextOf (length s) (seek (length s) 0 g (from s i))
+next-blanks s i d g e = ap (nextOf (length s)) (ap (seek (length s) 0 g) e ∙ seek-blanks (length s) g (from s i))
+
+module _ (s : List ℕ) (i d e : ℕ) (g : Gap) (cut : Bool) where
+  pub record PlainTurn : Type 0 where
+    pub token : Token
+    pub turn : Turn s i g token e fresh
+    pub size : 13 ≡ recordLength (token .kind)
+    pub bytes : recordOf token ≡ fieldsOf 13 (pieceNumber (pieceOf (length s) (scan (length s) (from s d)))) d e cut
+
+  pub plain-turn : from s d ≡ afterRun (isAny " \t") (from s i) → cut ≡ cutOf g → PlainOr s d e → d < e → PlainTurn
+  plain-turn b c o l =
+      let p = plain-of s d e o l in
+      let h = plain-inside s d e p l in
+      let t = told s d e h p in
+      let k = t .kind in
+      let q = next-token s d g h k (cursorAt e) cut c (t .found) ∙ next-blanks s i d g b in
+      record {
+        token = record { kind = k; start = d; end = e; cut = cut };
+        turn = turn-token s i g k d (cursorAt e) cut q;
+        size = bare-length k (t .bare);
+        bytes = bare-record _ (t .bare) ∙ ap (λ z. fieldsOf 13 (pieceNumber z) d e cut) (t .found);
+      }
+
+-- a line end at once
+pub line-turn : (s : List ℕ) (i d : ℕ) (g : Gap) → from s d ≡ afterRun (isAny " \t") (from s i) → getD s d 0 ≡ 0x0A
+    → Turn s i g (lineEndAt d (d + 1) (g .comment)) (d + 1) (push GapKind.lineEnd g)
+line-turn s i d g b e =
+    turn-line s i g d (cursorAt (d + 1)) (g .comment) (push GapKind.lineEnd g) (next-lf s d g (inside s d (omega arith)) e ∙ next-blanks s i d g b)

@@ -1,0 +1,176 @@
+// Tokens that their ASCII bytes tell, which most tokens are: the nine signs, words without `_`, prefix or other letters, and runs of operator
+// signs without `/`. They have no values, so that a kind's number makes the record. All others go by `lexer::lex_token`.
+use crate::cursor::byte_at;
+use crate::ident::Keyword;
+use crate::ident::run_keyword;
+use crate::ident::word_keyword;
+use crate::kinds::TokenKind;
+use crate::store::put_fields;
+ghost use mathlib.Core.Path.{_≡_};
+ghost use mathlib.Core.Bool.{true, false, cond, _&&_};
+ghost use lib.Dec.{ltb};
+ghost use Prim.Native.Nat.{_+_, _≤_, _<_};
+ghost use lib.ListN.{length, getD};
+ghost use lib.Seq.{sets};
+ghost use Rattle.chars.specs.Quoted.{oneOf};
+ghost use Rattle.chars.specs.Classes.{isIdStart, isOpSign};
+ghost use Rattle.chars.specs.Text.{from};
+ghost use Rattle.token.specs.Answer.{scan};
+ghost use Rattle.token.specs.Code.{Plain, PlainOr, pieceOf, pieceNumber, signNumber, fieldsOf};
+
+// The nine signs, a bit for each code: up to 0x3F, and from 0x40 on.
+const LOW_SIGNS: u64 = 0x0800530000000000;
+
+const HIGH_SIGNS: u64 = 0x2800000028000000;
+
+// Whether the byte is one of the nine signs.
+fn is_sign(b: u8) -> bool
+    ensures { λ r. ⌜ r ≡ oneOf "()[]{},;." b ⌝ }
+{
+    if b < 0x40 {
+        return (LOW_SIGNS >> b as u64) % 2 == 1;
+    }
+    if b < 0x80 {
+        return (HIGH_SIGNS >> (b as u64 - 0x40)) % 2 == 1;
+    }
+    false
+}
+
+// Where the word ends that begins there; the place itself, where more than ASCII id characters must be looked at.
+fn word_end(s: &[u8], at: usize) -> usize
+    requires { ⌜ (at < length (now s)) × (ltb (getD (now s) at 0) 0x80 && isIdStart (getD (now s) at 0) ≡ true) ⌝ }
+    ensures { λ r. ⌜ PlainOr (now (s .entry)) at r ⌝ }
+{
+    let end = chars::classes::ascii_run_end(s, at + 1);
+    let b = byte_at(s, end);
+    if 0x80 <= b {
+        return at;
+    }
+    if b == 0x5F {
+        return at;
+    }
+    if b == 0x22 {
+        return at;
+    }
+    end
+}
+
+// Where the run of operator signs ends that begins there; the place itself, where a `/` or a character past ASCII follows, or the end.
+fn run_end(s: &[u8], at: usize) -> usize
+    requires { ⌜ (at < length (now s)) × (ltb (getD (now s) at 0) 0x80 && isOpSign (getD (now s) at 0) ≡ true) ⌝ }
+    ensures { λ r. ⌜ PlainOr (now (s .entry)) at r ⌝ }
+{
+    let mut i = at;
+    while i < s.len() {
+        let b = s[i];
+        if b == 0x2F {
+            return at;
+        }
+        if 0x80 <= b {
+            return at;
+        }
+        if !chars::classes::is_op_byte(b) {
+            return i;
+        }
+        i += 1;
+    }
+    at
+}
+
+// Where the token ends that begins there, if its ASCII bytes tell it; else the place itself.
+pub fn plain_end(s: &[u8], at: usize) -> usize
+    ensures { λ r. ⌜ PlainOr (now (s .entry)) at r ⌝ }
+{
+    if s.len() <= at {
+        return at;
+    }
+    let b = s[at];
+    if chars::classes::is_ascii_start(b) {
+        return word_end(s, at);
+    }
+    if is_sign(b) {
+        return at + 1;
+    }
+    if chars::classes::is_op_byte(b) {
+        return run_end(s, at);
+    }
+    at
+}
+
+// The kind's number of a sign; 0 for any other byte.
+fn sign_number(b: u8) -> u16
+    ensures { λ r. ⌜ r ≡ signNumber b ⌝ }
+{
+    match b {
+        0x28 => TokenKind::L_PAREN,
+        0x29 => TokenKind::R_PAREN,
+        0x5B => TokenKind::L_BRACKET,
+        0x5D => TokenKind::R_BRACKET,
+        0x7B => TokenKind::L_BRACE,
+        0x7D => TokenKind::R_BRACE,
+        0x2C => TokenKind::COMMA,
+        0x3B => TokenKind::SEMI,
+        0x2E => TokenKind::DOT,
+        _ => 0,
+    }
+}
+
+// The kind's number of the word from `at` to `end`.
+fn word_number(s: &[u8], at: usize, end: usize) -> u16
+    requires { ⌜ (at < length (now s)) × Plain (now s) at end × (ltb (getD (now s) at 0) 0x80 && isIdStart (getD (now s) at 0) ≡ true) ⌝ }
+    ensures { λ r. ⌜ r ≡ pieceNumber (pieceOf (length (now (s .entry))) (scan (length (now (s .entry))) (from (now (s .entry)) at))) ⌝ }
+{
+    let word = word_keyword(s, at, end);
+    match word {
+        Keyword::Is(k) => k.number(),
+        Keyword::Not => TokenKind::IDENT,
+    }
+}
+
+// The kind's number of the run of operator signs from `at` to `end`.
+fn run_number(s: &[u8], at: usize, end: usize) -> u16
+    requires { ⌜ (at < length (now s)) × Plain (now s) at end × (ltb (getD (now s) at 0) 0x80 && isIdStart (getD (now s) at 0) ≡ false) × (signNumber (getD (now s) at 0) ≡ 0) ⌝ }
+    ensures { λ r. ⌜ r ≡ pieceNumber (pieceOf (length (now (s .entry))) (scan (length (now (s .entry))) (from (now (s .entry)) at))) ⌝ }
+{
+    let run = run_keyword(s, at, end);
+    match run {
+        Keyword::Is(k) => k.number(),
+        Keyword::Not => TokenKind::OP_ID,
+    }
+}
+
+// The kind's number of such a token from `at` to `end`.
+fn plain_number(s: &[u8], at: usize, end: usize) -> u16
+    requires { ⌜ (at < length (now s)) × Plain (now s) at end ⌝ }
+    ensures { λ r. ⌜ r ≡ pieceNumber (pieceOf (length (now (s .entry))) (scan (length (now (s .entry))) (from (now (s .entry)) at))) ⌝ }
+{
+    let b = s[at];
+    if chars::classes::is_ascii_start(b) {
+        return word_number(s, at, end);
+    }
+    let sign = sign_number(b);
+    if sign != 0 {
+        return sign;
+    }
+    run_number(s, at, end)
+}
+
+// Stores the record of such a token, where records are to be stored.
+pub fn put_plain_if(
+    out: &mut [u8],
+    s: &[u8],
+    w: usize,
+    start: usize,
+    end: usize,
+    cut: bool,
+    stores: bool,
+)
+    requires { ⌜ (start < length (now s)) × Plain (now s) start end × (stores ≡ true → w + 13 ≤ length (now out)) ⌝ }
+    ensures { λ r. ⌜ now (out .exit) ≡ cond stores (sets (now (out .entry)) w (fieldsOf 13 (pieceNumber (pieceOf (length (now (s .entry))) (scan (length (now (s .entry))) (from (now (s .entry)) start)))) start end cut)) (now (out .entry)) ⌝ }
+{
+    if stores {
+        let number = plain_number(s, start, end);
+        put_fields(out, w, TokenKind::HEAD_LENGTH, number, start, end, cut);
+        return;
+    }
+}
