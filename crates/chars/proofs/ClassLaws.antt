@@ -2,12 +2,12 @@
 use Prim.Native.Nat.{ℕ, _≤_, _<_}
 use Prim.Native.String.{String}
 use mathlib.Core.Path.{_≡_, refl, sym, ap}
-use mathlib.Core.Bool.{Bool, true, false, cond, not, _&&_, _||_, or-false}
+use mathlib.Core.Bool.{true, false, not, _&&_, _||_, or-false}
 use native.Mathlib.Omega.{arith}
 use borrow.Author.Tests.{eqb-true, le-leb, lt-leb, lt-ltb, le-ltb, ne-eqb}
 use lib.Dec.{eqb, ltb}
 use Rattle.chars.specs.Quoted.{between, codes, oneOf}
-use Rattle.chars.specs.Classes.{isIdStart, isIdChar, isOpSign, isPrintable, plainIdChar, alphabetic, lowercase, uppercase, nd, alphaNotLetter}
+use Rattle.chars.specs.Classes.{isIdStart, isIdChar, isOpSign, isPrintable, alphabetic, lowercase, uppercase, nd, alphaNotLetter}
 use Rattle.chars.proofs.Ranges.{between-out, in-between}
 use Rattle.chars.proofs.Carry.{every, every-sub, carry, carry-not, no-member, each, each-not}
 
@@ -153,22 +153,6 @@ pub russian-start : (c : ℕ) → between 0x0410 0x044F c ≡ true → isIdStart
 unfolding isIdStart lowercase uppercase
 russian-start c e = let r = in-between 0x0410 0x044F c e in each isIdStart 0x0410 64 c refl (r .0) (omega arith)
 
-russian-id : (c : ℕ) → between 0x0410 0x044F c ≡ true → isIdChar c ≡ true
+pub russian-id : (c : ℕ) → between 0x0410 0x044F c ≡ true → isIdChar c ≡ true
 unfolding isIdChar alphabetic alphaNotLetter nd
 russian-id c e = let r = in-between 0x0410 0x044F c e in each isIdChar 0x0410 64 c refl (r .0) (omega arith)
-
-pub plain-id : (c : ℕ) → plainIdChar c ≡ true → isIdChar c ≡ true
-unfolding plainIdChar
-plain-id c e = go (ltb c 0x80) e
-  where
-    go : (b : Bool) → cond b (isIdChar c) (between 0x0410 0x044F c) ≡ true → isIdChar c ≡ true
-    go true h = h
-    go false h = russian-id c h
-
-pub plain-low : (c : ℕ) → c < 0x80 → plainIdChar c ≡ isIdChar c
-unfolding plainIdChar
-plain-low c l = rw (lt-ltb c 0x80 l)
-
-pub plain-high : (c : ℕ) → 0x80 ≤ c → plainIdChar c ≡ between 0x0410 0x044F c
-unfolding plainIdChar
-plain-high c l = rw (le-ltb c 0x80 l)

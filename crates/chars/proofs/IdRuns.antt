@@ -8,11 +8,12 @@ use lib.Dec.{ltb}
 use native.Mathlib.Omega.{arith}
 use borrow.Author.Tests.{ltb-true, ltb-false, lt-ltb, le-ltb}
 use Rattle.chars.specs.Classes.{isIdChar, alphabetic, alphaNotLetter, nd}
-use Rattle.chars.specs.Text.{Char, Text, from, place, nextOf, head, idChar, afterRun}
+use Rattle.chars.specs.Text.{Text, from, place, nextOf, idChar, afterRun}
 use Rattle.chars.specs.Code.{asciiIdChar}
 use Rattle.chars.proofs.Bools.{clash, and-both}
 use Rattle.chars.proofs.Texts.{Suffix, suffix-refl, suffix-cons, text-suffix, text-place}
-use Rattle.chars.proofs.Places.{Ascii, head-byte, at-end, next-on, place-from, ascii-code, ascii-next, head-at, run-next, run-stop, run-end}
+use Rattle.chars.proofs.Places.{Ascii, head-byte, at-end, next-on, ascii-code, ascii-next, head-at, run-next, run-stop, run-end, runs-on, runs-out}
+use Rattle.chars.proofs.Russian.{Russian}
 
 -- ---- any runs
 
@@ -103,6 +104,25 @@ module _ (s : List ℕ) (i : ℕ) (f : Text) where
 
   pub ascii-end : length s ≤ i → afterRun asciiIdChar (from s i) ≡ f → length s ≡ place (length s) f
   ascii-end h q = run-end asciiIdChar s i h ∙ ap (place (length s)) q
+
+-- the same of all id characters, by the test b of the byte, and past a Russian letter
+module _ (s : List ℕ) (i : ℕ) (f : Text) where
+  pub id-on : {b : Bool} → i < length s → b ≡ isAsciiId (getD s i 0) → b ≡ true → afterRun idChar (from s i) ≡ f → afterRun idChar (from s (i + 1)) ≡ f
+  id-on h q t v =
+      let e = and-both (ltb (getD s i 0) 0x80) (isIdChar (getD s i 0)) (sym q ∙ t) in
+      let l = ltb-true (getD s i 0) 0x80 (e .0) in
+      ap (λ j. afterRun idChar (from s j)) (sym (ascii-next s i h l)) ∙ runs-on isIdChar s i f h (ap isIdChar (ascii-code s i h l) ∙ e .1) v
+
+  pub id-out : {b : Bool} → i < length s → b ≡ isAsciiId (getD s i 0) → b ≡ false → getD s i 0 < 0x80 → afterRun idChar (from s i) ≡ f → i ≡ place (length s) f
+  id-out h q t l v =
+      let z = sym q ∙ t in
+      let e : isIdChar (getD s i 0) ≡ false = rw (lt-ltb (getD s i 0) 0x80 l) at z in
+      runs-out isIdChar s i f h (ap isIdChar (ascii-code s i h l) ∙ e) v
+
+  pub russian-on : Russian s i → afterRun idChar (from s i) ≡ f → afterRun idChar (from s (i + 2)) ≡ f
+  russian-on r v =
+      let w = r .within in
+      ap (λ j. afterRun idChar (from s j)) (sym (r .next)) ∙ runs-on isIdChar s i f (omega arith) (r .id) v
 
 -- a run of ASCII id characters that ends at the place r
 module _ (s : List ℕ) (i r : ℕ) (h : i ≤ length s) (e : r ≡ place (length s) (afterRun asciiIdChar (from s i))) where

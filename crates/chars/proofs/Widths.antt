@@ -1,7 +1,7 @@
 -- How wide a character is, and the check of one character after the other.
 use Prim.Native.Nat.{ℕ, zero, suc, _+_, _-_, _≤_, _<_}
 use mathlib.Core.Path.{_≡_, refl, sym, _∙_, ap}
-use mathlib.Core.Bool.{Bool, true, false, cond, _&&_}
+use mathlib.Core.Bool.{Bool, true, false, _&&_}
 use mathlib.Core.Logic.{_⊎_, inl, inr}
 use mathlib.Core.List.{List, [], _∷_}
 use lib.ListN.{length, drop, getD, length-drop, drop-of-length-le}
@@ -12,7 +12,7 @@ use borrow.Author.Tests.{leb-true, ltb-true, ltb-false}
 use Rattle.chars.specs.Ranges.{Range, _to_}
 use Rattle.chars.specs.Utf8.{table37, fits, Row, here, later, width, validFrom}
 use Rattle.chars.specs.Code.{asciiTwo, asciiFour, asciiEight, asciiSixteen, AsciiTo}
-use Rattle.chars.proofs.Bools.{clash, and-both}
+use Rattle.chars.proofs.Bools.{and-both}
 use Rattle.chars.proofs.Rows as rows
 use Rattle.chars.proofs.Valid.{width-found, width-fit, fit-length, fit-within}
 

@@ -1,9 +1,11 @@
 -- Definitions that only the code needs: what its shortcuts test.
 use Prim.Native.Nat.{ℕ, _+_, _≤_, _<_}
-use mathlib.Core.Bool.{Bool, _&&_}
-use mathlib.Core.List.{List}
-use lib.ListN.{length, getD}
+use mathlib.Core.Bool.{Bool, _&&_, _||_}
+use mathlib.Core.List.{List, [], _∷_}
+use lib.ListN.{length, drop, getD}
 use lib.Dec.{leb, ltb}
+use Rattle.chars.specs.Ranges.{_to_}
+use Rattle.chars.specs.Utf8.{fits}
 use Rattle.chars.specs.Classes.{isIdChar}
 use Rattle.chars.specs.Text.{Text, head}
 
@@ -34,3 +36,7 @@ pub record AsciiTo (s : List ℕ) (i j : ℕ) : Type 0 where
 -- does the text begin with an id character of ASCII?
 abbrev pub asciiIdChar : Text → Bool
 asciiIdChar t = head (λ c. ltb c 0x80 && isIdChar c) t
+
+-- does a Russian letter, U+0410 to U+044F, stand at the place i?
+unfoldable pub russianAt : List ℕ → ℕ → Bool
+russianAt s i = fits (0xD0 to 0xD0 ∷ 0x90 to 0xBF ∷ []) (drop i s) || fits (0xD1 to 0xD1 ∷ 0x80 to 0x8F ∷ []) (drop i s)
