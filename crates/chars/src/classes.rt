@@ -150,17 +150,12 @@ fn is_uppercase(k: u16) -> bool
     in_ranges(k, &UPPERCASE)
 }
 
-// The same for ASCII: a letter, `$` or `_`.
+// The same for ASCII.
 fn is_ascii_id_start(c: u32) -> bool
     requires { ⌜ c < 0x80 ⌝ }
     ensures { λ r. ⌜ r ≡ isIdStart c ⌝ }
 {
-    match c {
-        0x24 | 0x5F => true,
-        0x41..=0x5A => true,
-        0x61..=0x7A => true,
-        _ => false,
-    }
+    is_ascii_start(c as u8)
 }
 
 // Whether c may continue an identifier. ASCII reaches no table.
