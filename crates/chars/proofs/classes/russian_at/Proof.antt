@@ -15,7 +15,7 @@ two-in-requires-2 c κs = search needs
 
 returns-2 : tie.Need-returns-2
 unfolding russianAt
-returns-2 c = rw (← c .before .before .two-in .ensures, c .before .if1 .left, ← c .two-in2 .ensures)
+returns-2 c = rw (← c .before .before .two-in .ensures, c .before .if1 .left) (c .two-in2 .ensures)
 
 pub russian-at-spec : {M : Type 1} → statement M
 russian-at-spec = tie.close (tie.spec two-in-requires returns two-in-requires-2 returns-2)
