@@ -259,7 +259,10 @@ russian-start c e = go (ltb c 0x0430) refl
     either h = let k = r in wide-start c (omega arith) (omega arith) (λ m. absurd (omega arith)) ∙ h
 
     go : (b : Bool) → ltb c 0x0430 ≡ b → isIdStart c ≡ true
-    go true q = let k = r in let l = ltb-true c 0x0430 q in either (ap (λ z. lowercase c || z) (capital-range c (k .0) (omega arith)) ∙ or-true (lowercase c))
+    go true q =
+        let k = r in
+        let l = ltb-true c 0x0430 q in
+        either (ap (λ z. lowercase c || z) (capital-range c (k .0) (omega arith)) ∙ or-true (lowercase c))
     go false q = either (ap (λ z. z || uppercase c) (small-range c (ltb-false c 0x0430 q) (r .1)))
 
 pub russian-id : (c : ℕ) → between 0x0410 0x044F c ≡ true → isIdChar c ≡ true

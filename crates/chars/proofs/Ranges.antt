@@ -58,7 +58,8 @@ module _ (l h c : ℕ) (p : l ≤ c) (q : c ≤ h) where
   covered-in [] e = clash e
   covered-in (_to_ a b ∷ t) e = go (leb a l && leb h b) refl e (λ g. covered-in t g)
     where
-      go : (x : Bool) → leb a l && leb h b ≡ x → x || covered l h t ≡ true → (covered l h t ≡ true → inRanges t c ≡ true) → between a b c || inRanges t c ≡ true
+      go : (x : Bool) → leb a l && leb h b ≡ x → x || covered l h t ≡ true → (covered l h t ≡ true → inRanges t c ≡ true)
+          → between a b c || inRanges t c ≡ true
       go true f g r =
           let k = and-eq-true-iff (leb a l) (leb h b) .0 f in
           let m = leb-true a l (k .0) in

@@ -24,7 +24,8 @@ record Letter (t : List ℕ) : Type 0 where
   long : 2 ≤ length t
   code : between 0x0410 0x044F (codeOf 2 t) ≡ true
 
-letter : (a p q : ℕ) → 0xC2 ≤ a → a ≤ 0xDF → 0x80 ≤ p → q ≤ 0xBF → ((y : ℕ) → p ≤ y → y ≤ q → (u : List ℕ) → between 0x0410 0x044F (codeOf 2 (a ∷ y ∷ u)) ≡ true)
+letter : (a p q : ℕ) → 0xC2 ≤ a → a ≤ 0xDF → 0x80 ≤ p → q ≤ 0xBF
+    → ((y : ℕ) → p ≤ y → y ≤ q → (u : List ℕ) → between 0x0410 0x044F (codeOf 2 (a ∷ y ∷ u)) ≡ true)
     → (t : List ℕ) → fits (a to a ∷ p to q ∷ []) t ≡ true → Letter t
 letter a p q la ha lp hq k [] e = clash e
 letter a p q la ha lp hq k (x ∷ []) e = clash (and-both (between a a x) false e .1)
@@ -34,7 +35,8 @@ letter a p q la ha lp hq k (x ∷ y ∷ u) e =
     let m = in-between a a x (f .0) in
     let n = in-between p q y (g .0) in
     let z : x ≡ a = omega arith in
-    let w : fits (0xC2 to 0xDF ∷ 0x80 to 0xBF ∷ []) (x ∷ y ∷ u) ≡ true = rw (le-leb 0xC2 x (omega arith), le-leb x 0xDF (omega arith), le-leb 0x80 y (omega arith), le-leb y 0xBF (omega arith)) in
+    let w : fits (0xC2 to 0xDF ∷ 0x80 to 0xBF ∷ []) (x ∷ y ∷ u) ≡ true =
+    rw (le-leb 0xC2 x (omega arith), le-leb x 0xDF (omega arith), le-leb 0x80 y (omega arith), le-leb y 0xBF (omega arith)) in
     record { two = width-fit (later here) (x ∷ y ∷ u) w; long = omega arith; code = rw z (k y (n .0) (n .1) u) }
 
 letters : (t : List ℕ) → fits (0xD0 to 0xD0 ∷ 0x90 to 0xBF ∷ []) t || fits (0xD1 to 0xD1 ∷ 0x80 to 0x8F ∷ []) t ≡ true → Letter t

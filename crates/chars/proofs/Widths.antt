@@ -148,7 +148,8 @@ module _ (s : List ℕ) where
       ∙ valid-low (j - (i + 1)) (i + 1) (omega arith) (λ k m n. a .ascii k m (omega arith)) ∙ valid-ascii s i h l
 
   -- past a character of two bytes, which a test b has found
-  pub valid-two : (i : ℕ) {b : Bool} → b ≡ fits (0xC2 to 0xDF ∷ 0x80 to 0xBF ∷ []) (drop i s) → b ≡ true → (i + 2 ≤ length s) × Same (i + 2) i
+  pub valid-two : (i : ℕ) {b : Bool} → b ≡ fits (0xC2 to 0xDF ∷ 0x80 to 0xBF ∷ []) (drop i s) → b ≡ true
+      → (i + 2 ≤ length s) × Same (i + 2) i
   valid-two i q t =
       let e = sym q ∙ t in
       let l = fit-within (0xC2 to 0xDF) (0x80 to 0xBF ∷ []) s i e in
