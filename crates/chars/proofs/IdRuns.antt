@@ -8,11 +8,12 @@ use lib.Dec.{ltb}
 use native.Mathlib.Omega.{arith}
 use borrow.Author.Tests.{ltb-true, ltb-false, lt-ltb, le-ltb}
 use Rattle.chars.specs.Classes.{isIdChar, alphabetic, alphaNotLetter, nd}
-use Rattle.chars.specs.Text.{Char, Text, from, place, nextOf, head, idChar, afterRun}
+use Rattle.chars.specs.Text.{Text, from, place, nextOf, idChar, afterRun}
 use Rattle.chars.specs.Code.{asciiIdChar}
 use Rattle.chars.proofs.Bools.{clash, and-both}
 use Rattle.chars.proofs.Texts.{Suffix, suffix-refl, suffix-cons, text-suffix, text-place}
-use Rattle.chars.proofs.Places.{Ascii, head-byte, at-end, next-on, place-from, ascii-code, ascii-next, head-at, run-next, run-stop, run-end}
+use Rattle.chars.proofs.Places.{Ascii, head-byte, at-end, next-on, ascii-code, ascii-next, head-at, run-next, run-stop, run-end, runs-on, runs-out}
+use Rattle.chars.proofs.Russian.{Russian}
 
 -- ---- any runs
 
@@ -47,12 +48,14 @@ module _ (p : Text → Bool) (s : List ℕ) where
   run-text i = text-place s (afterRun p (from s i)) (text-suffix s (afterRun p (from s i)) (from s i) (run-left p (from s i)) (i, refl))
 
   -- and it ends within the script, not before its start
-  run-within : (n i : ℕ) → length s - i ≤ n → i ≤ length s → (i ≤ place (length s) (afterRun p (from s i))) × (place (length s) (afterRun p (from s i)) ≤ length s)
+  run-within : (n i : ℕ) → length s - i ≤ n → i ≤ length s
+      → (i ≤ place (length s) (afterRun p (from s i))) × (place (length s) (afterRun p (from s i)) ≤ length s)
   run-within zero i m h = let e = run-end p s i (omega arith) in (omega arith, omega arith)
   run-within (suc n) i m h = go (ltb i (length s)) refl (p (from s i)) refl (run-within n (nextOf s i))
     where
       go : (b : Bool) → ltb i (length s) ≡ b → (d : Bool) → p (from s i) ≡ d
-          → (length s - nextOf s i ≤ n → nextOf s i ≤ length s → (nextOf s i ≤ place (length s) (afterRun p (from s (nextOf s i)))) × (place (length s) (afterRun p (from s (nextOf s i))) ≤ length s))
+          → (length s - nextOf s i ≤ n → nextOf s i ≤ length s
+          → (nextOf s i ≤ place (length s) (afterRun p (from s (nextOf s i)))) × (place (length s) (afterRun p (from s (nextOf s i))) ≤ length s))
           → (i ≤ place (length s) (afterRun p (from s i))) × (place (length s) (afterRun p (from s i)) ≤ length s)
       go false e d f r = let k = ltb-false i (length s) e in let q = run-end p s i k in (omega arith, omega arith)
       go true e false f r = let q = run-stop p s i (ltb-true i (length s) e) f in (omega arith, omega arith)
@@ -64,7 +67,8 @@ module _ (p : Text → Bool) (s : List ℕ) where
           (omega arith, omega arith)
 
   -- the place r where a run ends
-  pub run-place : (i r : ℕ) → i ≤ length s → r ≡ place (length s) (afterRun p (from s i)) → (i ≤ r) × (r ≤ length s) × (from s r ≡ afterRun p (from s i))
+  pub run-place : (i r : ℕ) → i ≤ length s → r ≡ place (length s) (afterRun p (from s i))
+      → (i ≤ r) × (r ≤ length s) × (from s r ≡ afterRun p (from s i))
   run-place i r h e = let a = run-within (length s - i) i (omega arith) h in (omega arith, omega arith, ap (from s) e ∙ run-text i)
 
   -- what stands there fails the test
@@ -93,16 +97,39 @@ ascii-id-id (c ∷ t) e = and-both (ltb (c .code) 0x80) (isIdChar (c .code)) e .
 
 -- the run goes on past the byte at i, or stops there; f: what the loop found at its start
 module _ (s : List ℕ) (i : ℕ) (f : Text) where
-  pub ascii-on : i < length s → isAsciiId (getD s i 0) ≡ true → afterRun asciiIdChar (from s i) ≡ f → afterRun asciiIdChar (from s (i + 1)) ≡ f
+  pub ascii-on : i < length s → isAsciiId (getD s i 0) ≡ true
+      → afterRun asciiIdChar (from s i) ≡ f → afterRun asciiIdChar (from s (i + 1)) ≡ f
   ascii-on h e q =
       let l = ltb-true (getD s i 0) 0x80 (and-both (ltb (getD s i 0) 0x80) (isIdChar (getD s i 0)) e .0) in
-      ap (λ j. afterRun asciiIdChar (from s j)) (sym (ascii-next s i h l)) ∙ run-next asciiIdChar s i h (head-byte isAsciiId ascii-id s i ∙ e) ∙ q
+      ap (λ j. afterRun asciiIdChar (from s j)) (sym (ascii-next s i h l))
+      ∙ run-next asciiIdChar s i h (head-byte isAsciiId ascii-id s i ∙ e) ∙ q
 
   pub ascii-out : i < length s → isAsciiId (getD s i 0) ≡ false → afterRun asciiIdChar (from s i) ≡ f → i ≡ place (length s) f
   ascii-out h e q = run-stop asciiIdChar s i h (head-byte isAsciiId ascii-id s i ∙ e) ∙ ap (place (length s)) q
 
   pub ascii-end : length s ≤ i → afterRun asciiIdChar (from s i) ≡ f → length s ≡ place (length s) f
   ascii-end h q = run-end asciiIdChar s i h ∙ ap (place (length s)) q
+
+-- the same of all id characters, by the test b of the byte, and past a Russian letter
+module _ (s : List ℕ) (i : ℕ) (f : Text) where
+  pub id-on : {b : Bool} → i < length s → b ≡ isAsciiId (getD s i 0) → b ≡ true
+      → afterRun idChar (from s i) ≡ f → afterRun idChar (from s (i + 1)) ≡ f
+  id-on h q t v =
+      let e = and-both (ltb (getD s i 0) 0x80) (isIdChar (getD s i 0)) (sym q ∙ t) in
+      let l = ltb-true (getD s i 0) 0x80 (e .0) in
+      ap (λ j. afterRun idChar (from s j)) (sym (ascii-next s i h l)) ∙ runs-on isIdChar s i f h (ap isIdChar (ascii-code s i h l) ∙ e .1) v
+
+  pub id-out : {b : Bool} → i < length s → b ≡ isAsciiId (getD s i 0) → b ≡ false → getD s i 0 < 0x80
+      → afterRun idChar (from s i) ≡ f → i ≡ place (length s) f
+  id-out h q t l v =
+      let z = sym q ∙ t in
+      let e : isIdChar (getD s i 0) ≡ false = rw (lt-ltb (getD s i 0) 0x80 l) at z in
+      runs-out isIdChar s i f h (ap isIdChar (ascii-code s i h l) ∙ e) v
+
+  pub russian-on : Russian s i → afterRun idChar (from s i) ≡ f → afterRun idChar (from s (i + 2)) ≡ f
+  russian-on r v =
+      let w = r .within in
+      ap (λ j. afterRun idChar (from s j)) (sym (r .next)) ∙ runs-on isIdChar s i f (omega arith) (r .id) v
 
 -- a run of ASCII id characters that ends at the place r
 module _ (s : List ℕ) (i r : ℕ) (h : i ≤ length s) (e : r ≡ place (length s) (afterRun asciiIdChar (from s i))) where
