@@ -9,7 +9,7 @@ use lib.Dec.{eqb, leb, ltb}
 use Rattle.chars.specs.Quoted.{codes, oneOf}
 use Rattle.chars.specs.Classes.{isIdStart}
 use Rattle.chars.specs.Text.{Char, Text, from, place, head, afterRun}
-use Rattle.token.specs.Tests.{isDigit, isHexDigit, isAny, dollarBrace, opSign, freeSign}
+use Rattle.token.specs.Tests.{isDigit, isHexDigit, digitValue, isAny, dollarBrace, opSign, freeSign}
 use Rattle.token.specs.Kinds.{Word, word}
 use Rattle.token.specs.Answer.{Found, Esc, good, bad, hexes, afterSlash, Inside, closed, wrong, inPlain, inPrefixed, afterIdent, escapedOf}
 use Rattle.token.specs.declared.kinds.Kw.{Kw}
@@ -132,6 +132,10 @@ keywordAt (word w k ∷ ws) n s i = cond (eqb n (length (codes w)) && standsAt (
 -- a digit of base 16, else of base 10
 unfoldable pub digitIn : ℕ → ℕ → Bool
 digitIn base c = cond (eqb base 16) (isHexDigit c) (isDigit c)
+
+-- a hex digit's value, 16 for what is none
+unfoldable pub digitOf : ℕ → ℕ
+digitOf c = cond (digitIn 16 c) (digitValue c) 16
 
 -- what follows the characters of the class that stand there, at most so many
 unfoldable pub upTo : (ℕ → Bool) → ℕ → Text → Text
