@@ -11,7 +11,7 @@ use Rattle.chars.specs.Classes.{isIdStart}
 use Rattle.chars.specs.Text.{Char, Text, from, place, head, afterRun}
 use Rattle.token.specs.Tests.{isDigit, isHexDigit, digitValue, isAny, dollarBrace, opSign, freeSign}
 use Rattle.token.specs.Kinds.{Word, word}
-use Rattle.token.specs.Answer.{Found, Esc, good, bad, hexes, afterSlash, Inside, closed, wrong, inPlain, inPrefixed, afterIdent, escapedOf}
+use Rattle.token.specs.Answer.{Found, Esc, good, bad, hexes, afterSlash, Inside, closed, wrong, inPlain, inPrefixed, plainContent, afterIdent, escapedOf}
 use Rattle.token.specs.declared.kinds.Kw.{Kw}
 use Rattle.token.specs.declared.kinds.TokenKind.{TokenKind}
 use Rattle.token.specs.declared.kinds.TokenKind.the-variants as tk
@@ -168,3 +168,15 @@ symbolOf m =
     (cond (freeSign m) run
     (cond (isAny ";" m && not (opSign (drop 1 m))) (Found.token tk.CharSym (drop 1 m))
     (Found.stuck 16 m)))
+
+-- ---- a plain string's content, quotes taken off by eights
+
+-- eight quotes at each end of the bytes from a to b, sixteen in all
+unfoldable pub eightsOff : List ℕ → ℕ → ℕ → Bool
+eightsOff s a b = leb (a + 16) b && (eightQuotes s a && eightQuotes s (b - 8))
+
+-- the text from a to b has the content of the text from start to end
+abbrev pub SameContent : List ℕ → ℕ → ℕ → ℕ → ℕ → Type 0
+SameContent s start end a b =
+    (a ≤ b) × (b ≤ length s) × LeftOf (from s a) (from s b)
+    × (plainContent (length s) (from s a) (from s b) ≡ plainContent (length s) (from s start) (from s end))
