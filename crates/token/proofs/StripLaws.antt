@@ -385,16 +385,25 @@ module _ (s : List ℕ) where
       let f = and-both (fourQuotes s i) (fourQuotes s (i + 4)) (b .1) in
       join i (i + 4) (i + 4 + 4) (i + 8) (four-quotes i (f .0)) (four-quotes (i + 4) (f .1)) (omega arith)
 
-  -- eight turns
-  pub left-eights : (start end a b : ℕ) → eightsOff s a b ≡ true → Left s start end a b → (a + 16 ≤ b) × Left s start end (a + 8) (b - 8)
+  eights-ends : (a b : ℕ) → eightsOff s a b ≡ true → Ends s 8 a b
   unfolding eightsOff
-  left-eights start end a b e l =
+  eights-ends a b e =
       let f = and-both (leb (a + 16) b) (eightQuotes s a && eightQuotes s (b - 8)) e in
       let g = and-both (eightQuotes s a) (eightQuotes s (b - 8)) (f .1) in
       let h = leb-true (a + 16) b (f .0) in
-      let n : Ends s 8 a b = record {
+      record {
         apart = omega arith;
         first = eight-quotes a (g .0);
         last = λ k u v. eight-quotes (b - 8) (g .1) k u (omega arith);
-      } in
-      (h, left-many s start end 8 a b n l)
+      }
+
+  pub eights-none : (a b : ℕ) → (getD s (a + 7) 0 ≡ 0x22 → ⊥) → false ≡ eightsOff s a b
+  eights-none a b n = go (eightsOff s a b) refl
+    where
+      go : (x : Bool) → eightsOff s a b ≡ x → false ≡ eightsOff s a b
+      go true e = absurd (n (eights-ends a b e .first (a + 7) (omega arith) (omega arith)))
+      go false e = sym e
+
+  -- eight turns
+  pub left-eights : (start end a b : ℕ) → eightsOff s a b ≡ true → Left s start end a b → (a + 16 ≤ b) × Left s start end (a + 8) (b - 8)
+  left-eights start end a b e l = let h = eights-ends a b e in let k = h .apart in (omega arith, left-many s start end 8 a b h l)

@@ -261,12 +261,15 @@ fn last_off(s: &[u8], start: usize, end: usize) -> usize
     end
 }
 
-// Are the first eight bytes and the last eight of the text from `start` to `end` quotes, sixteen in all?
+// Are the first eight bytes and the last eight of the text from `start` to `end` quotes, sixteen in all? One byte answers for most strings.
 fn eights_off(s: &[u8], start: usize, end: usize) -> bool
     requires { ⌜ (start ≤ end) × (end ≤ length (now s)) ⌝ }
     ensures { λ r. ⌜ r ≡ eightsOff (now (s .entry)) start end ⌝ }
 {
     if end - start < 16 {
+        return false;
+    }
+    if s[start + 7] != 0x22 {
         return false;
     }
     if eight_quotes(s, start) {
