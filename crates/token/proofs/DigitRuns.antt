@@ -8,16 +8,16 @@ use lib.ListN.{length, drop, getD}
 use lib.Dec.{eqb, leb, ltb}
 use native.Mathlib.Nat.{le-div-iff-mul-le, div-lt-iff-lt-mul, le-mul-of-pos-right}
 use native.Mathlib.Omega.{arith}
-use borrow.Author.Tests.{ltb-true, ltb-false, leb-true, leb-false, le-leb, lt-leb, eqb-true}
+use borrow.Author.Tests.{ltb-true, ltb-false, lt-ltb, le-ltb, leb-true, leb-false, le-leb, lt-leb, eqb-true}
 use Rattle.chars.specs.Quoted.{between, codes, oneOf}
 use Rattle.chars.specs.Text.{Text, from, place, head, afterRun}
 use Rattle.chars.proofs.Bools.{clash, and-both}
-use Rattle.chars.proofs.Ranges.{between-in, between-out, in-between}
+use Rattle.chars.proofs.Ranges.{between-in, between-out, in-between, not-between}
 use Rattle.chars.proofs.Places.{Ascii, head-byte, at-ascii, place-from}
 use Rattle.token.specs.Tests.{isDigit, isHexDigit, digitValue, begins, hexDigit, hexAhead, longSuffix}
 use Rattle.token.specs.Shapes.{valueFrom}
 use Rattle.token.specs.Answer.{Found, read, readDigits, numberOf, scanNumber}
-use Rattle.token.specs.Code.{cursorAt, pieceOf, digitIn, upTo, valueOf, intOr}
+use Rattle.token.specs.Code.{cursorAt, pieceOf, digitIn, digitOf, upTo, valueOf, intOr}
 use Rattle.token.specs.declared.kinds.TokenKind.the-variants as tk
 use Rattle.token.specs.declared.piece.Piece.the-variants as piece
 use Rattle.token.specs.declared.digits.Value.the-variants as value
@@ -59,32 +59,83 @@ module _ (base b : ℕ) where
       go true = refl
       go false = refl
 
-  -- a digit of either base is a hex digit
-  pub digit-hex : digitIn base b ≡ true → digitIn 16 b ≡ true
-  unfolding digitIn isHexDigit
-  digit-hex e = go (eqb base 16) e
-    where
-      go : (t : Bool) → cond t (isHexDigit b) (isDigit b) ≡ true → isHexDigit b ≡ true
-      go true e = e
-      go false e = rw e
-
 pub digits-ascii : (base : ℕ) → Ascii (digitIn base)
 digits-ascii base = record {
   none = no-digit base 0 (λ l. omega arith) (λ l. omega arith) (λ l. omega arith);
   wide = λ c w. no-digit base c (λ l. omega arith) (λ l. omega arith) (λ l. omega arith);
 }
 
--- where a hex digit lies
-pub hex-lies : (b : ℕ) → digitIn 16 b ≡ true → (0x30 ≤ b) × (0x39 < b → 0x41 ≤ b) × (0x46 < b → 0x61 ≤ b) × (b ≤ 0x66)
-unfolding digitIn isHexDigit isDigit
-hex-lies b e = go (between 0x30 0x39 b) (between 0x41 0x46 b) (between 0x61 0x66 b) refl refl refl e
-  where
-    go : (x y z : Bool) → between 0x30 0x39 b ≡ x → between 0x41 0x46 b ≡ y → between 0x61 0x66 b ≡ z → x || y || z ≡ true
-        → (0x30 ≤ b) × (0x39 < b → 0x41 ≤ b) × (0x46 < b → 0x61 ≤ b) × (b ≤ 0x66)
-    go true y z p q r e = let k = in-between 0x30 0x39 b p in (omega arith, λ l. omega arith, λ l. omega arith, omega arith)
-    go false true z p q r e = let k = in-between 0x41 0x46 b q in (omega arith, λ l. omega arith, λ l. omega arith, omega arith)
-    go false false true p q r e = let k = in-between 0x61 0x66 b r in (omega arith, λ l. omega arith, λ l. omega arith, omega arith)
-    go false false false p q r e = clash e
+-- ---- a digit's value, or 16
+
+module _ (b : ℕ) where
+  pub of-low : 0x30 ≤ b → b ≤ 0x39 → b - 0x30 ≡ digitOf b
+  unfolding digitOf
+  of-low h k = rw (digit-low 16 b h k, le-leb b 0x39 k)
+
+  pub of-upper : 0x41 ≤ b → b ≤ 0x46 → b - 0x37 ≡ digitOf b
+  unfolding digitOf
+  of-upper h k = rw (digit-upper 16 b h k, lt-leb b 0x39 (omega arith), le-leb b 0x46 k)
+
+  pub of-lower : 0x61 ≤ b → b ≤ 0x66 → b - 0x57 ≡ digitOf b
+  unfolding digitOf
+  of-lower h k = rw (digit-lower 16 b h k, lt-leb b 0x39 (omega arith), lt-leb b 0x46 (omega arith))
+
+  pub of-none : (0x30 ≤ b → 0x39 < b) → (0x41 ≤ b → 0x46 < b) → (0x61 ≤ b → 0x66 < b) → 16 ≡ digitOf b
+  unfolding digitOf
+  of-none h k l = rw (no-digit 16 b h k l)
+
+  -- of a digit of either base, which is a hex digit, it is the digit's value
+  pub digit-value : (base : ℕ) → digitIn base b ≡ true → digitOf b ≡ digitValue b
+  unfolding digitOf digitIn isHexDigit
+  digit-value base e = go (eqb base 16) e
+    where
+      go : (t : Bool) → cond t (isHexDigit b) (isDigit b) ≡ true → cond (isHexDigit b) (digitValue b) 16 ≡ digitValue b
+      go true e = rw e
+      go false e = rw e
+
+pub base-lies : (base : ℕ) → (base ≡ 10) ⊎ (base ≡ 16) → (10 ≤ base) × (base ≤ 16)
+base-lies base (inl e) = (omega arith, omega arith)
+base-lies base (inr e) = (omega arith, omega arith)
+
+-- the value is below the base exactly where the byte is a digit of the base
+module _ (base b : ℕ) (h : (base ≡ 10) ⊎ (base ≡ 16)) where
+  letter-under : 10 ≤ digitOf b → digitOf b < 16 → digitIn base b ≡ eqb base 16 → ltb (digitOf b) base ≡ digitIn base b
+  letter-under k l q = go h
+    where
+      go : (base ≡ 10) ⊎ (base ≡ 16) → ltb (digitOf b) base ≡ digitIn base b
+      go (inl e) = le-ltb (digitOf b) base (omega arith) ∙ sym (q ∙ rw e)
+      go (inr e) = lt-ltb (digitOf b) base (omega arith) ∙ sym (q ∙ rw e)
+
+  pub digit-under : ltb (digitOf b) base ≡ digitIn base b
+  digit-under = go (between 0x30 0x39 b) (between 0x41 0x46 b) (between 0x61 0x66 b) refl refl refl
+    where
+      go : (x y z : Bool) → between 0x30 0x39 b ≡ x → between 0x41 0x46 b ≡ y → between 0x61 0x66 b ≡ z → ltb (digitOf b) base ≡ digitIn base b
+      go true y z p q r =
+          let k = in-between 0x30 0x39 b p in
+          let v = of-low b (k .0) (k .1) in
+          let m = base-lies base h in
+          lt-ltb (digitOf b) base (omega arith) ∙ sym (digit-low base b (k .0) (k .1))
+      go false true z p q r =
+          let k = in-between 0x41 0x46 b q in
+          let v = of-upper b (k .0) (k .1) in
+          letter-under (omega arith) (omega arith) (digit-upper base b (k .0) (k .1))
+      go false false true p q r =
+          let k = in-between 0x61 0x66 b r in
+          let v = of-lower b (k .0) (k .1) in
+          letter-under (omega arith) (omega arith) (digit-lower base b (k .0) (k .1))
+      go false false false p q r =
+          let x = not-between 0x30 0x39 b p in
+          let y = not-between 0x41 0x46 b q in
+          let z = not-between 0x61 0x66 b r in
+          let v = of-none b x y z in
+          let m = base-lies base h in
+          le-ltb (digitOf b) base (omega arith) ∙ sym (no-digit base b x y z)
+
+  pub digit-taken : digitOf b < base → digitIn base b ≡ true
+  digit-taken k = sym digit-under ∙ lt-ltb (digitOf b) base k
+
+  pub digit-stops : base ≤ digitOf b → digitIn base b ≡ false
+  digit-stops k = sym digit-under ∙ le-ltb (digitOf b) base k
 
 -- ---- runs of a class
 

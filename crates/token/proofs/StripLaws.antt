@@ -1,24 +1,26 @@
 -- String content as the code strips it, by bytes: a text's last character is a quote exactly where its last byte is one.
-use Prim.Native.Nat.{ℕ, suc, _+_, _-_, _≤_, _<_}
+use Prim.Native.Nat.{ℕ, zero, suc, _+_, _-_, _≤_, _<_}
 use mathlib.Core.Path.{_≡_, refl, sym, _∙_, ap}
 use mathlib.Core.Bool.{Bool, true, false, cond, _&&_, and-false}
-use mathlib.Core.List.{List, [], _∷_, _++_, reverse, reverseAux, reverseAux-append, append-nil, append-assoc}
-use lib.ListN.{length, drop, getD, length-append, take-append-drop}
-use lib.Seq.{drop-append-seam}
+use mathlib.Core.List.{List, [], _∷_, _++_, reverse, reverseAux, reverseAux-append, append-nil, append-assoc, reverseAux-eq}
+use lib.ListN.{length, take, drop, getD, length-append, length-reverse, take-append-drop}
+use lib.Seq.{take-append-seam, drop-append-seam}
 use lib.Dec.{eqb, leb, ltb}
+use native.Mathlib.Nat.{add-zero, sub-zero}
 use native.Mathlib.Omega.{arith}
-use borrow.Author.Tests.{eqb-true, eqb-false, ne-eqb, eq-eqb, le-leb, ltb-true, ltb-false, lt-ltb, le-ltb}
+use borrow.Author.Tests.{eqb-true, eqb-false, ne-eqb, eq-eqb, le-leb, leb-true, ltb-true, ltb-false, lt-ltb, le-ltb}
 use Rattle.chars.specs.Text.{Char, Text, from, place, nextOf}
+use Rattle.chars.proofs.Bools.{and-both}
 use Rattle.chars.proofs.Texts.{TextOf, text-at, text-drop}
 use Rattle.chars.proofs.Places.{at-char, at-end, next-on, place-from, ascii-next, wide-tail}
 use Rattle.token.specs.Tests.{begins, quote}
 use Rattle.token.specs.Shapes.{textOf}
-use Rattle.token.specs.Answer.{closed, inString, strip, plainContent}
-use Rattle.token.specs.Code.{lastOff}
+use Rattle.token.specs.Answer.{strip, plainContent}
+use Rattle.token.specs.Code.{lastOff, twoQuotes, fourQuotes, eightQuotes, eightsOff, SameContent}
 use Rattle.token.specs.declared.kinds.TokenKind.the-variants as tk
 use Rattle.token.proofs.Bytes.{past}
 use Rattle.token.proofs.EscapeLaws.{same-place}
-use Rattle.token.proofs.StringLaws.{quote-byte, plain-suffix}
+use Rattle.token.proofs.StringLaws.{quote-byte}
 
 -- ---- one turn of the definition
 
@@ -43,6 +45,18 @@ module _ (k : ℕ) (c : Char) (t : Text) (e : ℕ) where
   strip-one : (back : Text) → quote (c ∷ t) ≡ true → leb 2 (suc k) && quote back ≡ false → strip (suc k) (c ∷ t) back e ≡ strip (suc k - 1) t back e
   unfolding strip
   strip-one back q x = rw (ne-eqb (suc k) 0 (λ z. omega arith), q, x)
+
+-- what stands behind the text is never looked at
+strip-only : (t back x y : Text) (k e : ℕ) → k ≤ length t → k ≤ length back → strip k (t ++ x) (back ++ y) e ≡ strip k t back e
+unfolding strip
+strip-only [] back x y k e h l = let z : k ≡ 0 = omega arith in ap (λ m. strip m x (back ++ y) e) z ∙ strip-none x (back ++ y) e
+strip-only (c ∷ t) [] x y k e h l =
+    let z : k ≡ 0 = omega arith in
+    ap (λ m. strip m (c ∷ (t ++ x)) y e) z ∙ strip-none (c ∷ (t ++ x)) y e ∙ sym (ap (λ m. strip m (c ∷ t) [] e) z ∙ strip-none (c ∷ t) [] e)
+strip-only (c ∷ t) (d ∷ back) x y k e h l =
+    let both = strip-only t back x y (k - 2) (d .at) (omega arith) (omega arith) in
+    let front = strip-only t (d ∷ back) x y (k - 1) e (omega arith) (omega arith) in
+    rw (quote-first c (t ++ x) t, quote-first d (back ++ y) back, both, front)
 
 -- ---- the last character before b
 
@@ -102,21 +116,37 @@ pub record Left (s : List ℕ) (start end a b : ℕ) : Type 0 where
   pub ahead : Text
   pub same : strip (length text) (text ++ behind) (reverseAux text ahead) b ≡ plainContent (length s) (from s start) (from s end)
 
-pub left-start : (s : List ℕ) (start end : ℕ) → start ≤ end → end ≤ length s → quote (from s start) ≡ true → inString false (from s start) ≡ closed (from s end)
-    → Left s start end start end
+-- the same said without what was dropped: ends from which the definition finds the same
+pub left-from : (s : List ℕ) (start end a b : ℕ) → SameContent s start end a b → Left s start end a b
 unfolding plainContent
-left-start s start end h k q c =
-    let x = plain-suffix (from s start) (from s end) q c in
-    let t = textOf (from s start) (from s end) in
+left-from s start end a b h =
+    let t = textOf (from s a) (from s b) in
     record {
-      ordered = h;
-      within = k;
+      ordered = h .0;
+      within = h .1;
       text = t;
-      split = sym (ap (λ r. t ++ r) (x .tail) ∙ take-append-drop (length (from s start) - length (from s end)) (from s start));
+      split = sym (ap (λ r. t ++ r) (h .2) ∙ take-append-drop (length (from s a) - length (from s b)) (from s a));
       behind = [];
       ahead = [];
-      same = ap (λ r. strip (length t) r (reverse t) end) (append-nil t) ∙ ap (strip (length t) t (reverse t)) (sym (place-from s end k));
+      same = ap (λ r. strip (length t) r (reverse t) b) (append-nil t) ∙ ap (strip (length t) t (reverse t)) (sym (place-from s b (h .1))) ∙ h .3;
     }
+
+pub left-same : (s : List ℕ) (start end a b : ℕ) → Left s start end a b → SameContent s start end a b
+unfolding plainContent
+left-same s start end a b h =
+    let t = h .text in
+    let l : length (from s a) ≡ length t + length (from s b) = ap length (h .split) ∙ length-append t (from s b) in
+    let n : length (from s a) - length (from s b) ≡ length t = omega arith in
+    let e : textOf (from s a) (from s b) ≡ t = ap (λ m. take m (from s a)) n ∙ ap (take (length t)) (h .split) ∙ take-append-seam t (from s b) in (
+      h .ordered,
+      h .within,
+      sym (ap (λ m. drop m (from s a)) n ∙ ap (drop (length t)) (h .split) ∙ drop-append-seam t (from s b)),
+      ap (λ r. strip (length r) r (reverse r) (place (length s) (from s b))) e
+          ∙ ap (strip (length t) t (reverse t)) (place-from s b (h .within))
+          ∙ sym (strip-only t (reverse t) (h .behind) (h .ahead) (length t) b (omega arith) (omega (arith, length-reverse t)))
+          ∙ ap (λ r. strip (length t) (t ++ h .behind) r b) (sym (reverseAux-eq t (h .ahead)))
+          ∙ h .same,
+    )
 
 -- a last character
 snoc : (c : Char) (v : Text) → (w : Text) × (d : Char) × (c ∷ v ≡ w ++ (d ∷ []))
@@ -283,3 +313,97 @@ module _ (s : List ℕ) (start end a b : ℕ) (h : Left s start end a b) (k : a 
           by : (q : Bool) → quote (snoc u v .1 ∷ []) ≡ q → Content (a + 1) (lastOff s (a + 1) b)
           by true q = let n = snoc u v in left-two c (n .0) (n .1) (u ∷ v) (n .2) x y q
           by false q = let n = snoc u v in left-one c (n .0) (n .1) (u ∷ v) (n .2) x y q
+
+-- ---- several turns at once
+
+abbrev Quotes : List ℕ → ℕ → ℕ → Type 0
+Quotes s i j = (k : ℕ) → i ≤ k → k < j → getD s k 0 ≡ 0x22
+
+-- n quotes at each end of the bytes from a to b
+record Ends (s : List ℕ) (n a b : ℕ) : Type 0 where
+  apart : a + n + n ≤ b
+  first : Quotes s a (a + n)
+  last : Quotes s (b - n) b
+
+module _ (s : List ℕ) (start end n a b : ℕ) where
+  -- one turn that takes a quote off both ends
+  left-both : Ends s (suc n) a b → Left s start end a b → Left s start end (a + 1) (b - 1)
+  left-both h l =
+      let k = h .apart in
+      let o = off-quote s (a + 1) b (omega arith) (h .last (b - 1) (omega arith) (omega arith)) in
+      rw o (left-next s start end a b l (omega arith) (h .first a (omega arith) (omega arith)))
+
+  ends-next : Ends s (suc n) a b → Ends s n (a + 1) (b - 1)
+  ends-next h =
+      let k = h .apart in
+      record {
+        apart = omega arith;
+        first = λ m u v. h .first m (omega arith) (omega arith);
+        last = λ m u v. h .last m (omega arith) (omega arith);
+      }
+
+  left-moved : Left s start end (a + 1 + n) (b - 1 - n) → Left s start end (a + suc n) (b - suc n)
+  left-moved l =
+      let x : a + suc n ≡ a + 1 + n = omega arith in
+      let y : b - suc n ≡ b - 1 - n = omega arith in
+      rw (x, y) l
+
+-- n such turns
+left-many : (s : List ℕ) (start end n a b : ℕ) → Ends s n a b → Left s start end a b → Left s start end (a + n) (b - n)
+left-many s start end zero a b h l = rw (add-zero a, sub-zero b) l
+left-many s start end (suc n) a b h l =
+    let more = left-many s start end n (a + 1) (b - 1) (ends-next s start end n a b h) (left-both s start end n a b h l) in
+    left-moved s start end n a b more
+
+module _ (s : List ℕ) where
+  join : (i m n j : ℕ) → Quotes s i m → Quotes s m n → j ≤ n → Quotes s i j
+  join i m n j p q h k u v = go (ltb k m) refl
+    where
+      go : (x : Bool) → ltb k m ≡ x → getD s k 0 ≡ 0x22
+      go true e = p k u (ltb-true k m e)
+      go false e = q k (ltb-false k m e) (omega arith)
+
+  one-quote : (i : ℕ) → eqb (getD s i 0) 0x22 ≡ true → Quotes s i (i + 1)
+  one-quote i e k u v = let z : k ≡ i = omega arith in ap (λ n. getD s n 0) z ∙ eqb-true (getD s i 0) 0x22 e
+
+  two-quotes : (i : ℕ) → twoQuotes s i ≡ true → Quotes s i (i + 2)
+  unfolding twoQuotes
+  two-quotes i e =
+      let b = and-both (eqb (getD s i 0) 0x22) (eqb (getD s (i + 1) 0) 0x22) e in
+      join i (i + 1) (i + 1 + 1) (i + 2) (one-quote i (b .0)) (one-quote (i + 1) (b .1)) (omega arith)
+
+  four-quotes : (i : ℕ) → fourQuotes s i ≡ true → Quotes s i (i + 4)
+  unfolding fourQuotes
+  four-quotes i e =
+      let b = and-both (twoQuotes s i) (twoQuotes s (i + 2)) e in
+      join i (i + 2) (i + 2 + 2) (i + 4) (two-quotes i (b .0)) (two-quotes (i + 2) (b .1)) (omega arith)
+
+  eight-quotes : (i : ℕ) → eightQuotes s i ≡ true → Quotes s i (i + 8)
+  unfolding eightQuotes
+  eight-quotes i e =
+      let b = and-both (leb (i + 8) (length s)) (fourQuotes s i && fourQuotes s (i + 4)) e in
+      let f = and-both (fourQuotes s i) (fourQuotes s (i + 4)) (b .1) in
+      join i (i + 4) (i + 4 + 4) (i + 8) (four-quotes i (f .0)) (four-quotes (i + 4) (f .1)) (omega arith)
+
+  eights-ends : (a b : ℕ) → eightsOff s a b ≡ true → Ends s 8 a b
+  unfolding eightsOff
+  eights-ends a b e =
+      let f = and-both (leb (a + 16) b) (eightQuotes s a && eightQuotes s (b - 8)) e in
+      let g = and-both (eightQuotes s a) (eightQuotes s (b - 8)) (f .1) in
+      let h = leb-true (a + 16) b (f .0) in
+      record {
+        apart = omega arith;
+        first = eight-quotes a (g .0);
+        last = λ k u v. eight-quotes (b - 8) (g .1) k u (omega arith);
+      }
+
+  pub eights-none : (a b : ℕ) → (getD s (a + 7) 0 ≡ 0x22 → ⊥) → false ≡ eightsOff s a b
+  eights-none a b n = go (eightsOff s a b) refl
+    where
+      go : (x : Bool) → eightsOff s a b ≡ x → false ≡ eightsOff s a b
+      go true e = absurd (n (eights-ends a b e .first (a + 7) (omega arith) (omega arith)))
+      go false e = sym e
+
+  -- eight turns
+  pub left-eights : (start end a b : ℕ) → eightsOff s a b ≡ true → Left s start end a b → (a + 16 ≤ b) × Left s start end (a + 8) (b - 8)
+  left-eights start end a b e l = let h = eights-ends a b e in let k = h .apart in (omega arith, left-many s start end 8 a b h l)

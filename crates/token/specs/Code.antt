@@ -10,9 +10,10 @@ use lib.Dec.{eqb, leb, ltb}
 use Rattle.chars.specs.Quoted.{codes, oneOf}
 use Rattle.chars.specs.Classes.{isIdStart, isOpSign}
 use Rattle.chars.specs.Text.{Char, Text, from, place, head, afterRun}
-use Rattle.token.specs.Tests.{isDigit, isHexDigit, isAny, dollarBrace, quote, opSign, freeSign, opensComment}
+use Rattle.token.specs.Tests.{isDigit, isHexDigit, digitValue, isAny, dollarBrace, quote, opSign, freeSign, opensComment}
 use Rattle.token.specs.Kinds.{Word, word, kindNumber}
-use Rattle.token.specs.Answer.{Found, Esc, good, bad, hexes, afterSlash, Inside, closed, wrong, inPlain, inPrefixed, afterIdent, escapedOf, signOf}
+use Rattle.token.specs.Answer.{Found, Esc, good, bad, hexes, afterSlash, Inside, closed, wrong, inPlain, inPrefixed, plainContent, afterIdent}
+use Rattle.token.specs.Answer.{escapedOf, signOf}
 use Rattle.token.specs.Records.{bit, le2, le4}
 use Rattle.token.specs.declared.kinds.Kw.{Kw}
 use Rattle.token.specs.declared.kinds.TokenKind.{TokenKind}
@@ -135,6 +136,10 @@ keywordAt (word w k ∷ ws) n s i = cond (eqb n (length (codes w)) && standsAt (
 unfoldable pub digitIn : ℕ → ℕ → Bool
 digitIn base c = cond (eqb base 16) (isHexDigit c) (isDigit c)
 
+-- a hex digit's value, 16 for what is none
+unfoldable pub digitOf : ℕ → ℕ
+digitOf c = cond (digitIn 16 c) (digitValue c) 16
+
 -- what follows the characters of the class that stand there, at most so many
 unfoldable pub upTo : (ℕ → Bool) → ℕ → Text → Text
 upTo p zero s = s
@@ -194,3 +199,15 @@ pieceNumber (piece.Refused j a) = 0
 -- a record's first 13 bytes, from its length and its kind's number
 unfoldable pub fieldsOf : ℕ → ℕ → ℕ → ℕ → Bool → List ℕ
 fieldsOf size number start end cut = le2 size ++ (le2 number ++ (le4 start ++ (le4 end ++ (bit cut ∷ []))))
+
+-- ---- a plain string's content, quotes taken off by eights
+
+-- eight quotes at each end of the bytes from a to b, sixteen in all
+unfoldable pub eightsOff : List ℕ → ℕ → ℕ → Bool
+eightsOff s a b = leb (a + 16) b && (eightQuotes s a && eightQuotes s (b - 8))
+
+-- the text from a to b has the content of the text from start to end
+abbrev pub SameContent : List ℕ → ℕ → ℕ → ℕ → ℕ → Type 0
+SameContent s start end a b =
+    (a ≤ b) × (b ≤ length s) × LeftOf (from s a) (from s b)
+    × (plainContent (length s) (from s a) (from s b) ≡ plainContent (length s) (from s start) (from s end))

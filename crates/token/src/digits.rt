@@ -4,14 +4,13 @@ use crate::cursor::byte_at;
 use crate::kinds::TokenKind;
 use crate::piece::Piece;
 ghost use mathlib.Core.Path.{_≡_};
-ghost use mathlib.Core.Bool.{true};
 ghost use mathlib.Core.Logic.{_⊎_};
 ghost use Prim.Native.Nat.{_+_, _*_, _≤_, _<_};
 ghost use lib.ListN.{length};
 ghost use Rattle.chars.specs.Text.{from};
-ghost use Rattle.token.specs.Tests.{digitValue, hexAhead};
+ghost use Rattle.token.specs.Tests.{hexAhead};
 ghost use Rattle.token.specs.Answer.{read, readDigits, numberOf, scanNumber};
-ghost use Rattle.token.specs.Code.{digitIn, upTo, valueOf, intOr, pieceOf};
+ghost use Rattle.token.specs.Code.{digitIn, digitOf, upTo, valueOf, intOr, pieceOf};
 
 // A value of at most 9223372036854775807, or that it is larger.
 pub enum Value {
@@ -40,18 +39,16 @@ pub fn is_digit(b: u8, base: u64) -> bool
     }
 }
 
-// A digit's value.
-fn digit_value(b: u8) -> u64
-    requires { ⌜ digitIn 16 b ≡ true ⌝ }
-    ensures { λ r. ⌜ (r ≡ digitValue b) × (r < 16) ⌝ }
+// A hex digit's value, 16 for any other byte: one look tells whether it is a digit of a base, and which.
+fn digit_of(b: u8) -> u64
+    ensures { λ r. ⌜ r ≡ digitOf b ⌝ }
 {
-    if b <= 0x39 {
-        return (b - 0x30) as u64;
+    match b {
+        0x30..=0x39 => (b - 0x30) as u64,
+        0x41..=0x46 => (b - 0x37) as u64,
+        0x61..=0x66 => (b - 0x57) as u64,
+        _ => 16,
     }
-    if b <= 0x46 {
-        return (b - 0x37) as u64;
-    }
-    (b - 0x57) as u64
 }
 
 // Past the digits of this base that stand there, at most so many.
@@ -108,11 +105,11 @@ fn number_from(s: &[u8], start: usize, c: Cursor, base: u64) -> Piece
     let mut v: u64 = 0;
     let mut i = c.at;
     loop {
-        let b = byte_at(s, i);
-        if !is_digit(b, base) {
+        let d = digit_of(byte_at(s, i));
+        if base <= d {
             return number_end(s, start, v, i);
         }
-        let more = shifted(v, digit_value(b), base);
+        let more = shifted(v, d, base);
         let Value::Of(w) = more else {
             return Piece::Refused(6, start);
         };

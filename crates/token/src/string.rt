@@ -13,7 +13,7 @@ ghost use lib.ListN.{length, drop};
 ghost use Rattle.chars.specs.Text.{from, head, afterRun};
 ghost use Rattle.token.specs.Tests.{isAny, quote, threeQuotes};
 ghost use Rattle.token.specs.Answer.{closed, inTriple, inString, prefixedOf, scanString, plainContent};
-ghost use Rattle.token.specs.Code.{pieceOf, endedOf, escapeOf, hexesOf, isOrdinary, twoQuotes, fourQuotes, eightQuotes, dollarOf, inSingle, Onward, lastOff, spanKind};
+ghost use Rattle.token.specs.Code.{pieceOf, endedOf, escapeOf, hexesOf, isOrdinary, twoQuotes, fourQuotes, eightQuotes, dollarOf, inSingle, Onward, lastOff, spanKind, LeftOf, eightsOff, SameContent};
 
 // A string's content: where it starts and ends.
 pub struct Span {
@@ -261,13 +261,45 @@ fn last_off(s: &[u8], start: usize, end: usize) -> usize
     end
 }
 
+// Are the first eight bytes and the last eight of the text from `start` to `end` quotes, sixteen in all? One byte answers for most strings.
+fn eights_off(s: &[u8], start: usize, end: usize) -> bool
+    requires { ⌜ (start ≤ end) × (end ≤ length (now s)) ⌝ }
+    ensures { λ r. ⌜ r ≡ eightsOff (now (s .entry)) start end ⌝ }
+{
+    if end - start < 16 {
+        return false;
+    }
+    if s[start + 7] != 0x22 {
+        return false;
+    }
+    if eight_quotes(s, start) {
+        return eight_quotes(s, end - 8);
+    }
+    false
+}
+
+// The quotes at both ends of a string taken off by eights: what is left has the same content.
+fn strip_eights(s: &[u8], start: usize, end: usize) -> Span
+    requires { ⌜ (start ≤ end) × (end ≤ length (now s)) × LeftOf (from (now s) start) (from (now s) end) ⌝ }
+    ensures { λ r. ⌜ SameContent (now (s .entry)) start end (r .start) (r .end) ⌝ }
+{
+    let mut a = start;
+    let mut b = end;
+    while eights_off(s, a, b) {
+        a += 8;
+        b -= 8;
+    }
+    Span { start: a, end: b }
+}
+
 // The content of the plain string that stands from `start` to `end`.
 fn strip_quotes(s: &[u8], start: usize, end: usize) -> Span
     requires { ⌜ (start ≤ end) × (end ≤ length (now s)) × (quote (from (now s) start) ≡ true) × (inString false (from (now s) start) ≡ closed (from (now s) end)) ⌝ }
     ensures { λ r. ⌜ spanKind r ≡ plainContent (length (now (s .entry))) (from (now (s .entry)) start) (from (now (s .entry)) end) ⌝ }
 {
-    let mut a = start;
-    let mut b = end;
+    let left = strip_eights(s, start, end);
+    let mut a = left.start;
+    let mut b = left.end;
     while a < b {
         if s[a] != 0x22 {
             return Span { start: a, end: b };

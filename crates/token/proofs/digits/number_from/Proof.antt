@@ -3,13 +3,11 @@ use Prim.Native.Nat.{_≤_, _-_, _+_, _*_}
 use mathlib.Core.Path.{_≡_, refl, sym, ap, _∙_}
 use native.Mathlib.Omega.{arith}
 use borrow.Author.Needs.{needs}
-use borrow.Author.Tests.{not-true, not-false}
-use lib.ListN.{length}
+use lib.ListN.{length, getD}
 use Rattle.chars.specs.Text.{from}
-use Rattle.token.specs.Tests.{digitValue}
 use Rattle.token.specs.Answer.{readDigits, numberOf}
-use Rattle.token.specs.Code.{pieceOf, digitIn}
-use Rattle.token.proofs.DigitRuns.{digits-ascii, digit-hex, class-at, read-next, read-stop, base-some, fitted, overs, over-read}
+use Rattle.token.specs.Code.{pieceOf, digitIn, digitOf}
+use Rattle.token.proofs.DigitRuns.{digits-ascii, class-at, digit-value, digit-taken, digit-stops, base-lies, read-next, read-stop, base-some, fitted, overs, over-read}
 use Rattle.token.proofs.digits.number_from.Statement.{statement}
 use Rattle.token.proofs.digits.number_from.Tie as tie
 
@@ -27,8 +25,8 @@ loop-holds c = (c .before .pre .1, omega arith, omega arith, refl)
 byte-at-requires : tie.Need-byte-at-requires Inv-loop μ-loop
 byte-at-requires c κs = search needs
 
-is-digit-requires : tie.Need-is-digit-requires Inv-loop μ-loop
-is-digit-requires c κs = search needs
+digit-of-requires : tie.Need-digit-of-requires Inv-loop μ-loop
+digit-of-requires c κs = search needs
 
 number-end-requires : tie.Need-number-end-requires Inv-loop μ-loop
 number-end-requires c κs = (omega arith, c .before .before .before .loop .inv .0, c .before .before .before .loop .inv .2)
@@ -37,18 +35,15 @@ returns : tie.Need-returns Inv-loop μ-loop
 returns c =
     let a = c .before .before .before .before .before .before .args in
     let l = c .before .before .before .before .loop in
-    let byte-at = c .before .before .before .byte-at in
     let s = a .s .now in
     let b = a .base in
-    let e = ap (digitIn b) (sym (byte-at .ensures)) ∙ sym (c .before .before .is-digit .ensures) ∙ not-true _ (c .before .if1 .taken) in
+    let d = c .before .before .digit-of .ensures ∙ ap digitOf (c .before .before .before .byte-at .ensures) in
+    let e = digit-stops b (getD s (l .i) 0) (c .before .before .before .before .before .before .pre .2) (omega (arith, c .before .if1 .taken)) in
     c .number-end .ensures
     ∙ ap (λ r. pieceOf (length s) (numberOf (from s (a .start)) r)) (read-stop (digitIn b) (digits-ascii b) s (l .i) b (l .v) e ∙ l .inv .3)
 
-digit-value-requires : tie.Need-digit-value-requires Inv-loop μ-loop
-digit-value-requires c κs = digit-hex (c .before .before .before .before .before .args .base) _ (sym (c .before .is-digit .ensures) ∙ not-false _ (c .if1 .left))
-
 shifted-requires : tie.Need-shifted-requires Inv-loop μ-loop
-shifted-requires c κs = (c .digit-value .ensures .1, c .before .before .before .before .before .before .pre .2)
+shifted-requires c κs = let h = base-lies _ (c .before .before .before .before .before .pre .2) in (omega arith, c .before .before .before .before .before .pre .2)
 
 enum-known-more : tie.Need-enum-known-more Inv-loop μ-loop
 enum-known-more c = search needs
@@ -58,53 +53,51 @@ enum-told c = search needs
 
 returns-2 : tie.Need-returns-2 Inv-loop μ-loop
 returns-2 c =
-    let a = c .before .before .before .before .before .before .before .before .before .args in
-    let l = c .before .before .before .before .before .before .before .loop in
-    let byte-at = c .before .before .before .before .before .before .byte-at in
-    let digit-value = c .before .before .before .digit-value in
+    let a = c .before .before .before .before .before .before .before .before .args in
+    let l = c .before .before .before .before .before .before .loop in
     let s = a .s .now in
     let b = a .base in
+    let d = c .before .before .before .before .digit-of .ensures ∙ ap digitOf (c .before .before .before .before .before .byte-at .ensures) in
+    let e = digit-taken b (getD s (l .i) 0) (c .before .before .before .before .before .before .before .before .pre .2) (omega (arith, c .before .before .before .if1 .left)) in
     let p = digitIn b in
-    let w = l .v * b + digit-value .result in
-    let e = ap p (sym (byte-at .ensures)) ∙ sym (c .before .before .before .before .before .is-digit .ensures) ∙ not-false _ (c .before .before .before .before .if1 .left) in
-    let d = digit-value .ensures .0 ∙ ap digitValue (byte-at .ensures) in
-    let q = ap (λ k. readDigits p b (l .v * b + k) (from s (l .i + 1))) d ∙ read-next p (digits-ascii b) s (l .i) b (l .v) e ∙ l .inv .3 in
+    let w = l .v * b + c .before .before .before .before .digit-of .result in
+    let q = ap (λ k. readDigits p b (l .v * b + k) (from s (l .i + 1))) (d ∙ digit-value (getD s (l .i) 0) b e) ∙ read-next p (digits-ascii b) s (l .i) b (l .v) e ∙ l .inv .3 in
     let o = overs w (sym (c .enum-told .given .1) ∙ c .before .before .shifted .ensures) in
-    over-read s (a .start) (omega arith) p b (base-some b (c .before .before .before .before .before .before .before .before .before .pre .2)) w (from s (l .i + 1)) o
+    over-read s (a .start) (omega arith) p b (base-some b (c .before .before .before .before .before .before .before .before .pre .2)) w (from s (l .i + 1)) o
     ∙ ap (λ r. pieceOf (length s) (numberOf (from s (a .start)) r)) q
 
 add-i : tie.Need-add-i Inv-loop μ-loop
 add-i c =
-    let a = c .before .before .before .before .before .before .before .before .before .before .args in
-    let l = c .before .before .before .before .before .before .before .before .loop in
-    let byte-at = c .before .before .before .before .before .before .before .byte-at in
+    let a = c .before .before .before .before .before .before .before .before .before .args in
+    let l = c .before .before .before .before .before .before .before .loop in
+    let s = a .s .now in
     let b = a .base in
-    let e = ap (digitIn b) (sym (byte-at .ensures)) ∙ sym (c .before .before .before .before .before .before .is-digit .ensures) ∙ not-false _ (c .before .before .before .before .before .if1 .left) in
-    omega (arith, class-at (digitIn b) (digits-ascii b) (a .s .now) (l .i) e .0)
+    let d = c .before .before .before .before .before .digit-of .ensures ∙ ap digitOf (c .before .before .before .before .before .before .byte-at .ensures) in
+    let e = digit-taken b (getD s (l .i) 0) (c .before .before .before .before .before .before .before .before .before .pre .2) (omega (arith, c .before .before .before .before .if1 .left)) in
+    omega (arith, class-at (digitIn b) (digits-ascii b) s (l .i) e .0)
 
 loop-less : tie.Need-loop-less Inv-loop μ-loop
 loop-less c =
-    let a = c .before .before .before .before .before .before .before .before .before .before .args in
-    let l = c .before .before .before .before .before .before .before .before .loop in
-    let byte-at = c .before .before .before .before .before .before .before .byte-at in
+    let a = c .before .before .before .before .before .before .before .before .before .args in
+    let l = c .before .before .before .before .before .before .before .loop in
+    let s = a .s .now in
     let b = a .base in
-    let e = ap (digitIn b) (sym (byte-at .ensures)) ∙ sym (c .before .before .before .before .before .before .is-digit .ensures) ∙ not-false _ (c .before .before .before .before .before .if1 .left) in
-    omega (arith, class-at (digitIn b) (digits-ascii b) (a .s .now) (l .i) e .0)
+    let d = c .before .before .before .before .before .digit-of .ensures ∙ ap digitOf (c .before .before .before .before .before .before .byte-at .ensures) in
+    let e = digit-taken b (getD s (l .i) 0) (c .before .before .before .before .before .before .before .before .before .pre .2) (omega (arith, c .before .before .before .before .if1 .left)) in
+    omega (arith, class-at (digitIn b) (digits-ascii b) s (l .i) e .0)
 
 loop-again : tie.Need-loop-again Inv-loop μ-loop
 loop-again c =
-    let a = c .before .before .before .before .before .before .before .before .before .before .args in
-    let l = c .before .before .before .before .before .before .before .before .loop in
-    let byte-at = c .before .before .before .before .before .before .before .byte-at in
-    let digit-value = c .before .before .before .before .digit-value in
+    let a = c .before .before .before .before .before .before .before .before .before .args in
+    let l = c .before .before .before .before .before .before .before .loop in
     let s = a .s .now in
     let b = a .base in
+    let d = c .before .before .before .before .before .digit-of .ensures ∙ ap digitOf (c .before .before .before .before .before .before .byte-at .ensures) in
+    let e = digit-taken b (getD s (l .i) 0) (c .before .before .before .before .before .before .before .before .before .pre .2) (omega (arith, c .before .before .before .before .if1 .left)) in
     let p = digitIn b in
-    let e = ap p (sym (byte-at .ensures)) ∙ sym (c .before .before .before .before .before .before .is-digit .ensures) ∙ not-false _ (c .before .before .before .before .before .if1 .left) in
     let h = class-at p (digits-ascii b) s (l .i) e .0 in
-    let f = fitted _ (l .v * b + digit-value .result) (sym (c .before .more .given .1) ∙ c .before .before .before .shifted .ensures) in
-    let d = digit-value .ensures .0 ∙ ap digitValue (byte-at .ensures) in
-    let q = ap (λ k. readDigits p b (l .v * b + k) (from s (l .i + 1))) d ∙ read-next p (digits-ascii b) s (l .i) b (l .v) e ∙ l .inv .3 in
+    let f = fitted _ (l .v * b + c .before .before .before .before .before .digit-of .result) (sym (c .before .more .given .1) ∙ c .before .before .before .shifted .ensures) in
+    let q = ap (λ k. readDigits p b (l .v * b + k) (from s (l .i + 1))) (d ∙ digit-value (getD s (l .i) 0) b e) ∙ read-next p (digits-ascii b) s (l .i) b (l .v) e ∙ l .inv .3 in
     (omega arith, omega arith, omega arith, ap (λ k. readDigits p b k (from s (l .i + 1))) (f .0) ∙ q)
 
 pub number-from-spec : {M : Type 1} → statement M
@@ -115,10 +108,9 @@ number-from-spec =
     μ-loop
     loop-holds
     byte-at-requires
-    is-digit-requires
+    digit-of-requires
     number-end-requires
     returns
-    digit-value-requires
     shifted-requires
     enum-known-more
     enum-told
