@@ -11,3 +11,5 @@ pub mod Wide
 pub mod Texts
 pub mod Steps
 pub mod Places
+pub mod Russian
+pub mod IdRuns

@@ -1,15 +1,16 @@
 -- The laws of a table of ranges in ascending order: what the order test says, and what a binary search finds.
 use Prim.Native.Nat.{ℕ, zero, suc, _*_, _/_, _≤_, _<_, zero-le, suc-le-suc}
 use mathlib.Core.Path.{_≡_, refl, ap, _∙_}
-use mathlib.Core.Bool.{Bool, true, false, _&&_, and-eq-true-iff, or-false}
+use mathlib.Core.Bool.{Bool, true, false, _&&_, _||_, and-eq-true-iff, or-true, or-false}
 use mathlib.Core.List.{List, [], _∷_}
 use native.Mathlib.Nat.{not-suc-le-zero, le-of-suc-le-suc}
 use native.Mathlib.Omega.{arith}
-use borrow.Author.Tests.{leb-true, leb-false, le-leb, lt-leb}
-use lib.Dec.{leb}
-use lib.ListN.{length, getD}
+use borrow.Author.Tests.{ltb-true, leb-true, leb-false, le-leb, lt-leb}
+use lib.Dec.{leb, ltb}
+use lib.ListN.{length, take, drop, getD}
 use Rattle.chars.specs.Quoted.{between}
 use Rattle.chars.specs.Ranges.{Range, _to_, low, high, at, pairs, inRanges, Ascending, ascendingFrom}
+use Rattle.chars.proofs.Bools.{clash}
 
 -- ---- a code and one range
 
@@ -28,6 +29,49 @@ in-between l h c e = let k = and-eq-true-iff (leb l c) (leb c h) .0 e in (leb-tr
 
 pub not-between : (l h c : ℕ) → between l h c ≡ false → l ≤ c → h < c
 not-between l h c e p = leb-false c h (rw (le-leb l c p) at e)
+
+-- ---- a table and the codes from l to h, by one test over its ranges
+
+-- no range meets them
+abbrev pub clear : ℕ → ℕ → List Range → Bool
+clear l h [] = true
+clear l h (_to_ a b ∷ t) = (ltb b l || ltb h a) && clear l h t
+
+-- one range holds all of them
+abbrev pub covered : ℕ → ℕ → List Range → Bool
+covered l h [] = false
+covered l h (_to_ a b ∷ t) = leb a l && leb h b || covered l h t
+
+module _ (l h c : ℕ) (p : l ≤ c) (q : c ≤ h) where
+  pub clear-out : (t : List Range) → clear l h t ≡ true → inRanges t c ≡ false
+  clear-out [] e = refl
+  clear-out (_to_ a b ∷ t) e =
+      let k = and-eq-true-iff (ltb b l || ltb h a) (clear l h t) .0 e in
+      let y : between a b c ≡ false = between-out a b c (off (ltb b l) refl (k .0)) in
+      rw y (clear-out t (k .1))
+    where
+      off : (x : Bool) → ltb b l ≡ x → x || ltb h a ≡ true → a ≤ c → b < c
+      off true f g m = let z = ltb-true b l f in omega arith
+      off false f g m = let z = ltb-true h a g in absurd (omega arith)
+
+  pub covered-in : (t : List Range) → covered l h t ≡ true → inRanges t c ≡ true
+  covered-in [] e = clash e
+  covered-in (_to_ a b ∷ t) e = go (leb a l && leb h b) refl e (λ g. covered-in t g)
+    where
+      go : (x : Bool) → leb a l && leb h b ≡ x → x || covered l h t ≡ true → (covered l h t ≡ true → inRanges t c ≡ true) → between a b c || inRanges t c ≡ true
+      go true f g r =
+          let k = and-eq-true-iff (leb a l) (leb h b) .0 f in
+          let m = leb-true a l (k .0) in
+          let n = leb-true h b (k .1) in
+          let y : between a b c ≡ true = between-in a b c (omega arith) (omega arith) in
+          rw y
+      go false f g r = rw (r g) (or-true (between a b c))
+
+-- up to h only the first k ranges count
+pub only-first : (k : ℕ) (t : List Range) (h c : ℕ) → clear 0 h (drop k t) ≡ true → c ≤ h → inRanges t c ≡ inRanges (take k t) c
+only-first zero t h c e l = clear-out 0 h c (omega arith) l t e
+only-first (suc k) [] h c e l = refl
+only-first (suc k) (_to_ a b ∷ t) h c e l = ap (λ z. between a b c || z) (only-first k t h c e l)
 
 -- ---- what the order test says
 

@@ -84,6 +84,10 @@ fit-length [] t e = omega arith
 fit-length (_to_ low high ∷ row) [] e = clash e
 fit-length (_to_ low high ∷ row) (b ∷ t) e = let h = fit-length row t (and-both (between low high b) (fits row t) e .1) in omega arith
 
+-- the same at a place
+pub fit-within : (x : Range) (row : List Range) (s : List ℕ) (i : ℕ) → fits (x ∷ row) (drop i s) ≡ true → i + length (x ∷ row) ≤ length s
+fit-within x row s i e = let l = fit-length (x ∷ row) (drop i s) e in let d = length-drop i s in omega arith
+
 fits-take : (row : List Range) (t : List ℕ) (m : ℕ) → fits row t ≡ true → length row ≤ m → fits row (take m t) ≡ true
 fits-take [] t m e l = refl
 fits-take (_to_ low high ∷ row) [] m e l = clash e

@@ -1,19 +1,20 @@
 -- How wide a character is, and the check of one character after the other.
 use Prim.Native.Nat.{ℕ, zero, suc, _+_, _-_, _≤_, _<_}
 use mathlib.Core.Path.{_≡_, refl, sym, _∙_, ap}
-use mathlib.Core.Bool.{Bool, true, false, cond, _&&_}
+use mathlib.Core.Bool.{Bool, true, false, _&&_}
 use mathlib.Core.Logic.{_⊎_, inl, inr}
 use mathlib.Core.List.{List, [], _∷_}
 use lib.ListN.{length, drop, getD, length-drop, drop-of-length-le}
 use lib.Seq.{drop-drop}
 use lib.Dec.{leb, ltb}
 use native.Mathlib.Omega.{arith}
-use borrow.Author.Tests.{leb-true, ltb-true}
-use Rattle.chars.specs.Ranges.{Range}
-use Rattle.chars.specs.Utf8.{table37, fits, Row, here, later, width, validFrom, asciiTwo, asciiFour, asciiStep}
-use Rattle.chars.proofs.Bools.{clash, and-both}
+use borrow.Author.Tests.{leb-true, ltb-true, ltb-false}
+use Rattle.chars.specs.Ranges.{Range, _to_}
+use Rattle.chars.specs.Utf8.{table37, fits, Row, here, later, width, validFrom}
+use Rattle.chars.specs.Code.{asciiTwo, asciiFour, asciiEight, asciiSixteen, AsciiTo}
+use Rattle.chars.proofs.Bools.{and-both}
 use Rattle.chars.proofs.Rows as rows
-use Rattle.chars.proofs.Valid.{width-found, fit-length}
+use Rattle.chars.proofs.Valid.{width-found, width-fit, fit-length, fit-within}
 
 -- no row is longer than four bytes: one computed test
 abbrev short : List (List Range) → Bool
@@ -76,43 +77,79 @@ valid-ascii s i h l =
 -- ---- several ASCII bytes
 
 module _ (s : List ℕ) where
+  -- n bytes from i on are ASCII
+  abbrev Low : ℕ → ℕ → Type 0
+  Low i n = (k : ℕ) → i ≤ k → k < i + n → getD s k 0 < 0x80
+
+  one-low : (i : ℕ) → ltb (getD s i 0) 0x80 ≡ true → Low i 1
+  one-low i e k l m = let q : k ≡ i = omega arith in rw q (ltb-true (getD s i 0) 0x80 e)
+
+  low-join : (i n m : ℕ) → Low i n → Low (i + n) m → Low i (n + m)
+  low-join i n m a b k l h = go (ltb k (i + n)) refl
+    where
+      go : (x : Bool) → ltb k (i + n) ≡ x → getD s k 0 < 0x80
+      go true e = a k l (ltb-true k (i + n) e)
+      go false e = b k (ltb-false k (i + n) e) (omega arith)
+
+  two-low : (i : ℕ) → asciiTwo s i ≡ true → Low i 2
+  unfolding asciiTwo
+  two-low i e =
+      let b = and-both (ltb (getD s i 0) 0x80) (ltb (getD s (i + 1) 0) 0x80) e in
+      low-join i 1 1 (one-low i (b .0)) (one-low (i + 1) (b .1))
+
+  four-low : (i : ℕ) → asciiFour s i ≡ true → Low i 4
+  unfolding asciiFour
+  four-low i e = let b = and-both (asciiTwo s i) (asciiTwo s (i + 2)) e in low-join i 2 2 (two-low i (b .0)) (two-low (i + 2) (b .1))
+
+  eight-low : (i : ℕ) → asciiEight s i ≡ true → Low i 8
+  unfolding asciiEight
+  eight-low i e = let b = and-both (asciiFour s i) (asciiFour s (i + 4)) e in low-join i 4 4 (four-low i (b .0)) (four-low (i + 4) (b .1))
+
+  sixteen-low : (i : ℕ) → asciiSixteen s i ≡ true → (i + 16 ≤ length s) × Low i 16
+  unfolding asciiSixteen
+  sixteen-low i e =
+      let a = and-both (leb (i + 16) (length s)) (asciiEight s i && asciiEight s (i + 8)) e in
+      let b = and-both (asciiEight s i) (asciiEight s (i + 8)) (a .1) in
+      (leb-true (i + 16) (length s) (a .0), low-join i 8 8 (eight-low i (b .0)) (eight-low (i + 8) (b .1)))
+
+  pub ascii-none : (i : ℕ) → i ≤ length s → AsciiTo s i i
+  ascii-none i h = record { later = omega arith; within = h; ascii = λ k l m. absurd (omega arith) }
+
+  pub ascii-more : (i j : ℕ) → AsciiTo s i j → asciiSixteen s j ≡ true → AsciiTo s i (j + 16)
+  ascii-more i j a e =
+      let b = sixteen-low j e in
+      record { later = let l = a .later in omega arith; within = b .0; ascii = both }
+    where
+      both : (k : ℕ) → i ≤ k → k < j + 16 → getD s k 0 < 0x80
+      both k l h = go (ltb k j) refl
+        where
+          go : (x : Bool) → ltb k j ≡ x → getD s k 0 < 0x80
+          go true q = a .ascii k l (ltb-true k j q)
+          go false q = sixteen-low j e .1 k (ltb-false k j q) h
+
   -- the check finds the same from j on as from i on
   abbrev Same : ℕ → ℕ → Type 0
   Same j i = validFrom j 0 (drop j s) ≡ validFrom i 0 (drop i s)
 
-  two-on : (i : ℕ) → i + 2 ≤ length s → asciiTwo s i ≡ true → Same (i + 2) i
-  unfolding asciiTwo
-  two-on i h e =
-      let b = and-both (ltb (getD s i 0) 0x80) (ltb (getD s (i + 1) 0) 0x80) e in
-      let x = valid-ascii s i (omega arith) (ltb-true (getD s i 0) 0x80 (b .0)) in
-      let y = valid-ascii s (i + 1) (omega arith) (ltb-true (getD s (i + 1) 0) 0x80 (b .1)) in
-      let z : i + 1 + 1 ≡ i + 2 = omega arith in
-      ap (λ j. validFrom j 0 (drop j s)) (sym z) ∙ y ∙ x
+  -- past n ASCII bytes
+  valid-low : (n i : ℕ) → i + n ≤ length s → Low i n → Same (i + n) i
+  valid-low zero i h a = ap (λ j. validFrom j 0 (drop j s)) (let z : i + 0 ≡ i = omega arith in z)
+  valid-low (suc n) i h a =
+      let z : i + suc n ≡ i + 1 + n = omega arith in
+      ap (λ j. validFrom j 0 (drop j s)) z ∙ valid-low n (i + 1) (omega arith) (λ k l m. a k (omega arith) (omega arith))
+      ∙ valid-ascii s i (omega arith) (a i (omega arith) (omega arith))
 
-  four-on : (i : ℕ) → i + 4 ≤ length s → asciiFour s i ≡ true → Same (i + 4) i
-  unfolding asciiFour
-  four-on i h e =
-      let b = and-both (asciiTwo s i) (asciiTwo s (i + 2)) e in
-      let z : i + 2 + 2 ≡ i + 4 = omega arith in
-      ap (λ j. validFrom j 0 (drop j s)) (sym z) ∙ two-on (i + 2) (omega arith) (b .1) ∙ two-on i (omega arith) (b .0)
+  pub valid-to : (i j : ℕ) → i < length s → getD s i 0 < 0x80 → AsciiTo s (i + 1) j → Same j i
+  valid-to i j h l a =
+      let b = a .later in
+      let w = a .within in
+      let z : j ≡ i + 1 + (j - (i + 1)) = omega arith in
+      ap (λ k. validFrom k 0 (drop k s)) z
+      ∙ valid-low (j - (i + 1)) (i + 1) (omega arith) (λ k m n. a .ascii k m (omega arith)) ∙ valid-ascii s i h l
 
-  nine-on : (i : ℕ) → i + 9 ≤ length s → getD s i 0 < 0x80 → asciiFour s (i + 1) ≡ true → asciiFour s (i + 5) ≡ true → Same (i + 9) i
-  nine-on i h l e f =
-      let y : i + 1 + 4 ≡ i + 5 = omega arith in
-      let z : i + 5 + 4 ≡ i + 9 = omega arith in
-      ap (λ j. validFrom j 0 (drop j s)) (sym z) ∙ four-on (i + 5) (omega arith) f
-      ∙ ap (λ j. validFrom j 0 (drop j s)) (sym y) ∙ four-on (i + 1) (omega arith) e ∙ valid-ascii s i (omega arith) l
-
-  pub step-on : (i : ℕ) → i < length s → getD s i 0 < 0x80 → (1 ≤ asciiStep s i) × (i + asciiStep s i ≤ length s) × Same (i + asciiStep s i) i
-  unfolding asciiStep
-  step-on i h l = go (leb (i + 9) (length s)) (asciiFour s (i + 1)) (asciiFour s (i + 5)) refl refl refl
-    where
-      one : (1 ≤ 1) × (i + 1 ≤ length s) × Same (i + 1) i
-      one = (omega arith, omega arith, valid-ascii s i h l)
-
-      go : (a b d : Bool) → leb (i + 9) (length s) ≡ a → asciiFour s (i + 1) ≡ b → asciiFour s (i + 5) ≡ d
-          → (1 ≤ cond (a && (b && d)) 9 1) × (i + cond (a && (b && d)) 9 1 ≤ length s) × Same (i + cond (a && (b && d)) 9 1) i
-      go true true true p q r = let k = leb-true (i + 9) (length s) p in (omega arith, k, nine-on i k l q r)
-      go true true false p q r = one
-      go true false d p q r = one
-      go false b d p q r = one
+  -- past a character of two bytes, which a test b has found
+  pub valid-two : (i : ℕ) {b : Bool} → b ≡ fits (0xC2 to 0xDF ∷ 0x80 to 0xBF ∷ []) (drop i s) → b ≡ true → (i + 2 ≤ length s) × Same (i + 2) i
+  valid-two i q t =
+      let e = sym q ∙ t in
+      let l = fit-within (0xC2 to 0xDF) (0x80 to 0xBF ∷ []) s i e in
+      (l, valid-next s i 2 (omega arith) (width-fit (later here) (drop i s) e) (λ z. absurd (omega arith)))

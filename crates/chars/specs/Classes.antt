@@ -1,9 +1,9 @@
 -- Document 01, "Character classes".
 use Prim.Native.Nat.{ℕ}
-use mathlib.Core.Bool.{Bool, cond, not, _&&_, _||_}
+use mathlib.Core.Bool.{Bool, not, _&&_, _||_}
 use mathlib.Core.Path.{_≡_}
 use mathlib.Core.List.{List}
-use lib.Dec.{leb, ltb}
+use lib.Dec.{leb}
 use Rattle.chars.specs.Quoted.{between, oneOf}
 use Rattle.chars.specs.Ranges.{inRanges, pairs}
 use Rattle.chars.specs.Tables.{alphabeticTable, lowercaseTable, uppercaseTable, ndTable, alphaNotLetterTable}
@@ -41,10 +41,6 @@ unfoldable pub isPrintable : ℕ → Bool
 isPrintable c = leb c 0xFFFF && not (between 0x0000 0x001F c) && not (between 0x007F 0x009F c) && not (between 0xFFF0 0xFFFF c)
 
 -- ---- how the code lends the tables
-
--- id characters that are told without them: ASCII, and the Russian letters U+0410 to U+044F
-unfoldable pub plainIdChar : ℕ → Bool
-plainIdChar c = cond (ltb c 0x80) (isIdChar c) (between 0x0410 0x044F c)
 
 -- the range ends of the three tables that id characters are judged by
 pub record IdTables (alphas marks digits : List ℕ) : Type 0 where

@@ -4,4 +4,5 @@ pub mod Tables
 pub mod Utf8
 pub mod Classes
 pub mod Text
+pub mod Code
 pub mod Promises

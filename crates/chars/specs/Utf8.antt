@@ -4,7 +4,7 @@ use mathlib.Core.Path.{_≡_}
 use mathlib.Core.Bool.{Bool, true, false, cond, _&&_}
 use mathlib.Core.List.{List, [], _∷_}
 use lib.ListN.{length, take, drop, getD}
-use lib.Dec.{eqb, leb, ltb}
+use lib.Dec.{eqb, leb}
 use Rattle.chars.specs.Quoted.{between}
 use Rattle.chars.specs.Ranges.{Range, _to_}
 use Rattle.chars.specs.declared.utf8.Decoded.{Decoded}
@@ -89,15 +89,3 @@ validFrom i zero (b ∷ s) = elim (width (b ∷ s)) [ zero ↦ i | suc k ↦ val
 
 abbrev pub validPrefix : List ℕ → ℕ
 validPrefix s = validFrom 0 0 s
-
--- ---- ASCII bytes at a place, for the check
-
-unfoldable pub asciiTwo : List ℕ → ℕ → Bool
-asciiTwo s i = ltb (getD s i 0) 0x80 && ltb (getD s (i + 1) 0) 0x80
-
-unfoldable pub asciiFour : List ℕ → ℕ → Bool
-asciiFour s i = asciiTwo s i && asciiTwo s (i + 2)
-
--- how many bytes are passed where an ASCII byte stands: nine where eight more follow it
-unfoldable pub asciiStep : List ℕ → ℕ → ℕ
-asciiStep s i = cond (leb (i + 9) (length s) && (asciiFour s (i + 1) && asciiFour s (i + 5))) 9 1

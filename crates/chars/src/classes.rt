@@ -6,6 +6,7 @@ use crate::tables::ND;
 use crate::tables::UPPERCASE;
 use crate::text::Step;
 use crate::text::char_at;
+use crate::utf8::two_in;
 ghost use mathlib.Core.Path.{_≡_};
 ghost use Prim.Native.Nat.{_<_, _≤_};
 ghost use mathlib.Core.Bool.{true, not, _&&_};
@@ -14,8 +15,9 @@ ghost use Rattle.chars.specs.Ranges.{pairs, inRanges, ascendingFrom};
 ghost use lib.Dec.{ltb};
 ghost use lib.ListN.{length};
 ghost use Rattle.chars.specs.Tables.{alphabeticTable, alphaNotLetterTable};
-ghost use Rattle.chars.specs.Classes.{isIdStart, isIdChar, isOpSign, isPrintable, plainIdChar, lowercase, uppercase, alphabetic, alphaNotLetter, IdTables};
+ghost use Rattle.chars.specs.Classes.{isIdStart, isIdChar, isOpSign, isPrintable, lowercase, uppercase, alphabetic, alphaNotLetter, IdTables};
 ghost use Rattle.chars.specs.Text.{from, place, idChar, afterRun};
+ghost use Rattle.chars.specs.Code.{asciiIdChar, russianAt};
 
 // The last code that the tables speak of.
 const LAST: u32 = 0xFFFF;
@@ -148,17 +150,12 @@ fn is_uppercase(k: u16) -> bool
     in_ranges(k, &UPPERCASE)
 }
 
-// The same for ASCII: a letter, `$` or `_`.
+// The same for ASCII.
 fn is_ascii_id_start(c: u32) -> bool
     requires { ⌜ c < 0x80 ⌝ }
     ensures { λ r. ⌜ r ≡ isIdStart c ⌝ }
 {
-    match c {
-        0x24 | 0x5F => true,
-        0x41..=0x5A => true,
-        0x61..=0x7A => true,
-        _ => false,
-    }
+    is_ascii_start(c as u8)
 }
 
 // Whether c may continue an identifier. ASCII reaches no table.
@@ -213,8 +210,24 @@ fn is_ascii_id_char(c: u32) -> bool
     is_id_byte(c as u8)
 }
 
+// Whether a byte is an ASCII character that starts an identifier: a letter, `$` or `_`. The commonest are tested first.
+pub fn is_ascii_start(b: u8) -> bool
+    ensures { λ r. ⌜ r ≡ ltb b 0x80 && isIdStart b ⌝ }
+{
+    if 0x61 <= b {
+        return b <= 0x7A;
+    }
+    if 0x41 <= b {
+        if b <= 0x5A {
+            return true;
+        }
+        return b == 0x5F;
+    }
+    b == 0x24
+}
+
 // Whether a byte is an ASCII id character: a letter, a digit or `$`. The commonest are tested first.
-fn is_id_byte(b: u8) -> bool
+pub fn is_id_byte(b: u8) -> bool
     ensures { λ r. ⌜ r ≡ ltb b 0x80 && isIdChar b ⌝ }
 {
     if 0x61 <= b {
@@ -229,17 +242,13 @@ fn is_id_byte(b: u8) -> bool
     b == 0x24
 }
 
-// Where the run of id characters from a place on ends: a run lends the three tables at most once, and none while it is plain.
-pub fn id_run_end(s: &[u8], at: usize) -> usize
-    ensures { λ r. ⌜ r ≡ place (length (now (s .entry))) (afterRun idChar (from (now (s .entry)) at)) ⌝ }
+// Where the run of ASCII id characters from a place on ends.
+pub fn ascii_run_end(s: &[u8], at: usize) -> usize
+    ensures { λ r. ⌜ r ≡ place (length (now (s .entry))) (afterRun asciiIdChar (from (now (s .entry)) at)) ⌝ }
 {
     let mut i = at;
     while i < s.len() {
-        let b = s[i];
-        if !is_id_byte(b) {
-            if 0x80 <= b {
-                return plain_run_end(s, i);
-            }
+        if !is_id_byte(s[i]) {
             return i;
         }
         i += 1;
@@ -247,33 +256,34 @@ pub fn id_run_end(s: &[u8], at: usize) -> usize
     s.len()
 }
 
-// Whether c continues an identifier by a test without tables: ASCII and the Russian letters. All others go by the tables.
-fn is_plain_id_char(c: u32) -> bool
-    ensures { λ r. ⌜ r ≡ plainIdChar c ⌝ }
+// Whether a Russian letter stands at a place: U+0410 to U+044F.
+pub fn russian_at(s: &[u8], at: usize) -> bool
+    ensures { λ r. ⌜ r ≡ russianAt (now (s .entry)) at ⌝ }
 {
-    if c < 0x80 {
-        return is_ascii_id_char(c);
+    if two_in(s, at, 0xD0, 0xD0, 0x90, 0xBF) {
+        return true;
     }
-    is_between(0x0410, 0x044F, c)
+    two_in(s, at, 0xD1, 0xD1, 0x80, 0x8F)
 }
 
-// The same from the first character past ASCII on. The tables are lent at the first that needs them.
-fn plain_run_end(s: &[u8], at: usize) -> usize
+// Where the run of id characters from a place on ends. ASCII and the Russian letters need no table; the first that does lends all three.
+pub fn id_run_end(s: &[u8], at: usize) -> usize
     ensures { λ r. ⌜ r ≡ place (length (now (s .entry))) (afterRun idChar (from (now (s .entry)) at)) ⌝ }
 {
     let mut i = at;
     while i < s.len() {
-        let here = char_at(s, i);
-        let Step::Char { code, next } = here else {
-            return i;
-        };
-        if !is_plain_id_char(code) {
-            if 0x80 <= code {
+        let b = s[i];
+        if is_id_byte(b) {
+            i += 1;
+        } else {
+            if b < 0x80 {
+                return i;
+            }
+            if !russian_at(s, i) {
                 return lend_run_end(s, i);
             }
-            return i;
+            i += 2;
         }
-        i = next;
     }
     s.len()
 }

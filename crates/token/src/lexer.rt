@@ -8,9 +8,7 @@ use crate::gap::Gap;
 use crate::kinds::TokenKind;
 use crate::piece::Piece;
 ghost use mathlib.Core.Path.{_≡_};
-ghost use mathlib.Core.Bool.{true, false, _&&_};
-ghost use lib.Dec.{ltb};
-ghost use Rattle.chars.specs.Classes.{isIdStart};
+ghost use mathlib.Core.Bool.{true, false};
 ghost use Prim.Native.Nat.{_+_, _≤_, _<_};
 ghost use lib.ListN.{length};
 ghost use Rattle.chars.specs.Text.{from};
@@ -34,18 +32,6 @@ pub enum Passed {
     Open,
 }
 
-// Is the byte an ASCII character that starts an identifier? Lower case is the commonest, and tested first.
-fn is_ascii_start(b: u8) -> bool
-    ensures { λ r. ⌜ r ≡ ltb b 0x80 && isIdStart b ⌝ }
-{
-    match b {
-        0x61..=0x7A => true,
-        0x41..=0x5A => true,
-        0x24 | 0x5F => true,
-        _ => false,
-    }
-}
-
 // A token that is no single sign, number, backtick, string, character or symbol: an identifier, an operator, or nothing. ASCII is told by its
 // byte.
 fn lex_word(s: &[u8], c: Cursor) -> Piece
@@ -54,7 +40,7 @@ fn lex_word(s: &[u8], c: Cursor) -> Piece
 {
     let at = c.at;
     let b = s[at];
-    if is_ascii_start(b) {
+    if chars::classes::is_ascii_start(b) {
         return crate::ident::lex_ident(s, c, Cursor { at: at + 1 });
     }
     if 0x80 <= b {
@@ -66,11 +52,14 @@ fn lex_word(s: &[u8], c: Cursor) -> Piece
     Piece::Refused(3, at)
 }
 
-// The same by the character that stands there.
+// The same by the character that stands there. A Russian letter is told by its bytes.
 fn lex_wide_word(s: &[u8], c: Cursor) -> Piece
     requires { ⌜ (c .at < length (now s)) × (isAny wordless (from (now s) (c .at)) ≡ false) × (opensComment (from (now s) (c .at)) ≡ false) ⌝ }
     ensures { λ r. ⌜ r ≡ pieceOf (length (now (s .entry))) (scan (length (now (s .entry))) (from (now (s .entry)) (c .at))) ⌝ }
 {
+    if chars::classes::russian_at(s, c.at) {
+        return crate::ident::lex_ident(s, c, Cursor { at: c.at + 2 });
+    }
     let here = c.peek(s);
     let Peeked::Char(code, _) = here else {
         return Piece::Refused(3, c.at);

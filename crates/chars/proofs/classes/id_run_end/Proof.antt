@@ -1,14 +1,14 @@
 use Prim.Native.Nat.{_-_}
-use mathlib.Core.Path.{_≡_, refl, sym, ap, _∙_}
+use mathlib.Core.Path.{_≡_, refl, ap, _∙_}
 use native.Mathlib.Omega.{arith}
 use borrow.Author.Needs.{needs}
-use borrow.Author.Tests.{not-true, not-false, lt-ltb, ltb-true}
-use lib.Dec.{ltb}
-use lib.ListN.{length, getD}
+use borrow.Author.Tests.{not-false}
+use lib.ListN.{length}
 use Rattle.chars.specs.Classes.{isIdChar}
 use Rattle.chars.specs.Text.{from, place, idChar, afterRun}
-use Rattle.chars.proofs.Bools.{and-both}
-use Rattle.chars.proofs.Places.{ascii-code, ascii-next, runs-on, runs-out, runs-end}
+use Rattle.chars.proofs.Places.{runs-end}
+use Rattle.chars.proofs.Russian.{russian}
+use Rattle.chars.proofs.IdRuns.{id-on, id-out, russian-on}
 use Rattle.chars.proofs.classes.id_run_end.Statement.{statement}
 use Rattle.chars.proofs.classes.id_run_end.Tie as tie
 
@@ -27,23 +27,7 @@ shared-slice-read-b c = search needs
 is-id-byte-requires : tie.Need-is-id-byte-requires Inv-loop μ-loop
 is-id-byte-requires c κs = search needs
 
-plain-run-end-requires : tie.Need-plain-run-end-requires Inv-loop μ-loop
-plain-run-end-requires c κs = search needs
-
-returns : tie.Need-returns Inv-loop μ-loop
-returns c =
-    let args = c .before .before .before .before .before .before .before .before .args in
-    c .plain-run-end .ensures ∙ ap (place (length (args .s .now))) (c .before .before .before .before .before .before .loop .inv)
-
-returns-2 : tie.Need-returns-2 Inv-loop μ-loop
-returns-2 c =
-    let s = c .before .before .before .before .before .before .before .args .s .now in
-    let loop = c .before .before .before .before .before .loop in
-    let h = c .before .before .before .before .loop-test .taken in
-    let f = sym (c .before .before .is-id-byte .ensures) ∙ not-true _ (c .before .if1 .taken) in
-    let e = ap isIdChar (ascii-code s (loop .i) h (c .if2 .left)) ∙ (rw (lt-ltb (getD s (loop .i) 0) 0x80 (c .if2 .left)) at f) in
-    runs-out isIdChar s (loop .i) _ h e (loop .inv)
-
+-- past an id character of ASCII
 add-i : tie.Need-add-i Inv-loop μ-loop
 add-i c = omega arith
 
@@ -54,13 +38,49 @@ loop-again : tie.Need-loop-again Inv-loop μ-loop
 loop-again c =
     let s = c .before .before .before .before .before .before .args .s .now in
     let loop = c .before .before .before .before .loop in
-    let h = c .before .before .before .loop-test .taken in
-    let b = getD s (loop .i) 0 in
-    let f = and-both (ltb b 0x80) (isIdChar b) (sym (c .before .is-id-byte .ensures) ∙ not-false _ (c .if1 .left)) in
-    let l = ltb-true b 0x80 (f .0) in
-    let n = ascii-next s (loop .i) h l in
-    let e = ap isIdChar (ascii-code s (loop .i) h l) ∙ f .1 in
-    ap (λ j. afterRun idChar (from s j)) (sym n) ∙ runs-on isIdChar s (loop .i) _ h e (loop .inv)
+    id-on s (loop .i) _ (c .before .before .before .loop-test .taken) (c .before .is-id-byte .ensures) (c .if1 .taken) (loop .inv)
+
+-- no other is one
+returns : tie.Need-returns Inv-loop μ-loop
+returns c =
+    let s = c .before .before .before .before .before .before .before .args .s .now in
+    let loop = c .before .before .before .before .before .loop in
+    let h = c .before .before .before .before .loop-test .taken in
+    id-out s (loop .i) _ h (c .before .before .is-id-byte .ensures) (c .before .if1 .left) (c .if2 .taken) (loop .inv)
+
+russian-at-requires : tie.Need-russian-at-requires Inv-loop μ-loop
+russian-at-requires c κs = search needs
+
+-- the rest by the tables
+lend-run-end-requires : tie.Need-lend-run-end-requires Inv-loop μ-loop
+lend-run-end-requires c κs = search needs
+
+returns-2 : tie.Need-returns-2 Inv-loop μ-loop
+returns-2 c =
+    let s = c .before .before .before .before .before .before .before .before .before .before .args .s .now in
+    let loop = c .before .before .before .before .before .before .before .before .loop in
+    c .lend-run-end .ensures ∙ ap (place (length s)) (loop .inv)
+
+-- past a Russian letter
+add-i-2 : tie.Need-add-i-2 Inv-loop μ-loop
+add-i-2 c =
+    let s = c .before .before .before .before .before .before .before .before .before .args .s .now in
+    let loop = c .before .before .before .before .before .before .before .loop in
+    let w = russian s (loop .i) (c .before .russian-at .ensures) (not-false _ (c .if3 .left)) .within in
+    omega arith
+
+loop-less-2 : tie.Need-loop-less-2 Inv-loop μ-loop
+loop-less-2 c =
+    let s = c .before .before .before .before .before .before .before .before .before .args .s .now in
+    let loop = c .before .before .before .before .before .before .before .loop in
+    let w = russian s (loop .i) (c .before .russian-at .ensures) (not-false _ (c .if3 .left)) .within in
+    omega arith
+
+loop-again-2 : tie.Need-loop-again-2 Inv-loop μ-loop
+loop-again-2 c =
+    let s = c .before .before .before .before .before .before .before .before .before .args .s .now in
+    let loop = c .before .before .before .before .before .before .before .loop in
+    russian-on s (loop .i) _ (russian s (loop .i) (c .before .russian-at .ensures) (not-false _ (c .if3 .left))) (loop .inv)
 
 returns-3 : tie.Need-returns-3 Inv-loop μ-loop
 returns-3 c =
@@ -76,10 +96,14 @@ id-run-end-spec =
     loop-holds
     shared-slice-read-b
     is-id-byte-requires
-    plain-run-end-requires
-    returns
-    returns-2
     add-i
     loop-less
     loop-again
+    returns
+    russian-at-requires
+    lend-run-end-requires
+    returns-2
+    add-i-2
+    loop-less-2
+    loop-again-2
     returns-3)

@@ -1,43 +1,18 @@
--- Each arm by a test that is computed at its codes.
-use mathlib.Core.Path.{refl, sym}
-use native.Mathlib.Omega.{arith}
-use Rattle.chars.specs.Quoted.{codes}
-use Rattle.chars.specs.Classes.{isIdStart, lowercase, uppercase}
-use Rattle.chars.proofs.Carry.{carry, each, each-not, each-but, hits, misses}
+-- Below 0x80 the test on bytes is the class.
+use mathlib.Core.Path.{_∙_}
+use borrow.Author.Tests.{lt-ltb}
+use borrow.Author.Needs.{needs}
 use Rattle.chars.proofs.classes.is_ascii_id_start.Statement.{statement}
 use Rattle.chars.proofs.classes.is_ascii_id_start.Tie as tie
 
+cast-is-ascii-start : tie.Need-cast-is-ascii-start
+cast-is-ascii-start c = search needs
+
+is-ascii-start-requires : tie.Need-is-ascii-start-requires
+is-ascii-start-requires c κs = search needs
+
 returns : tie.Need-returns
-unfolding isIdStart lowercase uppercase
-returns c =
-    let x = c .before .args .c in
-    sym (carry isIdStart (codes "$_") x refl (hits (codes "$_") x (c .match .keys1)))
-
-returns-2 : tie.Need-returns-2
-unfolding isIdStart lowercase uppercase
-returns-2 c = sym (each isIdStart 0x41 26 (c .before .before .before .args .c) refl (omega arith) (omega arith))
-
-returns-3 : tie.Need-returns-3
-unfolding isIdStart lowercase uppercase
-returns-3 c = sym (each isIdStart 0x61 26 (c .before .before .before .before .before .args .c) refl (omega arith) (omega arith))
-
-returns-4 : tie.Need-returns-4
-unfolding isIdStart lowercase uppercase
-returns-4 c =
-    let x = c .before .before .args .c in
-    sym (each-but isIdStart (codes "$_") 0x00 65 x refl (omega arith) (omega arith) (misses (codes "$_") x (c .before .match .rest .1)))
-
-returns-5 : tie.Need-returns-5
-unfolding isIdStart lowercase uppercase
-returns-5 c =
-    let x = c .before .before .before .before .args .c in
-    let keys = c .before .before .before .match .rest .1 in
-    sym (each-but isIdStart (codes "$_") 0x5B 6 x refl (omega arith) (omega arith) (misses (codes "$_") x keys))
-
-returns-6 : tie.Need-returns-6
-unfolding isIdStart lowercase uppercase
-returns-6 c = sym (each-not isIdStart 0x7B 5 (c .before .before .before .before .before .args .c) refl (omega arith) (omega arith))
+returns c = c .is-ascii-start .ensures ∙ rw (lt-ltb (c .before .args .c) 0x80 (c .before .pre))
 
 pub is-ascii-id-start-spec : {M : Type 1} → statement M
-is-ascii-id-start-spec =
-    tie.close (tie.spec returns returns-2 returns-3 returns-4 returns-5 returns-6)
+is-ascii-id-start-spec = tie.close (tie.spec cast-is-ascii-start is-ascii-start-requires returns)

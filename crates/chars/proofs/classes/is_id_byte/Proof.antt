@@ -1,28 +1,24 @@
 -- Each test agrees with the class at every byte that it is asked of.
-use mathlib.Core.Path.{refl}
+use mathlib.Core.Path.{refl, sym, _∙_}
 use mathlib.Core.Bool.{_&&_}
 use native.Mathlib.Omega.{arith}
 use lib.Dec.{leb, ltb, eqb}
-use Rattle.chars.specs.Classes.{isIdChar, alphabetic, alphaNotLetter, nd}
+use Rattle.chars.proofs.ClassLaws.{lowId, byte-id}
 use Rattle.chars.proofs.Carry.{each-same}
 use Rattle.chars.proofs.classes.is_id_byte.Statement.{statement}
 use Rattle.chars.proofs.classes.is_id_byte.Tie as tie
 
 returns : tie.Need-returns
-unfolding isIdChar alphabetic alphaNotLetter nd
-returns c = each-same (λ x. leb x _) (λ x. ltb x 0x80 && isIdChar x) 0x61 159 (c .before .args .b) refl (omega arith) (omega arith)
+returns c = each-same (λ x. leb x _) (λ x. ltb x 0x80 && lowId x) 0x61 159 (c .before .args .b) refl (omega arith) (omega arith) ∙ sym (byte-id (c .before .args .b))
 
 returns-2 : tie.Need-returns-2
-unfolding isIdChar alphabetic alphaNotLetter nd
-returns-2 c = each-same (λ x. leb x _) (λ x. ltb x 0x80 && isIdChar x) 0x41 32 (c .before .before .args .b) refl (omega arith) (omega arith)
+returns-2 c = each-same (λ x. leb x _) (λ x. ltb x 0x80 && lowId x) 0x41 32 (c .before .before .args .b) refl (omega arith) (omega arith) ∙ sym (byte-id (c .before .before .args .b))
 
 returns-3 : tie.Need-returns-3
-unfolding isIdChar alphabetic alphaNotLetter nd
-returns-3 c = each-same (λ x. leb x _) (λ x. ltb x 0x80 && isIdChar x) 0x30 17 (c .before .before .before .args .b) refl (omega arith) (omega arith)
+returns-3 c = each-same (λ x. leb x _) (λ x. ltb x 0x80 && lowId x) 0x30 17 (c .before .before .before .args .b) refl (omega arith) (omega arith) ∙ sym (byte-id (c .before .before .before .args .b))
 
 returns-4 : tie.Need-returns-4
-unfolding isIdChar alphabetic alphaNotLetter nd
-returns-4 c = each-same (λ x. eqb x _) (λ x. ltb x 0x80 && isIdChar x) 0x00 48 (c .before .before .before .args .b) refl (omega arith) (omega arith)
+returns-4 c = each-same (λ x. eqb x _) (λ x. ltb x 0x80 && lowId x) 0x00 48 (c .before .before .before .args .b) refl (omega arith) (omega arith) ∙ sym (byte-id (c .before .before .before .args .b))
 
 pub is-id-byte-spec : {M : Type 1} → statement M
 is-id-byte-spec = tie.close (tie.spec returns returns-2 returns-3 returns-4)

@@ -18,7 +18,7 @@ returns : tie.Need-returns
 unfolding isOpSign
 returns c =
     let args′ = c .before .args in
-    each-same (λ x. eqb (0xF400AC6A00000000 / 2 ^ x % 2) 1) (λ x. ltb x 0x80 && isOpSign x) 0 64 (args′ .b) refl (omega arith) (omega arith)
+    each-same (λ x. eqb (_ / 2 ^ x % 2) 1) (λ x. ltb x 0x80 && isOpSign x) 0 64 (args′ .b) refl (omega arith) (omega arith)
 
 sub-result : tie.Need-sub-result
 sub-result c = search needs
@@ -30,7 +30,7 @@ returns-2 : tie.Need-returns-2
 unfolding isOpSign
 returns-2 c =
     let args′ = c .before .before .args in
-    each-same (λ x. eqb (0x5000000050000001 / 2 ^ (x - 0x40) % 2) 1) (λ x. ltb x 0x80 && isOpSign x) 64 64 (args′ .b) refl (omega arith) (omega arith)
+    each-same (λ x. eqb (_ / 2 ^ (x - 0x40) % 2) 1) (λ x. ltb x 0x80 && isOpSign x) 64 64 (args′ .b) refl (omega arith) (omega arith)
 
 returns-3 : tie.Need-returns-3
 returns-3 c =

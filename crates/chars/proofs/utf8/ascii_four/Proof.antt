@@ -1,4 +1,4 @@
-use Rattle.chars.specs.Utf8.{asciiFour}
+use Rattle.chars.specs.Code.{asciiFour}
 use borrow.Author.Needs.{needs}
 use Rattle.chars.proofs.utf8.ascii_four.Statement.{statement}
 use Rattle.chars.proofs.utf8.ascii_four.Tie as tie

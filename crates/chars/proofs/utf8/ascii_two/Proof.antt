@@ -1,5 +1,5 @@
 use mathlib.Core.Path.{refl}
-use Rattle.chars.specs.Utf8.{asciiTwo}
+use Rattle.chars.specs.Code.{asciiTwo}
 use borrow.Author.Needs.{needs}
 use Rattle.chars.proofs.utf8.ascii_two.Statement.{statement}
 use Rattle.chars.proofs.utf8.ascii_two.Tie as tie

@@ -5,7 +5,7 @@ use borrow.Author.Needs.{needs}
 use lib.ListN.{length, drop}
 use Rattle.chars.specs.Utf8.{validFrom}
 use Rattle.chars.proofs.Valid.{valid}
-use Rattle.chars.proofs.Widths.{width-within, valid-stop, valid-next, valid-end, step-on}
+use Rattle.chars.proofs.Widths.{width-within, valid-stop, valid-next, valid-end, valid-to, valid-two}
 use Rattle.chars.proofs.utf8.valid_prefix.Statement.{statement}
 use Rattle.chars.proofs.utf8.valid_prefix.Tie as tie
 
@@ -21,70 +21,89 @@ loop-holds c = (omega arith, refl)
 shared-slice-read-if1 : tie.Need-shared-slice-read-if1 Inv-loop μ-loop
 shared-slice-read-if1 c = search needs
 
-ascii-step-requires : tie.Need-ascii-step-requires Inv-loop μ-loop
-ascii-step-requires c κs = search needs
+add-skip-ascii : tie.Need-add-skip-ascii Inv-loop μ-loop
+add-skip-ascii c = omega arith
 
-add-i : tie.Need-add-i Inv-loop μ-loop
-add-i c =
-    let s = c .before .before .before .before .before .before .args .s .now in
-    let loop = c .before .before .before .before .loop in
-    let h = step-on s (loop .i) (c .before .before .before .loop-test .taken) (c .before .if1 .taken) in
-    let e = c .ascii-step .ensures in
-    omega arith
+skip-ascii-requires : tie.Need-skip-ascii-requires Inv-loop μ-loop
+skip-ascii-requires c κs = omega arith
 
+-- past ASCII
 loop-less : tie.Need-loop-less Inv-loop μ-loop
 loop-less c =
-    let s = c .before .before .before .before .before .before .args .s .now in
-    let loop = c .before .before .before .before .loop in
-    let h = step-on s (loop .i) (c .before .before .before .loop-test .taken) (c .before .if1 .taken) in
-    let e = c .ascii-step .ensures in
+    let a = c .skip-ascii .ensures .later in
+    let b = c .skip-ascii .ensures .within in
     omega arith
 
 loop-again : tie.Need-loop-again Inv-loop μ-loop
 loop-again c =
     let s = c .before .before .before .before .before .before .args .s .now in
     let loop = c .before .before .before .before .loop in
-    let h = step-on s (loop .i) (c .before .before .before .loop-test .taken) (c .before .if1 .taken) in
-    let e = c .ascii-step .ensures in
-    (omega arith, rw e (h .2) ∙ loop .inv .1)
+    let a = c .skip-ascii .ensures in
+    (a .within, valid-to s (loop .i) _ (c .before .before .before .loop-test .taken) (c .before .if1 .taken) a ∙ loop .inv .1)
 
+two-in-requires : tie.Need-two-in-requires Inv-loop μ-loop
+two-in-requires c κs = search needs
+
+-- past a character of two bytes
+add-i : tie.Need-add-i Inv-loop μ-loop
+add-i c =
+    let s = c .before .before .before .before .before .before .before .args .s .now in
+    let loop = c .before .before .before .before .before .loop in
+    let h = valid-two s (loop .i) (c .before .two-in .ensures) (c .if2 .taken) .0 in
+    omega arith
+
+loop-less-2 : tie.Need-loop-less-2 Inv-loop μ-loop
+loop-less-2 c =
+    let s = c .before .before .before .before .before .before .before .args .s .now in
+    let loop = c .before .before .before .before .before .loop in
+    let h = valid-two s (loop .i) (c .before .two-in .ensures) (c .if2 .taken) .0 in
+    omega arith
+
+loop-again-2 : tie.Need-loop-again-2 Inv-loop μ-loop
+loop-again-2 c =
+    let s = c .before .before .before .before .before .before .before .args .s .now in
+    let loop = c .before .before .before .before .before .loop in
+    let h = valid-two s (loop .i) (c .before .two-in .ensures) (c .if2 .taken) in
+    (h .0, h .1 ∙ loop .inv .1)
+
+-- past any other
 width-at-requires : tie.Need-width-at-requires Inv-loop μ-loop
 width-at-requires c κs = search needs
 
 returns : tie.Need-returns Inv-loop μ-loop
 returns c =
-    let args = c .before .before .before .before .before .before .before .args in
-    let loop = c .before .before .before .before .before .loop in
-    let loop-test = c .before .before .before .before .loop-test in
+    let args = c .before .before .before .before .before .before .before .before .before .args in
+    let loop = c .before .before .before .before .before .before .before .loop in
+    let loop-test = c .before .before .before .before .before .before .loop-test in
     let s = args .s .now in
-    let e = sym (valid-stop s (loop .i) (loop-test .taken) (sym (c .before .width-at .ensures) ∙ c .if2 .taken)) ∙ loop .inv .1 in
+    let e = sym (valid-stop s (loop .i) (loop-test .taken) (sym (c .before .width-at .ensures) ∙ c .if3 .taken)) ∙ loop .inv .1 in
     (e, rw e (valid s))
 
 add-i-2 : tie.Need-add-i-2 Inv-loop μ-loop
 add-i-2 c =
-    let args = c .before .before .before .before .before .before .before .args in
-    let loop = c .before .before .before .before .before .loop in
+    let args = c .before .before .before .before .before .before .before .before .before .args in
+    let loop = c .before .before .before .before .before .before .before .loop in
     let a = width-within (args .s .now) (loop .i) (loop .inv .0) in
     let b = c .before .width-at .ensures in
     omega arith
 
-loop-less-2 : tie.Need-loop-less-2 Inv-loop μ-loop
-loop-less-2 c =
-    let args = c .before .before .before .before .before .before .before .args in
-    let loop = c .before .before .before .before .before .loop in
+loop-less-3 : tie.Need-loop-less-3 Inv-loop μ-loop
+loop-less-3 c =
+    let args = c .before .before .before .before .before .before .before .before .before .args in
+    let loop = c .before .before .before .before .before .before .before .loop in
     let a = width-within (args .s .now) (loop .i) (loop .inv .0) in
     let b = c .before .width-at .ensures in
     omega arith
 
-loop-again-2 : tie.Need-loop-again-2 Inv-loop μ-loop
-loop-again-2 c =
-    let args = c .before .before .before .before .before .before .before .args in
-    let loop = c .before .before .before .before .before .loop in
-    let loop-test = c .before .before .before .before .loop-test in
+loop-again-3 : tie.Need-loop-again-3 Inv-loop μ-loop
+loop-again-3 c =
+    let args = c .before .before .before .before .before .before .before .before .before .args in
+    let loop = c .before .before .before .before .before .before .before .loop in
+    let loop-test = c .before .before .before .before .before .before .loop-test in
     let s = args .s .now in
     let a = width-within s (loop .i) (loop .inv .0) in
     let b = c .before .width-at .ensures in
-    (omega arith, valid-next s (loop .i) (c .before .width-at .result) (loop-test .taken) (sym b) (c .if2 .left) ∙ loop .inv .1)
+    (omega arith, valid-next s (loop .i) (c .before .width-at .result) (loop-test .taken) (sym b) (c .if3 .left) ∙ loop .inv .1)
 
 returns-2 : tie.Need-returns-2 Inv-loop μ-loop
 returns-2 c =
@@ -101,13 +120,17 @@ valid-prefix-spec =
     μ-loop
     loop-holds
     shared-slice-read-if1
-    ascii-step-requires
-    add-i
+    add-skip-ascii
+    skip-ascii-requires
     loop-less
     loop-again
+    two-in-requires
+    add-i
+    loop-less-2
+    loop-again-2
     width-at-requires
     returns
     add-i-2
-    loop-less-2
-    loop-again-2
+    loop-less-3
+    loop-again-3
     returns-2)
