@@ -1,19 +1,20 @@
 -- The run of blanks, byte by byte.
 use Prim.Native.Nat.{ℕ, _+_, _≤_, _<_}
 use mathlib.Core.Path.{_≡_, refl, sym, _∙_, ap}
-use mathlib.Core.Bool.{Bool, true, false}
-use mathlib.Core.List.{List, [], _∷_}
-use lib.ListN.{length, drop, getD}
-use lib.Dec.{ltb}
+use mathlib.Core.Bool.{true, false}
+use mathlib.Core.List.{List}
+use lib.ListN.{length, getD}
+use lib.Dec.{leb, ltb}
 use native.Mathlib.Omega.{arith}
-use borrow.Author.Tests.{ltb-true}
+use borrow.Author.Tests.{leb-true, ltb-true}
 use Rattle.chars.specs.Quoted.{codes, oneOf}
-use Rattle.chars.specs.Text.{Char, Text, from, afterRun}
+use Rattle.chars.specs.Text.{Text, from, afterRun}
 use Rattle.chars.proofs.Carry.{carry}
-use Rattle.chars.proofs.Places.{at-char, at-ascii, codeAt}
+use Rattle.chars.proofs.Places.{at-ascii}
+use Rattle.chars.proofs.IdRuns.{run-stays}
 use Rattle.token.specs.Tests.{isAny}
-use Rattle.token.proofs.Bytes.{any-byte}
-use Rattle.token.proofs.Cursors.{run-past, run-here, run-none}
+use Rattle.token.proofs.Bytes.{any-byte, inside}
+use Rattle.token.proofs.Cursors.{run-past, run-none}
 
 module _ (s : List ℕ) (i : ℕ) (f : Text) where
   pub blank-on : i < length s → oneOf " \t" (getD s i 0) ≡ true → afterRun (isAny " \t") (from s i) ≡ f → afterRun (isAny " \t") (from s (i + 1)) ≡ f
@@ -21,8 +22,25 @@ module _ (s : List ℕ) (i : ℕ) (f : Text) where
       let l = ltb-true (getD s i 0) 0x80 (carry (λ c. ltb c 0x80) (codes " \t") (getD s i 0) refl e) in
       run-past (isAny " \t") s i f _ _ (at-ascii s i h l) (any-byte " \t" refl s i ∙ e) q
 
-  pub blank-stop : i < length s → oneOf " \t" (getD s i 0) ≡ false → afterRun (isAny " \t") (from s i) ≡ f → from s i ≡ f
-  blank-stop h e q = run-here (isAny " \t") s i f _ _ (at-char s i h) (any-byte " \t" refl s i ∙ e) q
+  pub blank-stop : oneOf " \t" (getD s i 0) ≡ false → afterRun (isAny " \t") (from s i) ≡ f → from s i ≡ f
+  blank-stop e q = sym (run-stays (isAny " \t") (from s i) (any-byte " \t" refl s i ∙ e)) ∙ q
 
   pub blank-end : length s ≤ i → afterRun (isAny " \t") (from s i) ≡ f → from s i ≡ f
   blank-end h q = run-none (isAny " \t") s i f h q
+
+-- a blank stands in the script
+pub blank-inside : (s : List ℕ) (i : ℕ) → oneOf " \t" (getD s i 0) ≡ true → i < length s
+blank-inside s i e = inside s i (leb-true 1 (getD s i 0) (carry (λ c. leb 1 c) (codes " \t") (getD s i 0) refl e))
+
+-- one blank, and two
+pub one-blank : (s : List ℕ) (i : ℕ) → oneOf " \t" (getD s i 0) ≡ true → oneOf " \t" (getD s (i + 1) 0) ≡ false
+    → (i + 1 ≤ length s) × (from s (i + 1) ≡ afterRun (isAny " \t") (from s i))
+one-blank s i e n = let h = blank-inside s i e in (omega arith, blank-stop s (i + 1) _ n (blank-on s i _ h e refl))
+
+pub two-blanks : (s : List ℕ) (i : ℕ) → oneOf " \t" (getD s i 0) ≡ true → oneOf " \t" (getD s (i + 1) 0) ≡ true
+    → (i + 2 ≤ length s) × (afterRun (isAny " \t") (from s (i + 2)) ≡ afterRun (isAny " \t") (from s i))
+two-blanks s i e f =
+    let h = blank-inside s i e in
+    let k = blank-inside s (i + 1) f in
+    let m : i + 2 ≡ i + 1 + 1 = omega arith in
+    (omega arith, ap (λ j. afterRun (isAny " \t") (from s j)) m ∙ blank-on s (i + 1) _ k f (blank-on s i _ h e refl))

@@ -1,7 +1,7 @@
 -- Comments, byte by byte.
 use Prim.Native.Nat.{ℕ, zero, suc, _+_, _-_, _≤_, _<_}
 use mathlib.Core.Path.{_≡_, refl, sym, _∙_, ap}
-use mathlib.Core.Bool.{Bool, true, false, cond, not, _&&_, _||_}
+use mathlib.Core.Bool.{Bool, true, false, cond, not, _&&_, _||_, and-false}
 use mathlib.Core.List.{List, [], _∷_}
 use mathlib.Core.Option.{Option, none, some}
 use lib.ListN.{length, drop, getD}
@@ -24,11 +24,8 @@ pub record Pair (s : List ℕ) (i x y : ℕ) : Type 0 where
   pub text : from s i ≡ record { code = x; at = i } ∷ record { code = y; at = i + 1 } ∷ from s (i + 2)
   pub within : i + 2 ≤ length s
 
-pub pair-at : (s : List ℕ) (i x y : ℕ) → 1 ≤ x → x < 0x80 → 1 ≤ y → y < 0x80 → eqb (getD s i 0) x && eqb (getD s (i + 1) 0) y ≡ true → Pair s i x y
-pair-at s i x y a b c d e =
-    let k = and-both (eqb (getD s i 0) x) (eqb (getD s (i + 1) 0) y) e in
-    let p = eqb-true (getD s i 0) x (k .0) in
-    let q = eqb-true (getD s (i + 1) 0) y (k .1) in
+pub pair-of : (s : List ℕ) (i x y : ℕ) → 1 ≤ x → x < 0x80 → 1 ≤ y → y < 0x80 → getD s i 0 ≡ x → getD s (i + 1) 0 ≡ y → Pair s i x y
+pair-of s i x y a b c d p q =
     let g = inside s i (omega arith) in
     let h = inside s (i + 1) (omega arith) in
     let m : i + 1 + 1 ≡ i + 2 = omega arith in
@@ -40,6 +37,11 @@ pair-at s i x y a b c d e =
           (at-ascii s (i + 1) h (omega arith) ∙ ap (λ z. record { code = z; at = i + 1 } ∷ from s (i + 1 + 1)) q ∙ ap (λ j. record { code = y; at = i + 1 } ∷ from s j) m);
       within = omega arith;
     }
+
+pub pair-at : (s : List ℕ) (i x y : ℕ) → 1 ≤ x → x < 0x80 → 1 ≤ y → y < 0x80 → eqb (getD s i 0) x && eqb (getD s (i + 1) 0) y ≡ true → Pair s i x y
+pair-at s i x y a b c d e =
+    let k = and-both (eqb (getD s i 0) x) (eqb (getD s (i + 1) 0) y) e in
+    pair-of s i x y a b c d (eqb-true (getD s i 0) x (k .0)) (eqb-true (getD s (i + 1) 0) y (k .1))
 
 pub pair-past : {s : List ℕ} {i x y : ℕ} → Pair s i x y → from s (i + 2) ≡ drop 2 (from s i)
 pair-past h = sym (ap (drop 2) (h .text))
@@ -112,23 +114,35 @@ pass : (d : ℕ) (c : Char) (u : Text) → closesBlock (c ∷ u) ≡ false → o
 unfolding close
 pass d c u x y = rw (x, y)
 
+-- the bytes that open and close; the code reads the second one a place later
+pub slash-star : (s : List ℕ) (i : ℕ) → getD s i 0 ≡ 0x2F → getD s (i + 1) 0 ≡ 0x2A → Pair s i 0x2F 0x2A
+slash-star s i p q = pair-of s i 0x2F 0x2A (omega arith) (omega arith) (omega arith) (omega arith) p q
+
+pub star-slash : (s : List ℕ) (i : ℕ) → getD s i 0 ≡ 0x2A → getD s (i + 1) 0 ≡ 0x2F → Pair s i 0x2A 0x2F
+star-slash s i p q = pair-of s i 0x2A 0x2F (omega arith) (omega arith) (omega arith) (omega arith) p q
+
+twice : (i : ℕ) → i + 1 + 1 ≡ i + 2
+twice i = omega arith
+
 module _ (s : List ℕ) (i : ℕ) (f : Option Text) where
-  pub block-close : Pair s i 0x2A 0x2F → close 0 0 (from s i) ≡ f → closed.At (cursorAt (i + 2)) ≡ closedOf (length s) f
+  pub block-close : Pair s i 0x2A 0x2F → close 0 0 (from s i) ≡ f → closed.At (cursorAt (i + 1 + 1)) ≡ closedOf (length s) f
   unfolding close closedOf begins
   block-close h q =
       let e : close 0 0 (from s i) ≡ some (from s (i + 2)) = ap (close 0 0) (h .text) in
       let p = place-from s (i + 2) (h .within) in
-      sym (ap (closedOf (length s)) (sym q ∙ e) ∙ ap (λ j. closed.At (cursorAt j)) p)
+      ap (λ j. closed.At (cursorAt j)) (twice i) ∙ sym (ap (closedOf (length s)) (sym q ∙ e) ∙ ap (λ j. closed.At (cursorAt j)) p)
 
-  pub block-less : (d : ℕ) → Pair s i 0x2A 0x2F → close (suc d) 0 (from s i) ≡ f → close d 0 (from s (i + 2)) ≡ f
+  pub block-less : (d : ℕ) → Pair s i 0x2A 0x2F → close (suc d) 0 (from s i) ≡ f → close d 0 (from s (i + 1 + 1)) ≡ f
   unfolding close begins
-  block-less d h q = sym (ap (close (suc d) 0) (h .text)) ∙ q
+  block-less d h q = ap (λ j. close d 0 (from s j)) (twice i) ∙ sym (ap (close (suc d) 0) (h .text)) ∙ q
 
-  pub block-more : (d : ℕ) → Pair s i 0x2F 0x2A → close d 0 (from s i) ≡ f → close (suc d) 0 (from s (i + 2)) ≡ f
+  pub block-more : (d : ℕ) → Pair s i 0x2F 0x2A → close d 0 (from s i) ≡ f → close (d + 1) 0 (from s (i + 1 + 1)) ≡ f
   unfolding close begins
-  block-more d h q = sym (ap (close d 0) (h .text)) ∙ q
+  block-more d h q =
+      let m : d + 1 ≡ suc d = omega arith in
+      ap (λ e. close e 0 (from s (i + 1 + 1))) m ∙ ap (λ j. close (suc d) 0 (from s j)) (twice i) ∙ sym (ap (close d 0) (h .text)) ∙ q
 
-  pub block-on : (d : ℕ) → i < length s → closesBlock (from s i) ≡ false → opensBlock (from s i) ≡ false → close d 0 (from s i) ≡ f → close d 0 (from s (i + 1)) ≡ f
+  block-on : (d : ℕ) → i < length s → closesBlock (from s i) ≡ false → opensBlock (from s i) ≡ false → close d 0 (from s i) ≡ f → close d 0 (from s (i + 1)) ≡ f
   block-on d h a b q = go (ltb (getD s i 0) 0x80) refl
     where
       go : (b : Bool) → ltb (getD s i 0) 0x80 ≡ b → close d 0 (from s (i + 1)) ≡ f
@@ -136,6 +150,22 @@ module _ (s : List ℕ) (i : ℕ) (f : Option Text) where
           let t = at-ascii s i h (ltb-true (getD s i 0) 0x80 l) in
           sym (ap (close d 0) t ∙ pass d _ _ (sym (ap closesBlock t) ∙ a) (sym (ap opensBlock t) ∙ b)) ∙ q
       go false l = byte-by-byte s (close d 0) (λ c u w. pass d c u (wide-closes c u w) (wide-opens c u w)) i h (ltb-false (getD s i 0) 0x80 l) ∙ q
+
+  -- one byte is passed: a slash without its star, a star without its slash, any other
+  first-not : (x y : ℕ) → (getD s i 0 ≡ x → ⊥) → eqb (getD s i 0) x && eqb (getD s (i + 1) 0) y ≡ false
+  first-not x y n = rw (ne-eqb (getD s i 0) x n)
+
+  next-not : (x y : ℕ) → (getD s (i + 1) 0 ≡ y → ⊥) → eqb (getD s i 0) x && eqb (getD s (i + 1) 0) y ≡ false
+  next-not x y n = rw (ne-eqb (getD s (i + 1) 0) y n) (and-false (eqb (getD s i 0) x))
+
+  pub block-slash : (d : ℕ) → i < length s → getD s i 0 ≡ 0x2F → (getD s (i + 1) 0 ≡ 0x2A → ⊥) → close d 0 (from s i) ≡ f → close d 0 (from s (i + 1)) ≡ f
+  block-slash d h e n = block-on d h (closes-block s i ∙ first-not 0x2A 0x2F (λ z. absurd (omega arith))) (opens-block s i ∙ next-not 0x2F 0x2A n)
+
+  pub block-star : (d : ℕ) → i < length s → getD s i 0 ≡ 0x2A → (getD s (i + 1) 0 ≡ 0x2F → ⊥) → close d 0 (from s i) ≡ f → close d 0 (from s (i + 1)) ≡ f
+  block-star d h e n = block-on d h (closes-block s i ∙ next-not 0x2A 0x2F n) (opens-block s i ∙ first-not 0x2F 0x2A (λ z. absurd (omega arith)))
+
+  pub block-other : (d : ℕ) → i < length s → (getD s i 0 ≡ 0x2F → ⊥) → (getD s i 0 ≡ 0x2A → ⊥) → close d 0 (from s i) ≡ f → close d 0 (from s (i + 1)) ≡ f
+  block-other d h m n = block-on d h (closes-block s i ∙ first-not 0x2A 0x2F n) (opens-block s i ∙ first-not 0x2F 0x2A m)
 
   pub block-end : (d : ℕ) → length s ≤ i → close d 0 (from s i) ≡ f → closed.Open ≡ closedOf (length s) f
   unfolding close closedOf

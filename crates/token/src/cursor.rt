@@ -71,20 +71,35 @@ impl Cursor {
         }
     }
 
-    // Past the spaces and tabs that stand there.
+    // Past the spaces and tabs that stand there. Most stand alone: two bytes are looked at before any loop.
     pub fn skip_blanks(self, s: &[u8]) -> Cursor
         requires { ⌜ self .at ≤ length (now s) ⌝ }
         ensures { λ r. ⌜ (r .at ≤ length (now (s .entry))) × (self .at ≤ r .at) × (from (now (s .entry)) (r .at) ≡ afterRun (isAny " \t") (from (now (s .entry)) (self .at))) ⌝ }
     {
-        let mut i = self.at;
-        while i < s.len() {
-            if !is_blank(s[i]) {
-                return Cursor { at: i };
-            }
-            i += 1;
+        let at = self.at;
+        if !is_blank(byte_at(s, at)) {
+            return self;
         }
-        Cursor { at: i }
+        if !is_blank(byte_at(s, at + 1)) {
+            return Cursor { at: at + 1 };
+        }
+        skip_more(s, at + 2)
     }
+}
+
+// The same from a place on, byte by byte.
+fn skip_more(s: &[u8], at: usize) -> Cursor
+    requires { ⌜ at ≤ length (now s) ⌝ }
+    ensures { λ r. ⌜ (r .at ≤ length (now (s .entry))) × (at ≤ r .at) × (from (now (s .entry)) (r .at) ≡ afterRun (isAny " \t") (from (now (s .entry)) at)) ⌝ }
+{
+    let mut i = at;
+    while i < s.len() {
+        if !is_blank(s[i]) {
+            return Cursor { at: i };
+        }
+        i += 1;
+    }
+    Cursor { at: i }
 }
 
 fn is_blank(b: u8) -> bool

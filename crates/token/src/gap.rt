@@ -125,17 +125,21 @@ impl Cursor {
         let mut i = self.at + 2;
         let mut depth: usize = 0;
         while i < s.len() {
-            if two_at(s, i, 0x2A, 0x2F) {
-                i += 2;
-                if depth == 0 {
-                    return Closed::At(Cursor { at: i });
+            let b = s[i];
+            i += 1;
+            if b == 0x2F {
+                if byte_at(s, i) == 0x2A {
+                    i += 1;
+                    depth += 1;
                 }
-                depth -= 1;
-            } else if two_at(s, i, 0x2F, 0x2A) {
-                i += 2;
-                depth += 1;
-            } else {
-                i += 1;
+            } else if b == 0x2A {
+                if byte_at(s, i) == 0x2F {
+                    i += 1;
+                    if depth == 0 {
+                        return Closed::At(Cursor { at: i });
+                    }
+                    depth -= 1;
+                }
             }
         }
         Closed::Open

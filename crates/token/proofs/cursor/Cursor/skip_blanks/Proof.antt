@@ -1,68 +1,71 @@
-use Prim.Native.Nat.{_≤_, _<_, _-_, _+_}
-use mathlib.Core.Path.{_≡_, refl, sym, ap, _∙_}
-use mathlib.Core.Bool.{true, false}
+-- The first byte that is no blank among two, or the run behind both.
+use Prim.Native.Nat.{_≤_, _+_}
+use mathlib.Core.Path.{refl, sym, ap, _∙_}
 use native.Mathlib.Omega.{arith}
 use borrow.Author.Needs.{needs}
 use borrow.Author.Tests.{not-true, not-false}
-use lib.ListN.{length, getD}
-use Rattle.chars.specs.Text.{from, afterRun}
-use Rattle.token.specs.Tests.{isAny}
-use Rattle.token.proofs.Blanks.{blank-on, blank-stop, blank-end}
+use Rattle.chars.specs.Quoted.{oneOf}
+use Rattle.token.proofs.Blanks.{blank-stop, one-blank, two-blanks}
 use Rattle.token.proofs.cursor.Cursor.skip_blanks.Statement.{statement}
 use Rattle.token.proofs.cursor.Cursor.skip_blanks.Tie as tie
 
-abbrev Inv-loop : tie.InvT-loop
-Inv-loop s i₀ i = (i ≤ length s) × (i₀ ≤ i) × (afterRun (isAny " \t") (from s i) ≡ afterRun (isAny " \t") (from s i₀))
+byte-at-requires : tie.Need-byte-at-requires
+byte-at-requires c κs = search needs
 
-abbrev μ-loop : tie.MeasureT-loop
-μ-loop s i₀ i = length s - i
-
-loop-holds : tie.Need-loop-holds Inv-loop μ-loop
-loop-holds c = (c .before .pre, omega arith, refl)
-
-shared-slice-read-is-blank : tie.Need-shared-slice-read-is-blank Inv-loop μ-loop
-shared-slice-read-is-blank c = search needs
-
-is-blank-requires : tie.Need-is-blank-requires Inv-loop μ-loop
+is-blank-requires : tie.Need-is-blank-requires
 is-blank-requires c κs = search needs
 
-returns : tie.Need-returns Inv-loop μ-loop
+returns : tie.Need-returns
 returns c =
-    let loop = c .before .before .before .before .loop in
-    let args = c .before .before .before .before .before .before .args in
-    let loop-test = c .before .before .before .loop-test in
-    (loop .inv .0, loop .inv .1, blank-stop (args .s .now) (loop .i) _ (loop-test .taken) (sym (c .before .is-blank .ensures) ∙ not-true _ (c .if1 .taken)) (loop .inv .2))
+    let args = c .before .before .before .before .args in
+    (c .before .before .before .before .pre, omega arith, blank-stop (args .s .now) (args .self .at) _ (ap (oneOf " \t") (sym (c .before .before .byte-at .ensures)) ∙ sym (c .before .is-blank .ensures) ∙ not-true _ (c .if1 .taken)) refl)
 
-add-i : tie.Need-add-i Inv-loop μ-loop
-add-i c = omega arith
+add-byte-at : tie.Need-add-byte-at
+add-byte-at c = search needs
 
-loop-less : tie.Need-loop-less Inv-loop μ-loop
-loop-less c = omega arith
+byte-at-requires-2 : tie.Need-byte-at-requires-2
+byte-at-requires-2 c κs = search needs
 
-loop-again : tie.Need-loop-again Inv-loop μ-loop
-loop-again c =
-    let args = c .before .before .before .before .before .before .args in
-    let loop = c .before .before .before .before .loop in
-    let loop-test = c .before .before .before .loop-test in
-    (omega arith, omega arith, blank-on (args .s .now) (loop .i) _ (loop-test .taken) (sym (c .before .is-blank .ensures) ∙ not-false _ (c .if1 .left)) (loop .inv .2))
+is-blank-requires-2 : tie.Need-is-blank-requires-2
+is-blank-requires-2 c κs = search needs
 
-returns-2 : tie.Need-returns-2 Inv-loop μ-loop
+add-t8 : tie.Need-add-t8
+add-t8 c = search needs
+
+returns-2 : tie.Need-returns-2
 returns-2 c =
-    let loop = c .before .loop in
-    let args = c .before .before .before .args in
-    (loop .inv .0, loop .inv .1, blank-end (args .s .now) (loop .i) _ (c .loop-test .left) (loop .inv .2))
+    let args = c .before .before .before .before .before .before .before .args in
+    let one = one-blank (args .s .now) (args .self .at) (ap (oneOf " \t") (sym (c .before .before .before .before .before .byte-at .ensures)) ∙ sym (c .before .before .before .before .is-blank .ensures) ∙ not-false _ (c .before .before .before .if1 .left)) (ap (oneOf " \t") (sym (c .before .before .byte-at2 .ensures)) ∙ sym (c .before .is-blank2 .ensures) ∙ not-true _ (c .if2 .taken)) in
+    (one .0, omega arith, one .1)
+
+add-skip-more : tie.Need-add-skip-more
+add-skip-more c = search needs
+
+skip-more-requires : tie.Need-skip-more-requires
+skip-more-requires c κs =
+    let args = c .before .before .before .before .before .before .before .args in
+    let two = two-blanks (args .s .now) (args .self .at) (ap (oneOf " \t") (sym (c .before .before .before .before .before .byte-at .ensures)) ∙ sym (c .before .before .before .before .is-blank .ensures) ∙ not-false _ (c .before .before .before .if1 .left)) (ap (oneOf " \t") (sym (c .before .before .byte-at2 .ensures)) ∙ sym (c .before .is-blank2 .ensures) ∙ not-false _ (c .if2 .left)) in
+    omega (arith, two .0)
+
+returns-3 : tie.Need-returns-3
+returns-3 c =
+    let args = c .before .before .before .before .before .before .before .before .args in
+    let two = two-blanks (args .s .now) (args .self .at) (ap (oneOf " \t") (sym (c .before .before .before .before .before .before .byte-at .ensures)) ∙ sym (c .before .before .before .before .before .is-blank .ensures) ∙ not-false _ (c .before .before .before .before .if1 .left)) (ap (oneOf " \t") (sym (c .before .before .before .byte-at2 .ensures)) ∙ sym (c .before .before .is-blank2 .ensures) ∙ not-false _ (c .before .if2 .left)) in
+    let more = c .skip-more .ensures in
+    (more .0, omega (arith, more .1), more .2 ∙ two .1)
 
 pub skip-blanks-spec : {M : Type 1} → statement M
 skip-blanks-spec =
     tie.close
     (tie.spec
-    Inv-loop
-    μ-loop
-    loop-holds
-    shared-slice-read-is-blank
+    byte-at-requires
     is-blank-requires
     returns
-    add-i
-    loop-less
-    loop-again
-    returns-2)
+    add-byte-at
+    byte-at-requires-2
+    is-blank-requires-2
+    add-t8
+    returns-2
+    add-skip-more
+    skip-more-requires
+    returns-3)
