@@ -13,3 +13,4 @@ pub mod Steps
 pub mod Places
 pub mod Russian
 pub mod IdRuns
+pub mod Spans

@@ -11,7 +11,7 @@ use native.Mathlib.Omega.{arith}
 use borrow.Author.Tests.{leb-true, ltb-true, ltb-false}
 use Rattle.chars.specs.Ranges.{Range, _to_}
 use Rattle.chars.specs.Utf8.{table37, fits, Row, here, later, width, validFrom}
-use Rattle.chars.specs.Code.{asciiTwo, asciiFour, asciiEight, asciiSixteen, AsciiTo}
+use Rattle.chars.specs.Code.{AllIn}
 use Rattle.chars.proofs.Bools.{and-both}
 use Rattle.chars.proofs.Rows as rows
 use Rattle.chars.proofs.Valid.{width-found, width-fit, fit-length, fit-within}
@@ -77,75 +77,24 @@ valid-ascii s i h l =
 -- ---- several ASCII bytes
 
 module _ (s : List ℕ) where
-  -- n bytes from i on are ASCII
-  abbrev Low : ℕ → ℕ → Type 0
-  Low i n = (k : ℕ) → i ≤ k → k < i + n → getD s k 0 < 0x80
-
-  one-low : (i : ℕ) → ltb (getD s i 0) 0x80 ≡ true → Low i 1
-  one-low i e k l m = let q : k ≡ i = omega arith in rw q (ltb-true (getD s i 0) 0x80 e)
-
-  low-join : (i n m : ℕ) → Low i n → Low (i + n) m → Low i (n + m)
-  low-join i n m a b k l h = go (ltb k (i + n)) refl
-    where
-      go : (x : Bool) → ltb k (i + n) ≡ x → getD s k 0 < 0x80
-      go true e = a k l (ltb-true k (i + n) e)
-      go false e = b k (ltb-false k (i + n) e) (omega arith)
-
-  two-low : (i : ℕ) → asciiTwo s i ≡ true → Low i 2
-  unfolding asciiTwo
-  two-low i e =
-      let b = and-both (ltb (getD s i 0) 0x80) (ltb (getD s (i + 1) 0) 0x80) e in
-      low-join i 1 1 (one-low i (b .0)) (one-low (i + 1) (b .1))
-
-  four-low : (i : ℕ) → asciiFour s i ≡ true → Low i 4
-  unfolding asciiFour
-  four-low i e = let b = and-both (asciiTwo s i) (asciiTwo s (i + 2)) e in low-join i 2 2 (two-low i (b .0)) (two-low (i + 2) (b .1))
-
-  eight-low : (i : ℕ) → asciiEight s i ≡ true → Low i 8
-  unfolding asciiEight
-  eight-low i e = let b = and-both (asciiFour s i) (asciiFour s (i + 4)) e in low-join i 4 4 (four-low i (b .0)) (four-low (i + 4) (b .1))
-
-  sixteen-low : (i : ℕ) → asciiSixteen s i ≡ true → (i + 16 ≤ length s) × Low i 16
-  unfolding asciiSixteen
-  sixteen-low i e =
-      let a = and-both (leb (i + 16) (length s)) (asciiEight s i && asciiEight s (i + 8)) e in
-      let b = and-both (asciiEight s i) (asciiEight s (i + 8)) (a .1) in
-      (leb-true (i + 16) (length s) (a .0), low-join i 8 8 (eight-low i (b .0)) (eight-low (i + 8) (b .1)))
-
-  pub ascii-none : (i : ℕ) → i ≤ length s → AsciiTo s i i
-  ascii-none i h = record { later = omega arith; within = h; ascii = λ k l m. absurd (omega arith) }
-
-  pub ascii-more : (i j : ℕ) → AsciiTo s i j → asciiSixteen s j ≡ true → AsciiTo s i (j + 16)
-  ascii-more i j a e =
-      let b = sixteen-low j e in
-      record { later = let l = a .later in omega arith; within = b .0; ascii = both }
-    where
-      both : (k : ℕ) → i ≤ k → k < j + 16 → getD s k 0 < 0x80
-      both k l h = go (ltb k j) refl
-        where
-          go : (x : Bool) → ltb k j ≡ x → getD s k 0 < 0x80
-          go true q = a .ascii k l (ltb-true k j q)
-          go false q = sixteen-low j e .1 k (ltb-false k j q) h
-
   -- the check finds the same from j on as from i on
   abbrev Same : ℕ → ℕ → Type 0
   Same j i = validFrom j 0 (drop j s) ≡ validFrom i 0 (drop i s)
 
   -- past n ASCII bytes
-  valid-low : (n i : ℕ) → i + n ≤ length s → Low i n → Same (i + n) i
+  valid-low : (n i : ℕ) → i + n ≤ length s → AllIn 0x00 0x7F s i (i + n) → Same (i + n) i
   valid-low zero i h a = ap (λ j. validFrom j 0 (drop j s)) (let z : i + 0 ≡ i = omega arith in z)
   valid-low (suc n) i h a =
       let z : i + suc n ≡ i + 1 + n = omega arith in
+      let b = a i (omega arith) (omega arith) .1 in
       ap (λ j. validFrom j 0 (drop j s)) z ∙ valid-low n (i + 1) (omega arith) (λ k l m. a k (omega arith) (omega arith))
-      ∙ valid-ascii s i (omega arith) (a i (omega arith) (omega arith))
+      ∙ valid-ascii s i (omega arith) (omega arith)
 
-  pub valid-to : (i j : ℕ) → i < length s → getD s i 0 < 0x80 → AsciiTo s (i + 1) j → Same j i
-  valid-to i j h l a =
-      let b = a .later in
-      let w = a .within in
+  pub valid-to : (i j : ℕ) → i < length s → getD s i 0 < 0x80 → i + 1 ≤ j → j ≤ length s → AllIn 0x00 0x7F s (i + 1) j → Same j i
+  valid-to i j h l b w a =
       let z : j ≡ i + 1 + (j - (i + 1)) = omega arith in
       ap (λ k. validFrom k 0 (drop k s)) z
-      ∙ valid-low (j - (i + 1)) (i + 1) (omega arith) (λ k m n. a .ascii k m (omega arith)) ∙ valid-ascii s i h l
+      ∙ valid-low (j - (i + 1)) (i + 1) (omega arith) (λ k m n. a k m (omega arith)) ∙ valid-ascii s i h l
 
   -- past a character of two bytes, which a test b has found
   pub valid-two : (i : ℕ) {b : Bool} → b ≡ fits (0xC2 to 0xDF ∷ 0x80 to 0xBF ∷ []) (drop i s) → b ≡ true

@@ -6,7 +6,7 @@ use crate::tables::ND;
 use crate::tables::UPPERCASE;
 use crate::text::Step;
 use crate::text::char_at;
-use crate::utf8::two_in;
+use crate::utf8::pair_in;
 ghost use mathlib.Core.Path.{_≡_};
 ghost use Prim.Native.Nat.{_<_, _≤_};
 ghost use mathlib.Core.Bool.{true, not, _&&_};
@@ -260,10 +260,10 @@ pub fn ascii_run_end(s: &[u8], at: usize) -> usize
 pub fn russian_at(s: &[u8], at: usize) -> bool
     ensures { λ r. ⌜ r ≡ russianAt (now (s .entry)) at ⌝ }
 {
-    if two_in(s, at, 0xD0, 0xD0, 0x90, 0xBF) {
+    if pair_in(s, at, 0xD0, 0xD0, 0x90, 0xBF) {
         return true;
     }
-    two_in(s, at, 0xD1, 0xD1, 0x80, 0x8F)
+    pair_in(s, at, 0xD1, 0xD1, 0x80, 0x8F)
 }
 
 // Where the run of id characters from a place on ends. ASCII and the Russian letters need no table; the first that does lends all three.

@@ -1,4 +1,5 @@
 // UTF-8 by the Unicode Standard, Table 3-7.
+use crate::eights::skip_eights;
 ghost use mathlib.Core.Path.{_≡_};
 ghost use mathlib.Core.Bool.{cond};
 ghost use mathlib.Core.List.{[], _∷_};
@@ -6,7 +7,6 @@ ghost use Prim.Native.Nat.{_+_, _<_, _≤_, _%_};
 ghost use lib.ListN.{drop, getD, length};
 ghost use Rattle.chars.specs.Ranges.{_to_};
 ghost use Rattle.chars.specs.Utf8.{fits, width, codeOf, decodeAt, validPrefix, LongestValid};
-ghost use Rattle.chars.specs.Code.{asciiTwo, asciiFour, asciiEight, asciiSixteen, AsciiTo};
 
 // The character that stands at a byte offset, or that none does.
 pub enum Decoded {
@@ -29,7 +29,7 @@ fn byte_in(s: &[u8], at: usize, low: u8, high: u8) -> bool
 }
 
 // Whether a byte from low to high stands at `at` and one from low2 to high2 after it.
-pub fn two_in(s: &[u8], at: usize, low: u8, high: u8, low2: u8, high2: u8) -> bool
+pub fn pair_in(s: &[u8], at: usize, low: u8, high: u8, low2: u8, high2: u8) -> bool
     ensures { λ r. ⌜ r ≡ fits (low to high ∷ low2 to high2 ∷ []) (drop at (now (s .entry))) ⌝ }
 {
     if !byte_in(s, at, low, high) {
@@ -131,51 +131,6 @@ pub fn decode(s: &[u8], at: usize) -> Decoded
     }
 }
 
-// Whether two bytes at a place are ASCII. `&` looks at both, without a branch, so that sixteen bytes make one test.
-fn ascii_two(s: &[u8], at: usize) -> bool
-    requires { ⌜ at + 2 ≤ length (now s) ⌝ }
-    ensures { λ r. ⌜ r ≡ asciiTwo (now (s .entry)) at ⌝ }
-{
-    (s[at] < 0x80) & (s[at + 1] < 0x80)
-}
-
-fn ascii_four(s: &[u8], at: usize) -> bool
-    requires { ⌜ at + 4 ≤ length (now s) ⌝ }
-    ensures { λ r. ⌜ r ≡ asciiFour (now (s .entry)) at ⌝ }
-{
-    ascii_two(s, at) & ascii_two(s, at + 2)
-}
-
-fn ascii_eight(s: &[u8], at: usize) -> bool
-    requires { ⌜ at + 8 ≤ length (now s) ⌝ }
-    ensures { λ r. ⌜ r ≡ asciiEight (now (s .entry)) at ⌝ }
-{
-    ascii_four(s, at) & ascii_four(s, at + 4)
-}
-
-// Whether sixteen bytes stand at a place, all of them ASCII.
-fn ascii_sixteen(s: &[u8], at: usize) -> bool
-    requires { ⌜ at ≤ length (now s) ⌝ }
-    ensures { λ r. ⌜ r ≡ asciiSixteen (now (s .entry)) at ⌝ }
-{
-    if s.len() - at < 16 {
-        return false;
-    }
-    ascii_eight(s, at) & ascii_eight(s, at + 8)
-}
-
-// A place to which all bytes are ASCII: as far as they come by sixteens.
-fn skip_ascii(s: &[u8], at: usize) -> usize
-    requires { ⌜ at ≤ length (now s) ⌝ }
-    ensures { λ r. ⌜ AsciiTo (now (s .entry)) at r ⌝ }
-{
-    let mut i = at;
-    while ascii_sixteen(s, i) {
-        i += 16;
-    }
-    i
-}
-
 // The length of the longest prefix that is a sequence of well-formed characters. Characters of two bytes are tested before the others.
 pub fn valid_prefix(s: &[u8]) -> usize
     ensures { λ r. ⌜ (r ≡ validPrefix (now (s .entry))) × LongestValid (now (s .entry)) r ⌝ }
@@ -183,8 +138,8 @@ pub fn valid_prefix(s: &[u8]) -> usize
     let mut i = 0;
     while i < s.len() {
         if s[i] < 0x80 {
-            i = skip_ascii(s, i + 1);
-        } else if two_in(s, i, 0xC2, 0xDF, 0x80, 0xBF) {
+            i = skip_eights(s, i + 1, 0x00, 0x7F);
+        } else if pair_in(s, i, 0xC2, 0xDF, 0x80, 0xBF) {
             i += 2;
         } else {
             let w = width_at(s, i);

@@ -9,12 +9,13 @@ use native.Mathlib.Omega.{arith}
 use borrow.Author.Tests.{leb-true, ltb-true}
 use Rattle.chars.specs.Quoted.{codes, oneOf}
 use Rattle.chars.specs.Text.{Text, from, afterRun}
+use Rattle.chars.specs.Code.{AllIn}
 use Rattle.chars.proofs.Carry.{carry}
 use Rattle.chars.proofs.Places.{at-ascii}
 use Rattle.chars.proofs.IdRuns.{run-stays}
 use Rattle.token.specs.Tests.{isAny}
 use Rattle.token.proofs.Bytes.{any-byte, inside}
-use Rattle.token.proofs.Cursors.{run-past, run-none}
+use Rattle.token.proofs.Cursors.{run-past, run-none, all-past}
 
 module _ (s : List ℕ) (i : ℕ) (f : Text) where
   pub blank-on : i < length s → oneOf " \t" (getD s i 0) ≡ true → afterRun (isAny " \t") (from s i) ≡ f → afterRun (isAny " \t") (from s (i + 1)) ≡ f
@@ -44,3 +45,8 @@ two-blanks s i e f =
     let k = blank-inside s (i + 1) f in
     let m : i + 2 ≡ i + 1 + 1 = omega arith in
     (omega arith, ap (λ j. afterRun (isAny " \t") (from s j)) m ∙ blank-on s (i + 1) _ k f (blank-on s i _ h e refl))
+
+-- spaces that are passed together
+pub spaces-past : (s : List ℕ) (low high i r : ℕ) → 0x20 ≤ low → high ≤ 0x20 → i ≤ r → r ≤ length s → AllIn low high s i r
+    → afterRun (isAny " \t") (from s r) ≡ afterRun (isAny " \t") (from s i)
+spaces-past s low high i r x y = all-past (afterRun (isAny " \t")) s low high (λ k h a b. blank-on s k _ h (let z : getD s k 0 ≡ 0x20 = omega arith in ap (oneOf " \t") z) refl) i r

@@ -9,6 +9,7 @@ use lib.Dec.{eqb, ltb}
 use native.Mathlib.Omega.{arith}
 use borrow.Author.Tests.{ltb-true, ltb-false, eqb-true, eq-eqb, ne-eqb}
 use Rattle.chars.specs.Text.{Char, Text, from, place, afterRun}
+use Rattle.chars.specs.Code.{AllIn}
 use Rattle.chars.proofs.Bools.{clash, and-both}
 use Rattle.chars.proofs.Places.{at-char, at-ascii, at-end, place-from, byte-by-byte, codeAt}
 use Rattle.token.specs.Tests.{startsWith, begins, endsLine, endOfLine, opensLine, opensBlock, closesBlock}
@@ -16,7 +17,7 @@ use Rattle.token.specs.Answer.{close}
 use Rattle.token.specs.Code.{cursorAt, closedOf}
 use Rattle.token.specs.declared.gap.Closed.the-variants as closed
 use Rattle.token.proofs.Bytes.{two-bytes, one-byte, inside}
-use Rattle.token.proofs.Cursors.{run-past, run-here, run-none}
+use Rattle.token.proofs.Cursors.{run-past, run-here, run-none, all-past}
 
 -- ---- two ASCII characters at a place
 
@@ -106,6 +107,14 @@ module _ (s : List ℕ) (i : ℕ) (f : Text) where
 
   pub line-end : length s ≤ i → afterRun inLine (from s i) ≡ f → from s i ≡ f
   line-end h q = run-none inLine s i f h q
+
+-- no byte above both line-end bytes begins a line end
+pub above-line : (s : List ℕ) (i : ℕ) → 0x0D < getD s i 0 → endsLine (from s i) ≡ false
+above-line s i h = ends-line s i ∙ simp (ne-eqb (getD s i 0) 0x0A (λ e. omega arith), ne-eqb (getD s i 0) 0x0D (λ e. omega arith))
+
+-- such bytes that are passed together
+pub line-past : (s : List ℕ) (i r : ℕ) → i ≤ r → r ≤ length s → AllIn 0x0E 0xFF s i r → afterRun inLine (from s r) ≡ afterRun inLine (from s i)
+line-past s = all-past (afterRun inLine) s 0x0E 0xFF (λ k h a b. line-on s k _ h (above-line s k (omega arith)) refl)
 
 -- ---- block comments
 

@@ -10,6 +10,7 @@ use native.Mathlib.Omega.{arith}
 use borrow.Author.Tests.{ltb-true, ltb-false, eqb-true, ne-eqb}
 use Rattle.chars.specs.Quoted.{oneOf}
 use Rattle.chars.specs.Text.{Char, Text, from, place, nextOf, head, idChar, afterRun}
+use Rattle.chars.specs.Code.{AllIn}
 use Rattle.chars.specs.Classes.{isIdStart, isIdChar, isOpSign}
 use Rattle.chars.proofs.Bools.{clash}
 use Rattle.chars.proofs.ClassLaws.{under-no-id}
@@ -26,6 +27,7 @@ use Rattle.token.specs.declared.kinds.TokenKind.the-variants as tk
 use Rattle.token.specs.declared.piece.Piece.the-variants as piece
 use Rattle.token.proofs.Bytes.{any-byte, inside, one-byte}
 use Rattle.token.proofs.Runs.{after-next, after-stop, run-after, run-suffix}
+use Rattle.token.proofs.Cursors.{all-past}
 use Rattle.token.proofs.Idents.{ident-finds, start-rest, rest-suffix}
 
 -- ---- places
@@ -221,6 +223,11 @@ module _ (s : List ℕ) (i : ℕ) where
   pass-all j h e n =
       let f = ap idChar (run-place idChar s i j h e .2) ∙ after-done idChar refl (from s i) in
       sym (rest-none false (from s j) f (any-byte "_" refl s j ∙ rw (ne-eqb (getD s j 0) 0x5F n))) ∙ pass-run j h e .1
+
+-- past an underscore and those that follow it up to r
+pub pass-unders : (s : List ℕ) (i : ℕ) (u : Bool) → getD s i 0 ≡ 0x5F → (r : ℕ) → i + 1 ≤ r → r ≤ length s → AllIn 0x5F 0x5F s (i + 1) r
+    → afterIdent true (from s r) ≡ afterIdent u (from s i)
+pass-unders s i u e r l h a = all-past (afterIdent true) s 0x5F 0x5F (λ k m x y. pass-under s k true (omega arith)) (i + 1) r l h a ∙ pass-under s i u e
 
 -- ---- what is left of a text
 

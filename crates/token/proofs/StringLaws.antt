@@ -5,11 +5,12 @@ use mathlib.Core.Bool.{Bool, true, false, _&&_, _||_}
 use mathlib.Core.Logic.{inl, ⊎-elim}
 use mathlib.Core.List.{List, [], _∷_}
 use lib.ListN.{length, drop, getD}
-use lib.Dec.{eqb, leb, ltb}
+use lib.Dec.{eqb, ltb}
 use native.Mathlib.Omega.{arith}
-use borrow.Author.Tests.{ltb-true, ltb-false, leb-true, ne-eqb, eq-eqb, eqb-true}
+use borrow.Author.Tests.{ltb-true, ltb-false, ne-eqb, eq-eqb, eqb-true}
 use Rattle.chars.specs.Quoted.{oneOf}
 use Rattle.chars.specs.Text.{Char, Text, from, place, nextOf, head, afterRun}
+use Rattle.chars.specs.Code.{AllIn}
 use Rattle.chars.proofs.Bools.{clash, and-both, or-neither, not-true}
 use Rattle.chars.proofs.Texts.{Suffix}
 use Rattle.chars.proofs.Places.{at-ascii, at-end, at-char, place-from, next-on, wide-code, codeAt, byte-by-byte}
@@ -17,7 +18,7 @@ use Rattle.token.specs.Tests.{isAny, begins, quote, threeQuotes, backsla
 use Rattle.token.specs.Kinds.{Kind, TokenType, isComment}
 use Rattle.token.specs.Shapes.{singleChar, Single, tripleChar, Stands, HasShape, TokenShape}
 use Rattle.token.specs.Answer.{good, bad, afterSlash, Inside, closed, wrong, inPlain, inTriple, inString, plainContent, plainOf, scanString, prefixedOf}
-use Rattle.token.specs.Code.{cursorAt, pieceOf, endedOf, escEnd, escapeOf, inSingle, isOrdinary, twoQuotes, fourQuotes, eightQuotes, dollarOf, Onward}
+use Rattle.token.specs.Code.{cursorAt, pieceOf, endedOf, escEnd, escapeOf, inSingle, isOrdinary, dollarOf, Onward}
 use Rattle.token.specs.declared.cursor.Cursor.{Cursor}
 use Rattle.token.specs.declared.piece.Ended.{Ended}
 use Rattle.token.specs.declared.piece.Ended.the-variants as ended
@@ -26,6 +27,7 @@ use Rattle.token.specs.declared.kinds.TokenKind.{TokenKind}
 use Rattle.token.specs.declared.kinds.TokenKind.the-variants as tk
 use Rattle.token.proofs.Bytes.{inside, any-byte, past, starts-byte, two-bytes, one-byte}
 use Rattle.token.proofs.Runs.{after-next, after-stop}
+use Rattle.token.proofs.Cursors.{all-past}
 use Rattle.token.proofs.Escapes.{slash-finds, Good, Bad}
 use Rattle.token.proofs.Shorter.{stands-strict}
 use Rattle.token.proofs.Strings as strings
@@ -159,31 +161,9 @@ module _ (s : List ℕ) (i : ℕ) where
   unfolding afterRun
   quotes-end h = rw (at-end s i h)
 
--- quotes that are passed several at once
-module _ (s : List ℕ) where
-  two-on : (i : ℕ) → i + 2 ≤ length s → twoQuotes s i ≡ true → afterRun quote (from s (i + 2)) ≡ afterRun quote (from s i)
-  unfolding twoQuotes
-  two-on i h e =
-      let b = and-both (eqb (getD s i 0) 0x22) (eqb (getD s (i + 1) 0) 0x22) e in
-      let z : i + 1 + 1 ≡ i + 2 = omega arith in
-      ap (λ j. afterRun quote (from s j)) (sym z) ∙ quotes-next s (i + 1) (omega arith) (eqb-true (getD s (i + 1) 0) 0x22 (b .1))
-      ∙ quotes-next s i (omega arith) (eqb-true (getD s i 0) 0x22 (b .0))
-
-  four-on : (i : ℕ) → i + 4 ≤ length s → fourQuotes s i ≡ true → afterRun quote (from s (i + 4)) ≡ afterRun quote (from s i)
-  unfolding fourQuotes
-  four-on i h e =
-      let b = and-both (twoQuotes s i) (twoQuotes s (i + 2)) e in
-      let z : i + 2 + 2 ≡ i + 4 = omega arith in
-      ap (λ j. afterRun quote (from s j)) (sym z) ∙ two-on (i + 2) (omega arith) (b .1) ∙ two-on i (omega arith) (b .0)
-
-  pub eight-on : (i : ℕ) → eightQuotes s i ≡ true → (i + 8 ≤ length s) × (afterRun quote (from s (i + 8)) ≡ afterRun quote (from s i))
-  unfolding eightQuotes
-  eight-on i e =
-      let b = and-both (leb (i + 8) (length s)) (fourQuotes s i && fourQuotes s (i + 4)) e in
-      let f = and-both (fourQuotes s i) (fourQuotes s (i + 4)) (b .1) in
-      let h = leb-true (i + 8) (length s) (b .0) in
-      let z : i + 4 + 4 ≡ i + 8 = omega arith in
-      (h, ap (λ j. afterRun quote (from s j)) (sym z) ∙ four-on (i + 4) (omega arith) (f .1) ∙ four-on i (omega arith) (f .0))
+-- quotes that are passed together
+pub quotes-past : (s : List ℕ) (i r : ℕ) → i ≤ r → r ≤ length s → AllIn 0x22 0x22 s i r → afterRun quote (from s r) ≡ afterRun quote (from s i)
+quotes-past s = all-past (afterRun quote) s 0x22 0x22 (λ k h a b. quotes-next s k h (omega arith))
 
 -- ---- what stands for itself
 

@@ -16,7 +16,9 @@ use Rattle.chars.proofs.Places.{at-char, at-end, next-on, place-from, ascii-nex
 use Rattle.token.specs.Tests.{begins, quote}
 use Rattle.token.specs.Shapes.{textOf}
 use Rattle.token.specs.Answer.{strip, plainContent}
-use Rattle.token.specs.Code.{lastOff, twoQuotes, fourQuotes, eightQuotes, eightsOff, SameContent}
+use Rattle.token.specs.Code.{lastOff, eightsOff, SameContent}
+use Rattle.chars.specs.Code.{eightIn}
+use Rattle.chars.proofs.Spans.{eight-all}
 use Rattle.token.specs.declared.kinds.TokenKind.the-variants as tk
 use Rattle.token.proofs.Bytes.{past}
 use Rattle.token.proofs.EscapeLaws.{same-place}
@@ -356,40 +358,14 @@ left-many s start end (suc n) a b h l =
     left-moved s start end n a b more
 
 module _ (s : List ℕ) where
-  join : (i m n j : ℕ) → Quotes s i m → Quotes s m n → j ≤ n → Quotes s i j
-  join i m n j p q h k u v = go (ltb k m) refl
-    where
-      go : (x : Bool) → ltb k m ≡ x → getD s k 0 ≡ 0x22
-      go true e = p k u (ltb-true k m e)
-      go false e = q k (ltb-false k m e) (omega arith)
-
-  one-quote : (i : ℕ) → eqb (getD s i 0) 0x22 ≡ true → Quotes s i (i + 1)
-  one-quote i e k u v = let z : k ≡ i = omega arith in ap (λ n. getD s n 0) z ∙ eqb-true (getD s i 0) 0x22 e
-
-  two-quotes : (i : ℕ) → twoQuotes s i ≡ true → Quotes s i (i + 2)
-  unfolding twoQuotes
-  two-quotes i e =
-      let b = and-both (eqb (getD s i 0) 0x22) (eqb (getD s (i + 1) 0) 0x22) e in
-      join i (i + 1) (i + 1 + 1) (i + 2) (one-quote i (b .0)) (one-quote (i + 1) (b .1)) (omega arith)
-
-  four-quotes : (i : ℕ) → fourQuotes s i ≡ true → Quotes s i (i + 4)
-  unfolding fourQuotes
-  four-quotes i e =
-      let b = and-both (twoQuotes s i) (twoQuotes s (i + 2)) e in
-      join i (i + 2) (i + 2 + 2) (i + 4) (two-quotes i (b .0)) (two-quotes (i + 2) (b .1)) (omega arith)
-
-  eight-quotes : (i : ℕ) → eightQuotes s i ≡ true → Quotes s i (i + 8)
-  unfolding eightQuotes
-  eight-quotes i e =
-      let b = and-both (leb (i + 8) (length s)) (fourQuotes s i && fourQuotes s (i + 4)) e in
-      let f = and-both (fourQuotes s i) (fourQuotes s (i + 4)) (b .1) in
-      join i (i + 4) (i + 4 + 4) (i + 8) (four-quotes i (f .0)) (four-quotes (i + 4) (f .1)) (omega arith)
+  eight-quotes : (i : ℕ) → eightIn 0x22 0x22 s i ≡ true → Quotes s i (i + 8)
+  eight-quotes i e k u v = let a = eight-all 0x22 0x22 s i e .1 k u v in omega arith
 
   eights-ends : (a b : ℕ) → eightsOff s a b ≡ true → Ends s 8 a b
   unfolding eightsOff
   eights-ends a b e =
-      let f = and-both (leb (a + 16) b) (eightQuotes s a && eightQuotes s (b - 8)) e in
-      let g = and-both (eightQuotes s a) (eightQuotes s (b - 8)) (f .1) in
+      let f = and-both (leb (a + 16) b) (eightIn 0x22 0x22 s a && eightIn 0x22 0x22 s (b - 8)) e in
+      let g = and-both (eightIn 0x22 0x22 s a) (eightIn 0x22 0x22 s (b - 8)) (f .1) in
       let h = leb-true (a + 16) b (f .0) in
       record {
         apart = omega arith;

@@ -10,6 +10,7 @@ use lib.Dec.{eqb, leb, ltb}
 use Rattle.chars.specs.Quoted.{codes, oneOf}
 use Rattle.chars.specs.Classes.{isIdStart, isOpSign}
 use Rattle.chars.specs.Text.{Char, Text, from, place, head, afterRun}
+use Rattle.chars.specs.Code.{eightIn}
 use Rattle.token.specs.Tests.{isDigit, isHexDigit, digitValue, isAny, dollarBrace, quote, opSign, freeSign, opensComment}
 use Rattle.token.specs.Kinds.{Word, word, kindNumber}
 use Rattle.token.specs.Answer.{Found, Esc, good, bad, hexes, afterSlash, Inside, closed, wrong, inPlain, inPrefixed, plainContent, afterIdent}
@@ -82,16 +83,6 @@ inSingle p s =
 -- what stands for itself in every string
 unfoldable pub isOrdinary : ℕ → Bool
 isOrdinary c = not (oneOf "\n\"$\\" c)
-
--- quotes at a place, by bytes
-unfoldable pub twoQuotes : List ℕ → ℕ → Bool
-twoQuotes s i = eqb (getD s i 0) 0x22 && eqb (getD s (i + 1) 0) 0x22
-
-unfoldable pub fourQuotes : List ℕ → ℕ → Bool
-fourQuotes s i = twoQuotes s i && twoQuotes s (i + 2)
-
-unfoldable pub eightQuotes : List ℕ → ℕ → Bool
-eightQuotes s i = leb (i + 8) (length s) && (fourQuotes s i && fourQuotes s (i + 4))
 
 -- a `$` in a prefixed string
 unfoldable pub dollarOf : ℕ → Text → Ended
@@ -204,7 +195,7 @@ fieldsOf size number start end cut = le2 size ++ (le2 number ++ (le4 start ++ (l
 
 -- eight quotes at each end of the bytes from a to b, sixteen in all
 unfoldable pub eightsOff : List ℕ → ℕ → ℕ → Bool
-eightsOff s a b = leb (a + 16) b && (eightQuotes s a && eightQuotes s (b - 8))
+eightsOff s a b = leb (a + 16) b && (eightIn 0x22 0x22 s a && eightIn 0x22 0x22 s (b - 8))
 
 -- the text from a to b has the content of the text from start to end
 abbrev pub SameContent : List ℕ → ℕ → ℕ → ℕ → ℕ → Type 0

@@ -102,12 +102,12 @@ fn line_ends_at(s: &[u8], at: usize) -> bool
 }
 
 impl Cursor {
-    // Past the line comment that begins there, up to the line end or the end of script.
+    // Past the line comment that begins there, up to the line end or the end of script. What is above both line-end bytes is passed by eights.
     pub fn consume_line_comment(self, s: &[u8]) -> Cursor
         requires { ⌜ (self .at ≤ length (now s)) × (opensLine (from (now s) (self .at)) ≡ true) ⌝ }
         ensures { λ r. ⌜ (r .at ≤ length (now (s .entry))) × (from (now (s .entry)) (r .at) ≡ afterRun (λ t. not (endOfLine t)) (drop 2 (from (now (s .entry)) (self .at)))) ⌝ }
     {
-        let mut i = self.at + 2;
+        let mut i = chars::eights::skip_eights(s, self.at + 2, 0x0E, 0xFF);
         while i < s.len() {
             if line_ends_at(s, i) {
                 return Cursor { at: i };

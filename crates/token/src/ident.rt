@@ -92,7 +92,7 @@ fn consume_id_rest(s: &[u8], c: Cursor) -> Cursor
         chunk = i;
         loop {
             if byte_at(s, i) == 0x5F {
-                i += 1;
+                i = chars::eights::skip_eights(s, i + 1, 0x5F, 0x5F);
             } else {
                 let end = chars::classes::id_run_end(s, i);
                 if end == i {

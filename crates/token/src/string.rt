@@ -13,7 +13,8 @@ ghost use lib.ListN.{length, drop};
 ghost use Rattle.chars.specs.Text.{from, head, afterRun};
 ghost use Rattle.token.specs.Tests.{isAny, quote, threeQuotes};
 ghost use Rattle.token.specs.Answer.{closed, inTriple, inString, prefixedOf, scanString, plainContent};
-ghost use Rattle.token.specs.Code.{pieceOf, endedOf, escapeOf, hexesOf, isOrdinary, twoQuotes, fourQuotes, eightQuotes, dollarOf, inSingle, Onward, lastOff, spanKind, LeftOf, eightsOff, SameContent};
+ghost use Rattle.token.specs.Code.{pieceOf, endedOf, escapeOf, hexesOf, isOrdinary, dollarOf, inSingle, Onward, lastOff, spanKind, LeftOf};
+ghost use Rattle.token.specs.Code.{eightsOff, SameContent};
 
 // A string's content: where it starts and ends.
 pub struct Span {
@@ -146,50 +147,12 @@ fn three_quotes(s: &[u8], at: usize) -> bool
     false
 }
 
-// Do two quotes stand at a place? `&` looks at both, without a branch, so that eight quotes make one test.
-fn two_quotes(s: &[u8], at: usize) -> bool
-    requires { ⌜ at + 2 ≤ length (now s) ⌝ }
-    ensures { λ r. ⌜ r ≡ twoQuotes (now (s .entry)) at ⌝ }
-{
-    (s[at] == 0x22) & (s[at + 1] == 0x22)
-}
-
-fn four_quotes(s: &[u8], at: usize) -> bool
-    requires { ⌜ at + 4 ≤ length (now s) ⌝ }
-    ensures { λ r. ⌜ r ≡ fourQuotes (now (s .entry)) at ⌝ }
-{
-    two_quotes(s, at) & two_quotes(s, at + 2)
-}
-
-fn eight_quotes(s: &[u8], at: usize) -> bool
-    requires { ⌜ at ≤ length (now s) ⌝ }
-    ensures { λ r. ⌜ r ≡ eightQuotes (now (s .entry)) at ⌝ }
-{
-    if s.len() - at < 8 {
-        return false;
-    }
-    four_quotes(s, at) & four_quotes(s, at + 4)
-}
-
-// Past the quotes that stand there by eights: fewer than eight are left.
-fn consume_eights(s: &[u8], c: Cursor) -> Cursor
-    requires { ⌜ c .at ≤ length (now s) ⌝ }
-    ensures { λ r. ⌜ (r .at ≤ length (now (s .entry))) × (afterRun quote (from (now (s .entry)) (r .at)) ≡ afterRun quote (from (now (s .entry)) (c .at))) ⌝ }
-{
-    let mut i = c.at;
-    while eight_quotes(s, i) {
-        i += 8;
-    }
-    Cursor { at: i }
-}
-
 // Past all quotes that stand there.
 fn consume_quotes(s: &[u8], c: Cursor) -> Cursor
     requires { ⌜ c .at ≤ length (now s) ⌝ }
     ensures { λ r. ⌜ (r .at ≤ length (now (s .entry))) × (from (now (s .entry)) (r .at) ≡ afterRun quote (from (now (s .entry)) (c .at))) ⌝ }
 {
-    let d = consume_eights(s, c);
-    let mut i = d.at;
+    let mut i = chars::eights::skip_eights(s, c.at, 0x22, 0x22);
     while i < s.len() {
         if s[i] != 0x22 {
             return Cursor { at: i };
@@ -272,8 +235,8 @@ fn eights_off(s: &[u8], start: usize, end: usize) -> bool
     if s[start + 7] != 0x22 {
         return false;
     }
-    if eight_quotes(s, start) {
-        return eight_quotes(s, end - 8);
+    if chars::eights::eight_in(s, start, 0x22, 0x22) {
+        return chars::eights::eight_in(s, end - 8, 0x22, 0x22);
     }
     false
 }

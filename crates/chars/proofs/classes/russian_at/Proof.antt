@@ -3,19 +3,19 @@ use Rattle.chars.specs.Code.{russianAt}
 use Rattle.chars.proofs.classes.russian_at.Statement.{statement}
 use Rattle.chars.proofs.classes.russian_at.Tie as tie
 
-two-in-requires : tie.Need-two-in-requires
-two-in-requires c κs = search needs
+pair-in-requires : tie.Need-pair-in-requires
+pair-in-requires c κs = search needs
 
 returns : tie.Need-returns
 unfolding russianAt
-returns c = rw (← c .before .two-in .ensures, c .if1 .taken)
+returns c = rw (← c .before .pair-in .ensures, c .if1 .taken)
 
-two-in-requires-2 : tie.Need-two-in-requires-2
-two-in-requires-2 c κs = search needs
+pair-in-requires-2 : tie.Need-pair-in-requires-2
+pair-in-requires-2 c κs = search needs
 
 returns-2 : tie.Need-returns-2
 unfolding russianAt
-returns-2 c = rw (← c .before .before .two-in .ensures, c .before .if1 .left) (c .two-in2 .ensures)
+returns-2 c = rw (← c .before .before .pair-in .ensures, c .before .if1 .left) (c .pair-in2 .ensures)
 
 pub russian-at-spec : {M : Type 1} → statement M
-russian-at-spec = tie.close (tie.spec two-in-requires returns two-in-requires-2 returns-2)
+russian-at-spec = tie.close (tie.spec pair-in-requires returns pair-in-requires-2 returns-2)

@@ -21,49 +21,49 @@ loop-holds c = (omega arith, refl)
 shared-slice-read-if1 : tie.Need-shared-slice-read-if1 Inv-loop μ-loop
 shared-slice-read-if1 c = search needs
 
-add-skip-ascii : tie.Need-add-skip-ascii Inv-loop μ-loop
-add-skip-ascii c = omega arith
+add-skip-eights : tie.Need-add-skip-eights Inv-loop μ-loop
+add-skip-eights c = omega arith
 
-skip-ascii-requires : tie.Need-skip-ascii-requires Inv-loop μ-loop
-skip-ascii-requires c κs = omega arith
+skip-eights-requires : tie.Need-skip-eights-requires Inv-loop μ-loop
+skip-eights-requires c κs = omega arith
 
 -- past ASCII
 loop-less : tie.Need-loop-less Inv-loop μ-loop
 loop-less c =
-    let a = c .skip-ascii .ensures .later in
-    let b = c .skip-ascii .ensures .within in
+    let a = c .skip-eights .ensures .0 in
+    let b = c .skip-eights .ensures .1 in
     omega arith
 
 loop-again : tie.Need-loop-again Inv-loop μ-loop
 loop-again c =
     let s = c .before .before .before .before .before .before .args .s .now in
     let loop = c .before .before .before .before .loop in
-    let a = c .skip-ascii .ensures in
-    (a .within, valid-to s (loop .i) _ (c .before .before .before .loop-test .taken) (c .before .if1 .taken) a ∙ loop .inv .1)
+    let a = c .skip-eights .ensures in
+    (a .1, valid-to s (loop .i) _ (c .before .before .before .loop-test .taken) (c .before .if1 .taken) (a .0) (a .1) (a .2) ∙ loop .inv .1)
 
-two-in-requires : tie.Need-two-in-requires Inv-loop μ-loop
-two-in-requires c κs = search needs
+pair-in-requires : tie.Need-pair-in-requires Inv-loop μ-loop
+pair-in-requires c κs = search needs
 
 -- past a character of two bytes
 add-i : tie.Need-add-i Inv-loop μ-loop
 add-i c =
     let s = c .before .before .before .before .before .before .before .args .s .now in
     let loop = c .before .before .before .before .before .loop in
-    let h = valid-two s (loop .i) (c .before .two-in .ensures) (c .if2 .taken) .0 in
+    let h = valid-two s (loop .i) (c .before .pair-in .ensures) (c .if2 .taken) .0 in
     omega arith
 
 loop-less-2 : tie.Need-loop-less-2 Inv-loop μ-loop
 loop-less-2 c =
     let s = c .before .before .before .before .before .before .before .args .s .now in
     let loop = c .before .before .before .before .before .loop in
-    let h = valid-two s (loop .i) (c .before .two-in .ensures) (c .if2 .taken) .0 in
+    let h = valid-two s (loop .i) (c .before .pair-in .ensures) (c .if2 .taken) .0 in
     omega arith
 
 loop-again-2 : tie.Need-loop-again-2 Inv-loop μ-loop
 loop-again-2 c =
     let s = c .before .before .before .before .before .before .before .args .s .now in
     let loop = c .before .before .before .before .before .loop in
-    let h = valid-two s (loop .i) (c .before .two-in .ensures) (c .if2 .taken) in
+    let h = valid-two s (loop .i) (c .before .pair-in .ensures) (c .if2 .taken) in
     (h .0, h .1 ∙ loop .inv .1)
 
 -- past any other
@@ -120,11 +120,11 @@ valid-prefix-spec =
     μ-loop
     loop-holds
     shared-slice-read-if1
-    add-skip-ascii
-    skip-ascii-requires
+    add-skip-eights
+    skip-eights-requires
     loop-less
     loop-again
-    two-in-requires
+    pair-in-requires
     add-i
     loop-less-2
     loop-again-2

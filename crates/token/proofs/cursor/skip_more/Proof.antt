@@ -1,13 +1,13 @@
 -- The run of blanks from here on is the run from the start on.
 use Prim.Native.Nat.{_≤_, _-_}
-use mathlib.Core.Path.{_≡_, refl, sym, _∙_}
+use mathlib.Core.Path.{_≡_, sym, _∙_}
 use native.Mathlib.Omega.{arith}
 use borrow.Author.Needs.{needs}
 use borrow.Author.Tests.{not-true, not-false}
 use lib.ListN.{length}
 use Rattle.chars.specs.Text.{from, afterRun}
 use Rattle.token.specs.Tests.{isAny}
-use Rattle.token.proofs.Blanks.{blank-on, blank-stop, blank-end}
+use Rattle.token.proofs.Blanks.{blank-on, blank-stop, blank-end, spaces-past}
 use Rattle.token.proofs.cursor.skip_more.Statement.{statement}
 use Rattle.token.proofs.cursor.skip_more.Tie as tie
 
@@ -17,8 +17,13 @@ Inv-loop s at i₀ i = (i ≤ length s) × (at ≤ i) × (afterRun (isAny " \t")
 abbrev μ-loop : tie.MeasureT-loop
 μ-loop s at i₀ i = length s - i
 
+skip-eights-requires : tie.Need-skip-eights-requires Inv-loop μ-loop
+skip-eights-requires c κs = c .before .pre
+
 loop-holds : tie.Need-loop-holds Inv-loop μ-loop
-loop-holds c = (c .before .pre, omega arith, refl)
+loop-holds c =
+    let e = c .skip-eights .ensures in
+    (e .1, e .0, spaces-past (c .before .before .args .s .now) _ _ _ _ (omega arith) (omega arith) (e .0) (e .1) (e .2))
 
 shared-slice-read-is-blank : tie.Need-shared-slice-read-is-blank Inv-loop μ-loop
 shared-slice-read-is-blank c = search needs
@@ -29,7 +34,7 @@ is-blank-requires c κs = search needs
 returns : tie.Need-returns Inv-loop μ-loop
 returns c =
     let loop = c .before .before .before .before .loop in
-    (loop .inv .0, loop .inv .1, blank-stop (c .before .before .before .before .before .before .args .s .now) (loop .i) _ (sym (c .before .is-blank .ensures) ∙ not-true _ (c .if1 .taken)) (loop .inv .2))
+    (loop .inv .0, loop .inv .1, blank-stop (c .before .before .before .before .before .before .before .args .s .now) (loop .i) _ (sym (c .before .is-blank .ensures) ∙ not-true _ (c .if1 .taken)) (loop .inv .2))
 
 add-i : tie.Need-add-i Inv-loop μ-loop
 add-i c = omega arith
@@ -41,12 +46,12 @@ loop-again : tie.Need-loop-again Inv-loop μ-loop
 loop-again c =
     let loop = c .before .before .before .before .loop in
     let h = c .before .before .before .loop-test .taken in
-    (omega arith, omega arith, blank-on (c .before .before .before .before .before .before .args .s .now) (loop .i) _ h (sym (c .before .is-blank .ensures) ∙ not-false _ (c .if1 .left)) (loop .inv .2))
+    (omega arith, omega arith, blank-on (c .before .before .before .before .before .before .before .args .s .now) (loop .i) _ h (sym (c .before .is-blank .ensures) ∙ not-false _ (c .if1 .left)) (loop .inv .2))
 
 returns-2 : tie.Need-returns-2 Inv-loop μ-loop
 returns-2 c =
     let loop = c .before .loop in
-    (loop .inv .0, loop .inv .1, blank-end (c .before .before .before .args .s .now) (loop .i) _ (c .loop-test .left) (loop .inv .2))
+    (loop .inv .0, loop .inv .1, blank-end (c .before .before .before .before .args .s .now) (loop .i) _ (c .loop-test .left) (loop .inv .2))
 
 pub skip-more-spec : {M : Type 1} → statement M
 skip-more-spec =
@@ -54,6 +59,7 @@ skip-more-spec =
     (tie.spec
     Inv-loop
     μ-loop
+    skip-eights-requires
     loop-holds
     shared-slice-read-is-blank
     is-blank-requires

@@ -5,7 +5,7 @@ use lib.ListN.{getD}
 use mathlib.Core.Bool.{_||_, _&&_}
 use lib.Dec.{eqb}
 use borrow.Author.Tests.{eq-eqb, ne-eqb}
-use Rattle.token.proofs.Comments.{ends-line}
+use Rattle.token.proofs.Comments.{ends-line, above-line}
 use borrow.Author.Needs.{needs}
 use Rattle.token.proofs.gap.line_ends_at.Statement.{statement}
 use Rattle.token.proofs.gap.line_ends_at.Tie as tie
@@ -16,10 +16,7 @@ byte-at-requires c κs = search needs
 returns : tie.Need-returns
 returns c =
     let args = c .before .before .before .args in
-    let s = args .s .now in
-    let b = getD s (args .at) 0 in
-    let l : 0x0D < b = omega (arith, c .before .byte-at .ensures, c .if1 .taken) in
-    sym (ends-line s (args .at) ∙ simp (ne-eqb b 0x0A (λ e. omega arith), ne-eqb b 0x0D (λ e. omega arith)))
+    sym (above-line (args .s .now) (args .at) (omega (arith, c .before .byte-at .ensures, c .if1 .taken)))
 
 returns-2 : tie.Need-returns-2
 returns-2 c =

@@ -10,7 +10,7 @@ use lib.Dec.{ltb}
 use Rattle.chars.specs.Text.{from, afterRun}
 use Rattle.token.specs.Tests.{opSign}
 use Rattle.token.specs.Answer.{afterIdent}
-use Rattle.token.proofs.IdentLaws.{under-inside, pass-under, pass-ids, pass-none}
+use Rattle.token.proofs.IdentLaws.{under-inside, pass-unders, pass-ids, pass-none}
 use Rattle.token.proofs.ident.consume_id_rest.Statement.{statement}
 use Rattle.token.proofs.ident.consume_id_rest.Tie as tie
 
@@ -37,19 +37,41 @@ loop-holds c =
 byte-at-requires : tie.Need-byte-at-requires Inv-loop μ-loop Inv-chunks μ-chunks
 byte-at-requires c κs = search needs
 
-add-i : tie.Need-add-i Inv-loop μ-loop Inv-chunks μ-chunks
-add-i c = let l = under-inside (c .before .before .before .before .before .args .s .now) (c .before .before .loop .i) (sym (c .before .byte-at .ensures) ∙ c .if1 .taken) in omega arith
-
-loop-less : tie.Need-loop-less Inv-loop μ-loop Inv-chunks μ-chunks
-loop-less c = let l = under-inside (c .before .before .before .before .before .args .s .now) (c .before .before .loop .i) (sym (c .before .byte-at .ensures) ∙ c .if1 .taken) in omega arith
-
-loop-again : tie.Need-loop-again Inv-loop μ-loop Inv-chunks μ-chunks
-loop-again c =
+add-skip-eights : tie.Need-add-skip-eights Inv-loop μ-loop Inv-chunks μ-chunks
+add-skip-eights c =
     let s = c .before .before .before .before .before .args .s .now in
     let i = c .before .before .loop .i in
     let e = sym (c .before .byte-at .ensures) ∙ c .if1 .taken in
     let l = under-inside s i e in
-    (omega arith, omega arith, ap (λ u. afterIdent u (from s (i + 1))) (lt-ltb (c .before .before .before .chunks .i) (i + 1) (omega arith)) ∙ pass-under s i (ltb (c .before .before .before .chunks .i) i) e ∙ c .before .before .loop .inv .2)
+    omega arith
+
+skip-eights-requires : tie.Need-skip-eights-requires Inv-loop μ-loop Inv-chunks μ-chunks
+skip-eights-requires c κs =
+    let s = c .before .before .before .before .before .args .s .now in
+    let i = c .before .before .loop .i in
+    let e = sym (c .before .byte-at .ensures) ∙ c .if1 .taken in
+    let l = under-inside s i e in
+    omega arith
+
+loop-less : tie.Need-loop-less Inv-loop μ-loop Inv-chunks μ-chunks
+loop-less c =
+    let s = c .before .before .before .before .before .before .args .s .now in
+    let i = c .before .before .before .loop .i in
+    let e = sym (c .before .before .byte-at .ensures) ∙ c .before .if1 .taken in
+    let l = under-inside s i e in
+    let r = c .skip-eights .ensures in
+    omega (arith, r .0, r .1)
+
+loop-again : tie.Need-loop-again Inv-loop μ-loop Inv-chunks μ-chunks
+loop-again c =
+    let s = c .before .before .before .before .before .before .args .s .now in
+    let i = c .before .before .before .loop .i in
+    let e = sym (c .before .before .byte-at .ensures) ∙ c .before .if1 .taken in
+    let l = under-inside s i e in
+    let chunk = c .before .before .before .before .chunks .i in
+    let r = c .skip-eights .ensures in
+    let t = lt-ltb chunk (c .skip-eights .result) (omega (arith, r .0)) in
+    (omega (arith, r .0), r .1, ap (λ u. afterIdent u (from s (c .skip-eights .result))) t ∙ pass-unders s i (ltb chunk i) e _ (r .0) (r .1) (r .2) ∙ c .before .before .before .loop .inv .2)
 
 id-run-end-requires : tie.Need-id-run-end-requires Inv-loop μ-loop Inv-chunks μ-chunks
 id-run-end-requires c κs = search needs
@@ -95,7 +117,8 @@ consume-id-rest-spec =
     chunks-holds
     loop-holds
     byte-at-requires
-    add-i
+    add-skip-eights
+    skip-eights-requires
     loop-less
     loop-again
     id-run-end-requires

@@ -5,7 +5,7 @@ use native.Mathlib.Omega.{arith}
 use lib.ListN.{length}
 use Rattle.chars.specs.Text.{from, afterRun}
 use Rattle.token.specs.Tests.{quote}
-use Rattle.token.proofs.StringLaws.{quotes-next, quotes-stop, quotes-end}
+use Rattle.token.proofs.StringLaws.{quotes-next, quotes-stop, quotes-end, quotes-past}
 use Rattle.token.proofs.string.consume_quotes.Statement.{statement}
 use Rattle.token.proofs.string.consume_quotes.Tie as tie
 
@@ -15,11 +15,11 @@ Inv-loop s i₀ i = (i ≤ length s) × (afterRun quote (from s i) ≡ afterRun 
 abbrev μ-loop : tie.MeasureT-loop
 μ-loop s i₀ i = length s - i
 
-consume-eights-requires : tie.Need-consume-eights-requires Inv-loop μ-loop
-consume-eights-requires c κs = c .before .pre
+skip-eights-requires : tie.Need-skip-eights-requires Inv-loop μ-loop
+skip-eights-requires c κs = c .before .pre
 
 loop-holds : tie.Need-loop-holds Inv-loop μ-loop
-loop-holds c = (c .consume-eights .ensures .0, refl)
+loop-holds c = (c .skip-eights .ensures .1, refl)
 
 shared-slice-read-if1 : tie.Need-shared-slice-read-if1 Inv-loop μ-loop
 shared-slice-read-if1 c = c .before .loop-test .taken
@@ -29,14 +29,16 @@ returns c =
     let s = c .before .before .before .before .before .before .args .s .now in
     let loop = c .before .before .before .loop in
     let h = c .before .before .loop-test .taken in
-    let eights = c .before .before .before .before .consume-eights .ensures in
-    (loop .inv .0, quotes-stop s _ h (c .if1 .taken) ∙ loop .inv .1 ∙ eights .1)
+    let e = c .before .before .before .before .skip-eights .ensures in
+    (loop .inv .0, quotes-stop s _ h (c .if1 .taken) ∙ loop .inv .1 ∙ quotes-past s _ _ (e .0) (e .1) (e .2))
 
 add-i : tie.Need-add-i Inv-loop μ-loop
-add-i c = let h = c .before .before .loop-test .taken in omega arith
+add-i c =
+    let h = c .before .before .loop-test .taken in omega arith
 
 loop-less : tie.Need-loop-less Inv-loop μ-loop
-loop-less c = let h = c .before .before .loop-test .taken in omega arith
+loop-less c =
+    let h = c .before .before .loop-test .taken in omega arith
 
 loop-again : tie.Need-loop-again Inv-loop μ-loop
 loop-again c =
@@ -49,7 +51,8 @@ returns-2 : tie.Need-returns-2 Inv-loop μ-loop
 returns-2 c =
     let s = c .before .before .before .before .args .s .now in
     let loop = c .before .loop in
-    (loop .inv .0, quotes-end s _ (c .loop-test .left) ∙ loop .inv .1 ∙ c .before .before .consume-eights .ensures .1)
+    let e = c .before .before .skip-eights .ensures in
+    (loop .inv .0, quotes-end s _ (c .loop-test .left) ∙ loop .inv .1 ∙ quotes-past s _ _ (e .0) (e .1) (e .2))
 
 pub consume-quotes-spec : {M : Type 1} → statement M
 consume-quotes-spec =
@@ -57,7 +60,7 @@ consume-quotes-spec =
     (tie.spec
     Inv-loop
     μ-loop
-    consume-eights-requires
+    skip-eights-requires
     loop-holds
     shared-slice-read-if1
     returns

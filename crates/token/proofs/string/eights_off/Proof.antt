@@ -1,3 +1,4 @@
+-- Sixteen bytes, the first eight, the last eight.
 use Prim.Native.Nat.{_+_, _-_}
 use mathlib.Core.Path.{sym, _∙_}
 use native.Mathlib.Omega.{arith}
@@ -28,27 +29,27 @@ returns-2 c =
     let a = c .before .before .before .before .args in
     eights-none (a .s .now) (a .start) (a .end) (c .if2 .taken)
 
-eight-quotes-requires : tie.Need-eight-quotes-requires
-eight-quotes-requires c κs = search needs
+eight-in-requires : tie.Need-eight-in-requires
+eight-in-requires c κs = search needs
 
-sub-eight-quotes : tie.Need-sub-eight-quotes
-sub-eight-quotes c = search needs
+sub-eight-in : tie.Need-sub-eight-in
+sub-eight-in c = search needs
 
-eight-quotes-requires-2 : tie.Need-eight-quotes-requires-2
-eight-quotes-requires-2 c κs = search needs
+eight-in-requires-2 : tie.Need-eight-in-requires-2
+eight-in-requires-2 c κs = search needs
 
 returns-3 : tie.Need-returns-3
 unfolding eightsOff
 returns-3 c =
     let a = c .before .before .before .before .before .before .before .args in
-    let e = sym (c .before .before .eight-quotes .ensures) ∙ c .before .if3 .taken in
-    rw (le-leb (a .start + 16) (a .end) (omega arith), e, c .eight-quotes2 .ensures)
+    let e = sym (c .before .before .eight-in .ensures) ∙ c .before .if3 .taken in
+    rw (le-leb (a .start + 16) (a .end) (omega arith), e, c .eight-in2 .ensures)
 
 returns-4 : tie.Need-returns-4
 unfolding eightsOff
 returns-4 c =
     let a = c .before .before .before .before .before .before .args in
-    let e = sym (c .before .eight-quotes .ensures) ∙ c .if3 .left in
+    let e = sym (c .before .eight-in .ensures) ∙ c .if3 .left in
     rw (le-leb (a .start + 16) (a .end) (omega arith), e)
 
 pub eights-off-spec : {M : Type 1} → statement M
@@ -60,8 +61,8 @@ eights-off-spec =
     add-if2
     shared-slice-read-if2
     returns-2
-    eight-quotes-requires
-    sub-eight-quotes
-    eight-quotes-requires-2
+    eight-in-requires
+    sub-eight-in
+    eight-in-requires-2
     returns-3
     returns-4)

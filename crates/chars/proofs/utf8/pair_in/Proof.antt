@@ -6,8 +6,8 @@ use Rattle.chars.specs.Ranges.{_to_}
 use Rattle.chars.proofs.Rows.{fits-next}
 use Rattle.chars.proofs.Valid.{fit-within}
 use borrow.Author.Needs.{needs}
-use Rattle.chars.proofs.utf8.two_in.Statement.{statement}
-use Rattle.chars.proofs.utf8.two_in.Tie as tie
+use Rattle.chars.proofs.utf8.pair_in.Statement.{statement}
+use Rattle.chars.proofs.utf8.pair_in.Tie as tie
 
 byte-in-requires : tie.Need-byte-in-requires
 byte-in-requires c κs = search needs
@@ -31,6 +31,6 @@ returns-2 c =
     let a = c .before .before .before .before .args in
     simp (fits-next (a .low) (a .high) (a .low2 to a .high2 ∷ []) (a .s .now) (a .at), ← c .before .before .byte-in .ensures, not-false (c .before .before .byte-in .result) (c .before .if1 .left), c .byte-in2 .ensures)
 
-pub two-in-spec : {M : Type 1} → statement M
-two-in-spec =
+pub pair-in-spec : {M : Type 1} → statement M
+pair-in-spec =
     tie.close (tie.spec byte-in-requires returns add-byte-in byte-in-requires-2 returns-2)

@@ -1,0 +1,37 @@
+use Prim.Native.Nat.{_+_}
+use native.Mathlib.Omega.{arith}
+use borrow.Author.Tests.{le-leb, lt-leb}
+use lib.ListN.{length}
+use Rattle.chars.specs.Code.{eightIn}
+use borrow.Author.Needs.{needs}
+use Rattle.chars.proofs.eights.eight_in.Statement.{statement}
+use Rattle.chars.proofs.eights.eight_in.Tie as tie
+
+sub-if1 : tie.Need-sub-if1
+sub-if1 c = search needs
+
+returns : tie.Need-returns
+unfolding eightIn
+returns c =
+    let a = c .before .before .args in
+    let z = lt-leb (a .at + 8) (length (a .s .now)) (omega arith) in
+    rw z
+
+four-in-requires : tie.Need-four-in-requires
+four-in-requires c κs = search needs
+
+add-four-in : tie.Need-add-four-in
+add-four-in c = search needs
+
+four-in-requires-2 : tie.Need-four-in-requires-2
+four-in-requires-2 c κs = search needs
+
+returns-2 : tie.Need-returns-2
+unfolding eightIn
+returns-2 c =
+    let a = c .before .before .before .before .args in
+    let z = le-leb (a .at + 8) (length (a .s .now)) (omega arith) in
+    rw (z, ← c .before .four-in .ensures, ← c .four-in2 .ensures)
+
+pub eight-in-spec : {M : Type 1} → statement M
+eight-in-spec = tie.close (tie.spec sub-if1 returns four-in-requires add-four-in four-in-requires-2 returns-2)
