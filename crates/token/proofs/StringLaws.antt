@@ -29,7 +29,7 @@ use Rattle.token.proofs.Bytes.{inside, any-byte, past, starts-byte, two
 use Rattle.token.proofs.Runs.{after-next, after-stop}
 use Rattle.token.proofs.Cursors.{all-past}
 use Rattle.token.proofs.Escapes.{slash-finds, Good, Bad}
-use Rattle.token.proofs.Shorter.{stands-strict}
+use Rattle.token.proofs.Shorter.{Strict, stands-strict}
 use Rattle.token.proofs.Strings as strings
 
 -- ---- places
@@ -462,18 +462,21 @@ unfolding begins
 quote-no-comment [] e f = clash e
 quote-no-comment (c ∷ s) e f = let z = eqb-true (c .code) 34 (and-both (eqb (c .code) 34) true e .0) in clash (rw z at f)
 
-pub plain-suffix : (t r : Text) → quote t ≡ true → inString false t ≡ closed r → Suffix r t
+pub plain-strict : (t r : Text) → quote t ≡ true → inString false t ≡ closed r → Strict r t
 unfolding Stands HasShape TokenShape
-plain-suffix t r q c = ⊎-elim ends refused (strings.body-finds false t q)
+plain-strict t r q c = ⊎-elim ends refused (strings.body-finds false t q)
   where
-    ends : strings.Closed false t → Suffix r t
+    ends : strings.Closed false t → Strict r t
     ends w =
         let e : closed (w .rest) ≡ closed r = sym (w .found) ∙ c in
         let x : r ≡ w .rest = cc in
-        rw x (stands-strict (Kind.token TokenType.str) t (w .rest) (inl (w .body), quote-no-comment t q) .0)
+        rw x (stands-strict (Kind.token TokenType.str) t (w .rest) (inl (w .body), quote-no-comment t q))
 
-    refused : strings.Wrong false t → Suffix r t
+    refused : strings.Wrong false t → Strict r t
     refused w = absurd (let e : wrong (w .number) (w .rest) ≡ closed r = sym (w .found) ∙ c in let z : _≡_ {A = ℕ} 0 1 = cc in omega arith)
+
+pub plain-suffix : (t r : Text) → quote t ≡ true → inString false t ≡ closed r → Suffix r t
+plain-suffix t r q c = plain-strict t r q c .0
 
 pub plain-end : (s : List ℕ) (i : ℕ) (e : Cursor) → i ≤ length s → quote (from s i) ≡ true → ended.At e ≡ endedOf (length s) (inString false (from s i))
     → (i ≤ e .at) × (e .at ≤ length s) × (quote (from s i) ≡ true) × (inString false (from s i) ≡ closed (from s (e .at)))

@@ -15,14 +15,14 @@ use Rattle.chars.proofs.Texts.{TextOf, text-at, text-drop}
 use Rattle.chars.proofs.Places.{at-char, at-end, next-on, place-from, ascii-next, wide-tail}
 use Rattle.token.specs.Tests.{begins, quote}
 use Rattle.token.specs.Shapes.{textOf}
-use Rattle.token.specs.Answer.{strip, plainContent}
-use Rattle.token.specs.Code.{lastOff, eightsOff, SameContent}
+use Rattle.token.specs.Answer.{closed, inString, strip, plainContent}
+use Rattle.token.specs.Code.{lastOff, LeftOf, eightsOff, SameContent}
 use Rattle.chars.specs.Code.{eightIn}
 use Rattle.chars.proofs.Spans.{eight-all}
 use Rattle.token.specs.declared.kinds.TokenKind.the-variants as tk
 use Rattle.token.proofs.Bytes.{past}
 use Rattle.token.proofs.EscapeLaws.{same-place}
-use Rattle.token.proofs.StringLaws.{quote-byte}
+use Rattle.token.proofs.StringLaws.{quote-byte, plain-strict}
 
 -- ---- one turn of the definition
 
@@ -316,6 +316,35 @@ module _ (s : List ℕ) (start end a b : ℕ) (h : Left s start end a b) (k : a 
           by true q = let n = snoc u v in left-two c (n .0) (n .1) (u ∷ v) (n .2) x y q
           by false q = let n = snoc u v in left-one c (n .0) (n .1) (u ∷ v) (n .2) x y q
 
+-- one turn is all where no second quote stands
+pub left-single : (s : List ℕ) (start end a b : ℕ) → Left s start end a b → a < b → getD s a 0 ≡ 0x22 → (getD s (a + 1) 0 ≡ 0x22 → ⊥)
+    → tk.Str (a + 1) (lastOff s (a + 1) b) ≡ plainContent (length s) (from s start) (from s end)
+left-single s start end a b h k byte n = go (ltb (a + 1) (lastOff s (a + 1) b)) refl
+  where
+    rest : Left s start end (a + 1) (lastOff s (a + 1) b)
+    rest = left-next s start end a b h k byte
+
+    go : (x : Bool) → ltb (a + 1) (lastOff s (a + 1) b) ≡ x → tk.Str (a + 1) (lastOff s (a + 1) b) ≡ plainContent (length s) (from s start) (from s end)
+    go true e = left-stop s start end (a + 1) (lastOff s (a + 1) b) rest (ltb-true (a + 1) (lastOff s (a + 1) b) e) n
+    go false e = left-end s start end (a + 1) (lastOff s (a + 1) b) rest (ltb-false (a + 1) (lastOff s (a + 1) b) e)
+
+-- a plain string, by its first byte and its ends
+module _ (s : List ℕ) (start end : ℕ) (q : quote (from s start) ≡ true) (c : inString false (from s start) ≡ closed (from s end)) where
+  pub string-tail : LeftOf (from s start) (from s end)
+  string-tail = plain-strict (from s start) (from s end) q c .0 .tail
+
+  pub string-byte : getD s start 0 ≡ 0x22
+  string-byte = eqb-true (getD s start 0) 0x22 (sym (quote-byte s start) ∙ q)
+
+  pub string-some : start ≤ end → start < end
+  string-some h = go (ltb start end) refl
+    where
+      go : (x : Bool) → ltb start end ≡ x → start < end
+      go true e = ltb-true start end e
+      go false e =
+          let z : start ≡ end = omega (arith, ltb-false start end e) in
+          absurd (let l = plain-strict (from s start) (from s end) q c .1 in let m : length (from s start) ≡ length (from s end) = ap (λ i. length (from s i)) z in omega arith)
+
 -- ---- several turns at once
 
 abbrev Quotes : List ℕ → ℕ → ℕ → Type 0
@@ -372,13 +401,6 @@ module _ (s : List ℕ) where
         first = eight-quotes a (g .0);
         last = λ k u v. eight-quotes (b - 8) (g .1) k u (omega arith);
       }
-
-  pub eights-none : (a b : ℕ) → (getD s (a + 7) 0 ≡ 0x22 → ⊥) → false ≡ eightsOff s a b
-  eights-none a b n = go (eightsOff s a b) refl
-    where
-      go : (x : Bool) → eightsOff s a b ≡ x → false ≡ eightsOff s a b
-      go true e = absurd (n (eights-ends a b e .first (a + 7) (omega arith) (omega arith)))
-      go false e = sym e
 
   -- eight turns
   pub left-eights : (start end a b : ℕ) → eightsOff s a b ≡ true → Left s start end a b → (a + 16 ≤ b) × Left s start end (a + 8) (b - 8)

@@ -224,15 +224,12 @@ fn last_off(s: &[u8], start: usize, end: usize) -> usize
     end
 }
 
-// Are the first eight bytes and the last eight of the text from `start` to `end` quotes, sixteen in all? One byte answers for most strings.
+// Are the first eight bytes and the last eight of the text from `start` to `end` quotes, sixteen in all?
 fn eights_off(s: &[u8], start: usize, end: usize) -> bool
     requires { ⌜ (start ≤ end) × (end ≤ length (now s)) ⌝ }
     ensures { λ r. ⌜ r ≡ eightsOff (now (s .entry)) start end ⌝ }
 {
     if end - start < 16 {
-        return false;
-    }
-    if s[start + 7] != 0x22 {
         return false;
     }
     if chars::eights::eight_in(s, start, 0x22, 0x22) {
@@ -255,9 +252,9 @@ fn strip_eights(s: &[u8], start: usize, end: usize) -> Span
     Span { start: a, end: b }
 }
 
-// The content of the plain string that stands from `start` to `end`.
-fn strip_quotes(s: &[u8], start: usize, end: usize) -> Span
-    requires { ⌜ (start ≤ end) × (end ≤ length (now s)) × (quote (from (now s) start) ≡ true) × (inString false (from (now s) start) ≡ closed (from (now s) end)) ⌝ }
+// The content of the text from `start` to `end`.
+fn strip_many(s: &[u8], start: usize, end: usize) -> Span
+    requires { ⌜ (start ≤ end) × (end ≤ length (now s)) × LeftOf (from (now s) start) (from (now s) end) ⌝ }
     ensures { λ r. ⌜ spanKind r ≡ plainContent (length (now (s .entry))) (from (now (s .entry)) start) (from (now (s .entry)) end) ⌝ }
 {
     let left = strip_eights(s, start, end);
@@ -271,6 +268,21 @@ fn strip_quotes(s: &[u8], start: usize, end: usize) -> Span
         b = last_off(s, a, b);
     }
     Span { start: a, end: b }
+}
+
+// The content of the plain string that stands from `start` to `end`. Most begin with one quote only.
+fn strip_quotes(s: &[u8], start: usize, end: usize) -> Span
+    requires { ⌜ (start ≤ end) × (end ≤ length (now s)) × (quote (from (now s) start) ≡ true) × (inString false (from (now s) start) ≡ closed (from (now s) end)) ⌝ }
+    ensures { λ r. ⌜ spanKind r ≡ plainContent (length (now (s .entry))) (from (now (s .entry)) start) (from (now (s .entry)) end) ⌝ }
+{
+    let next = start + 1;
+    if byte_at(s, next) != 0x22 {
+        return Span {
+            start: next,
+            end: last_off(s, next, end),
+        };
+    }
+    strip_many(s, start, end)
 }
 
 // A plain string.

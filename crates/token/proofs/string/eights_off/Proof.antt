@@ -4,7 +4,6 @@ use mathlib.Core.Path.{sym, _∙_}
 use native.Mathlib.Omega.{arith}
 use borrow.Author.Tests.{le-leb, lt-leb}
 use Rattle.token.specs.Code.{eightsOff}
-use Rattle.token.proofs.StripLaws.{eights-none}
 use borrow.Author.Needs.{needs}
 use Rattle.token.proofs.string.eights_off.Statement.{statement}
 use Rattle.token.proofs.string.eights_off.Tie as tie
@@ -18,17 +17,6 @@ returns c =
     let a = c .before .before .args in
     rw (lt-leb (a .start + 16) (a .end) (omega arith))
 
-add-if2 : tie.Need-add-if2
-add-if2 c = search needs
-
-shared-slice-read-if2 : tie.Need-shared-slice-read-if2
-shared-slice-read-if2 c = search needs
-
-returns-2 : tie.Need-returns-2
-returns-2 c =
-    let a = c .before .before .before .before .args in
-    eights-none (a .s .now) (a .start) (a .end) (c .if2 .taken)
-
 eight-in-requires : tie.Need-eight-in-requires
 eight-in-requires c κs = search needs
 
@@ -38,31 +26,20 @@ sub-eight-in c = search needs
 eight-in-requires-2 : tie.Need-eight-in-requires-2
 eight-in-requires-2 c κs = search needs
 
+returns-2 : tie.Need-returns-2
+unfolding eightsOff
+returns-2 c =
+    let a = c .before .before .before .before .before .args in
+    let e = sym (c .before .before .eight-in .ensures) ∙ c .before .if2 .taken in
+    rw (le-leb (a .start + 16) (a .end) (omega arith), e, c .eight-in2 .ensures)
+
 returns-3 : tie.Need-returns-3
 unfolding eightsOff
 returns-3 c =
-    let a = c .before .before .before .before .before .before .before .args in
-    let e = sym (c .before .before .eight-in .ensures) ∙ c .before .if3 .taken in
-    rw (le-leb (a .start + 16) (a .end) (omega arith), e, c .eight-in2 .ensures)
-
-returns-4 : tie.Need-returns-4
-unfolding eightsOff
-returns-4 c =
-    let a = c .before .before .before .before .before .before .args in
-    let e = sym (c .before .eight-in .ensures) ∙ c .if3 .left in
+    let a = c .before .before .before .before .args in
+    let e = sym (c .before .eight-in .ensures) ∙ c .if2 .left in
     rw (le-leb (a .start + 16) (a .end) (omega arith), e)
 
 pub eights-off-spec : {M : Type 1} → statement M
 eights-off-spec =
-    tie.close
-    (tie.spec
-    sub-if1
-    returns
-    add-if2
-    shared-slice-read-if2
-    returns-2
-    eight-in-requires
-    sub-eight-in
-    eight-in-requires-2
-    returns-3
-    returns-4)
+    tie.close (tie.spec sub-if1 returns eight-in-requires sub-eight-in eight-in-requires-2 returns-2 returns-3)

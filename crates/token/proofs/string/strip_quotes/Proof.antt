@@ -1,56 +1,42 @@
--- The content of what is left is the content of all.
-use Prim.Native.Nat.{_+_, _-_}
+-- One turn, or many.
+use Prim.Native.Nat.{_+_}
+use mathlib.Core.Path.{refl, _∙_, ap}
 use native.Mathlib.Omega.{arith}
-use Rattle.token.proofs.StringLaws.{plain-suffix}
-use Rattle.token.proofs.StripLaws.{Left, left-from, left-next, left-stop, left-end, off-most}
+use borrow.Author.Needs.{needs}
+use Rattle.token.specs.declared.kinds.TokenKind.the-variants as tk
+use Rattle.token.proofs.StripLaws.{left-from, left-single, string-tail, string-byte, string-some}
 use Rattle.token.proofs.string.strip_quotes.Statement.{statement}
 use Rattle.token.proofs.string.strip_quotes.Tie as tie
 
-abbrev Inv-loop : tie.InvT-loop
-Inv-loop s start end a₀ b₀ a b = Left s start end a b
+add-next : tie.Need-add-next
+add-next c =
+    let p = c .before .pre in
+    let h = string-some _ _ _ (p .2) (p .3) (p .0) in
+    omega arith
 
-abbrev μ-loop : tie.MeasureT-loop
-μ-loop s start end a₀ b₀ a b = b - a
+byte-at-requires : tie.Need-byte-at-requires
+byte-at-requires c κs = search needs
 
-strip-eights-requires : tie.Need-strip-eights-requires Inv-loop μ-loop
-strip-eights-requires c κs = (c .before .pre .0, c .before .pre .1, plain-suffix _ _ (c .before .pre .2) (c .before .pre .3) .tail)
+last-off-requires : tie.Need-last-off-requires
+last-off-requires c κs = search needs
 
-loop-holds : tie.Need-loop-holds Inv-loop μ-loop
-loop-holds c = left-from _ _ _ _ _ (c .strip-eights .ensures)
+returns : tie.Need-returns
+returns c =
+    let a = c .before .before .before .before .args in
+    let p = c .before .before .before .before .pre in
+    let s = a .s .now in
+    let l = left-from s (a .start) (a .end) (a .start) (a .end) (p .0, p .1, string-tail _ _ _ (p .2) (p .3), refl) in
+    ap (tk.Str (a .start + 1)) (c .last-off .ensures)
+    ∙ left-single s (a .start) (a .end) (a .start) (a .end) l (string-some _ _ _ (p .2) (p .3) (p .0)) (string-byte _ _ _ (p .2) (p .3)) (λ z. c .before .if1 .taken (c .before .before .byte-at .ensures ∙ z))
 
-shared-slice-read-if1 : tie.Need-shared-slice-read-if1 Inv-loop μ-loop
-shared-slice-read-if1 c = let h = c .before .before .loop .inv .within in let k = c .before .loop-test .taken in omega arith
+strip-many-requires : tie.Need-strip-many-requires
+strip-many-requires c κs =
+    let p = c .before .before .before .pre in
+    (p .0, p .1, string-tail _ _ _ (p .2) (p .3))
 
-returns : tie.Need-returns Inv-loop μ-loop
-returns c = left-stop _ _ _ _ _ (c .before .before .before .loop .inv) (c .before .before .loop-test .taken) (c .if1 .taken)
-
-add-a : tie.Need-add-a Inv-loop μ-loop
-add-a c = let h = c .before .before .before .loop .inv .within in let k = c .before .before .loop-test .taken in omega arith
-
-last-off-requires : tie.Need-last-off-requires Inv-loop μ-loop
-last-off-requires c κs = c .before .before .before .loop .inv .within
-
-loop-less : tie.Need-loop-less Inv-loop μ-loop
-loop-less c = let k = c .before .before .before .loop-test .taken in let e = c .last-off .ensures in omega (arith, off-most (c .before .before .before .before .before .before .before .args .s .now) (c .before .before .before .before .loop .a + 1) (c .before .before .before .before .loop .b))
-
-loop-again : tie.Need-loop-again Inv-loop μ-loop
-loop-again c = rw (c .last-off .ensures) (left-next _ _ _ _ _ (c .before .before .before .before .loop .inv) (c .before .before .before .loop-test .taken) (c .before .if1 .left))
-
-returns-2 : tie.Need-returns-2 Inv-loop μ-loop
-returns-2 c = left-end _ _ _ _ _ (c .before .loop .inv) (c .loop-test .left)
+returns-2 : tie.Need-returns-2
+returns-2 c = c .strip-many .ensures
 
 pub strip-quotes-spec : {M : Type 1} → statement M
 strip-quotes-spec =
-    tie.close
-    (tie.spec
-    Inv-loop
-    μ-loop
-    strip-eights-requires
-    loop-holds
-    shared-slice-read-if1
-    returns
-    add-a
-    last-off-requires
-    loop-less
-    loop-again
-    returns-2)
+    tie.close (tie.spec add-next byte-at-requires last-off-requires returns strip-many-requires returns-2)
