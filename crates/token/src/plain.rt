@@ -115,11 +115,30 @@ fn sign_number(b: u8) -> u16
     }
 }
 
+// The letters with which the nine words begin, a bit for each code from 0x40 on.
+const WORD_STARTS: u64 = 0x0014226800000000;
+
+// Whether one of the nine words begins with the byte. Most identifiers do not, and need no further look.
+fn starts_word(b: u8) -> bool
+    ensures { λ r. ⌜ r ≡ oneOf "cefimrt" b ⌝ }
+{
+    if b < 0x40 {
+        return false;
+    }
+    if b < 0x80 {
+        return (WORD_STARTS >> (b as u64 - 0x40)) % 2 == 1;
+    }
+    false
+}
+
 // The kind's number of the word from `at` to `end`.
 fn word_number(s: &[u8], at: usize, end: usize) -> u16
     requires { ⌜ (at < length (now s)) × Plain (now s) at end × (ltb (getD (now s) at 0) 0x80 && isIdStart (getD (now s) at 0) ≡ true) ⌝ }
     ensures { λ r. ⌜ r ≡ pieceNumber (pieceOf (length (now (s .entry))) (scan (length (now (s .entry))) (from (now (s .entry)) at))) ⌝ }
 {
+    if !starts_word(s[at]) {
+        return TokenKind::IDENT;
+    }
     let word = word_keyword(s, at, end);
     match word {
         Keyword::Is(k) => k.number(),
