@@ -42,12 +42,15 @@ fn put_if(
     }
 }
 
-// The same for a line end.
+// The same for a line end. It calls `put_record` itself: so that is compiled once, and `put_if` into the walk.
 fn put_line_if(out: &mut [u8], w: usize, start: usize, end: usize, mark: bool, stores: bool)
     requires { ⌜ (stores ≡ true → w + 14 ≤ length (now out)) ⌝ }
     ensures { λ r. ⌜ now (out .exit) ≡ cond stores (sets (now (out .entry)) w (recordOf (lineEndAt start end mark))) (now (out .entry)) ⌝ }
 {
-    put_if(out, w, TokenKind::Newline(mark), start, end, false, stores);
+    if stores {
+        put_record(out, w, TokenKind::Newline(mark), start, end, false);
+        return;
+    }
 }
 
 // The end of script, the n-th token: stores its record, and says what was counted.
