@@ -5,10 +5,11 @@ use mathlib.Core.Bool.{Bool, true, false, not, _&&_, _||_, and-eq-true-iff, or-t
 use mathlib.Core.List.{List, [], _∷_}
 use mathlib.Core.Logic.{inl, inr, ⊎-elim}
 use native.Mathlib.Omega.{arith}
-use borrow.Author.Tests.{eqb-true, eqb-false, eq-eqb, ne-eqb, not-true}
-use lib.Dec.{eqb}
+use borrow.Author.Tests.{eqb-true, eqb-false, eq-eqb, ne-eqb, not-true, ltb-true, ltb-false, le-ltb}
+use lib.Dec.{eqb, ltb}
 use types.Run.{OneOf}
 use Rattle.chars.specs.Quoted.{member}
+use Rattle.chars.specs.Code.{bitIn}
 use Rattle.chars.proofs.Bools.{clash}
 
 abbrev pub every : (ℕ → Bool) → List ℕ → Bool
@@ -76,6 +77,20 @@ agree false y e = sym (not-true y e)
 
 pub each-same : (f g : ℕ → Bool) (a n c : ℕ) → every (λ x. alike (f x) (g x)) (span a n) ≡ true → a ≤ c → c < a + n → f c ≡ g c
 each-same f g a n c h p q = agree (f c) (g c) (each (λ x. alike (f x) (g x)) a n c h p q)
+
+-- ---- a set of ASCII characters as two masks: computed at each code of ASCII, and empty past it
+
+mask-none : (low high c : ℕ) → 0x80 ≤ c → bitIn low high c ≡ false
+unfolding bitIn
+mask-none low high c l = rw (le-ltb c 0x40 (omega arith), le-ltb c 0x80 l)
+
+pub mask-set : (low high : ℕ) (p : ℕ → Bool) → every (λ x. alike (bitIn low high x) (p x)) (span 0 128) ≡ true → ((c : ℕ) → 0x80 ≤ c → p c ≡ false)
+    → (c : ℕ) → bitIn low high c ≡ p c
+mask-set low high p h w c = go (ltb c 0x80) refl
+  where
+    go : (b : Bool) → ltb c 0x80 ≡ b → bitIn low high c ≡ p c
+    go true e = let l = ltb-true c 0x80 e in each-same (bitIn low high) p 0 128 c h (omega arith) (omega arith)
+    go false e = let l = ltb-false c 0x80 e in mask-none low high c l ∙ sym (w c l)
 
 -- ---- the keys of a match's arm
 

@@ -1,13 +1,19 @@
 -- Definitions that only the code needs: what its shortcuts test.
-use Prim.Native.Nat.{ℕ, _+_, _≤_, _<_}
-use mathlib.Core.Bool.{Bool, _&&_, _||_}
+use Prim.Native.Nat.{ℕ, _+_, _-_, _/_, _%_, _^_, _≤_, _<_}
+use mathlib.Core.Bool.{Bool, cond, _&&_, _||_}
 use mathlib.Core.List.{List, [], _∷_}
 use lib.ListN.{length, drop, getD}
-use lib.Dec.{leb, ltb}
+use lib.Dec.{eqb, leb, ltb}
 use Rattle.chars.specs.Ranges.{_to_}
 use Rattle.chars.specs.Utf8.{fits}
 use Rattle.chars.specs.Classes.{isIdChar}
 use Rattle.chars.specs.Text.{Text, head}
+
+-- ---- a set of ASCII characters as two masks
+
+-- is the code's bit set, up to 0x3F in low, from 0x40 to 0x7F in high?
+unfoldable pub bitIn : ℕ → ℕ → ℕ → Bool
+bitIn low high c = cond (ltb c 0x40) (eqb (low / 2 ^ c % 2) 1) (ltb c 0x80 && eqb (high / 2 ^ (c - 0x40) % 2) 1)
 
 -- ---- runs of id characters
 

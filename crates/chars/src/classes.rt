@@ -17,7 +17,7 @@ ghost use lib.ListN.{length};
 ghost use Rattle.chars.specs.Tables.{alphabeticTable, alphaNotLetterTable};
 ghost use Rattle.chars.specs.Classes.{isIdStart, isIdChar, isOpSign, isPrintable, lowercase, uppercase, alphabetic, alphaNotLetter, IdTables};
 ghost use Rattle.chars.specs.Text.{from, place, idChar, afterRun};
-ghost use Rattle.chars.specs.Code.{asciiIdChar, russianAt};
+ghost use Rattle.chars.specs.Code.{asciiIdChar, bitIn, russianAt};
 
 // The last code that the tables speak of.
 const LAST: u32 = 0xFFFF;
@@ -83,22 +83,24 @@ pub fn is_op_char(c: u32) -> bool
     }
 }
 
-// The ASCII operator signs, a bit for each code: up to 0x3F, and from 0x40 on.
-const LOW_SIGNS: u64 = 0xF400AC6A00000000;
+// Whether the byte's bit is set in two masks, for the codes up to 0x3F and from 0x40 to 0x7F: two tests where a `match` takes a dozen.
+pub fn has_bit(b: u8, low: u64, high: u64) -> bool
+    ensures { λ r. ⌜ r ≡ bitIn low high b ⌝ }
+{
+    if b < 0x40 {
+        return (low >> b as u64) % 2 == 1;
+    }
+    if b < 0x80 {
+        return (high >> (b as u64 - 0x40)) % 2 == 1;
+    }
+    false
+}
 
-const HIGH_SIGNS: u64 = 0x5000000050000001;
-
-// Whether the byte is an ASCII operator sign: two tests where a `match` takes a dozen.
+// Whether the byte is an ASCII operator sign.
 pub fn is_op_byte(b: u8) -> bool
     ensures { λ r. ⌜ r ≡ ltb b 0x80 && isOpSign b ⌝ }
 {
-    if b < 0x40 {
-        return (LOW_SIGNS >> b as u64) % 2 == 1;
-    }
-    if b < 0x80 {
-        return (HIGH_SIGNS >> (b as u64 - 0x40)) % 2 == 1;
-    }
-    false
+    has_bit(b, 0xF400AC6A00000000, 0x5000000050000001)
 }
 
 // Whether c is printable.

@@ -18,22 +18,11 @@ ghost use Rattle.chars.specs.Text.{from};
 ghost use Rattle.token.specs.Answer.{scan};
 ghost use Rattle.token.specs.Code.{Plain, PlainOr, pieceOf, pieceNumber, signNumber, fieldsOf};
 
-// The nine signs, a bit for each code: up to 0x3F, and from 0x40 on.
-const LOW_SIGNS: u64 = 0x0800530000000000;
-
-const HIGH_SIGNS: u64 = 0x2800000028000000;
-
 // Whether the byte is one of the nine signs.
 fn is_sign(b: u8) -> bool
     ensures { λ r. ⌜ r ≡ oneOf "()[]{},;." b ⌝ }
 {
-    if b < 0x40 {
-        return (LOW_SIGNS >> b as u64) % 2 == 1;
-    }
-    if b < 0x80 {
-        return (HIGH_SIGNS >> (b as u64 - 0x40)) % 2 == 1;
-    }
-    false
+    chars::classes::has_bit(b, 0x0800530000000000, 0x2800000028000000)
 }
 
 // Where the word ends that begins there; the place itself, where more than ASCII id characters must be looked at.
@@ -115,20 +104,11 @@ fn sign_number(b: u8) -> u16
     }
 }
 
-// The letters with which the nine words begin, a bit for each code from 0x40 on.
-const WORD_STARTS: u64 = 0x0014226800000000;
-
 // Whether one of the nine words begins with the byte. Most identifiers do not, and need no further look.
 fn starts_word(b: u8) -> bool
     ensures { λ r. ⌜ r ≡ oneOf "cefimrt" b ⌝ }
 {
-    if b < 0x40 {
-        return false;
-    }
-    if b < 0x80 {
-        return (WORD_STARTS >> (b as u64 - 0x40)) % 2 == 1;
-    }
-    false
+    chars::classes::has_bit(b, 0, 0x0014226800000000)
 }
 
 // The kind's number of the word from `at` to `end`.

@@ -1,39 +1,19 @@
--- The bits are computed at every code.
-use Prim.Native.Nat.{_-_, _/_, _%_, _^_}
-use mathlib.Core.Path.{refl, sym}
-use lib.Dec.{eqb}
-use native.Mathlib.Omega.{arith}
+-- The masks are computed at every code of ASCII.
+use mathlib.Core.Path.{refl, _∙_}
 use Rattle.chars.specs.Quoted.{codes, oneOf}
-use Rattle.chars.proofs.Carry.{each-same}
+use Rattle.chars.specs.Code.{bitIn}
+use Rattle.chars.proofs.Carry.{mask-set}
 use Rattle.token.proofs.Bytes.{ascii-list}
 use borrow.Author.Needs.{needs}
 use Rattle.token.proofs.plain.is_sign.Statement.{statement}
 use Rattle.token.proofs.plain.is_sign.Tie as tie
 
-shr-result : tie.Need-shr-result
-shr-result c = search needs
+has-bit-requires : tie.Need-has-bit-requires
+has-bit-requires c κs = search needs
 
 returns : tie.Need-returns
-returns c =
-    let args′ = c .before .args in
-    each-same (λ x. eqb (0x0800530000000000 / 2 ^ x % 2) 1) (oneOf "()[]{},;.") 0 64 (args′ .b) refl (omega arith) (omega arith)
-
-sub-result : tie.Need-sub-result
-sub-result c = search needs
-
-shr-result-2 : tie.Need-shr-result-2
-shr-result-2 c = search needs
-
-returns-2 : tie.Need-returns-2
-returns-2 c =
-    let args′ = c .before .before .args in
-    each-same (λ x. eqb (0x2800000028000000 / 2 ^ (x - 0x40) % 2) 1) (oneOf "()[]{},;.") 64 64 (args′ .b) refl (omega arith) (omega arith)
-
-returns-3 : tie.Need-returns-3
-returns-3 c =
-    let args′ = c .before .before .args in
-    let if2′ = c .if2 in
-    sym (ascii-list (codes "()[]{},;.") refl .wide (args′ .b) (if2′ .left))
+unfolding bitIn
+returns c = c .has-bit .ensures ∙ mask-set _ _ (oneOf "()[]{},;.") refl (ascii-list (codes "()[]{},;.") refl .wide) (c .before .args .b)
 
 pub is-sign-spec : {M : Type 1} → statement M
-is-sign-spec = tie.close (tie.spec shr-result returns sub-result shr-result-2 returns-2 returns-3)
+is-sign-spec = tie.close (tie.spec has-bit-requires returns)
