@@ -1,52 +1,93 @@
--- Bytes of a range, several by one test.
+-- Runs of bytes that have a property, tested by eights.
 use Prim.Native.Nat.{ℕ, _+_, _≤_, _<_}
 use mathlib.Core.Path.{_≡_, refl}
-use mathlib.Core.Bool.{Bool, true, false, _&&_}
+use mathlib.Core.Bool.{Bool, true, false, not, _&&_}
 use mathlib.Core.List.{List}
 use lib.ListN.{length, getD}
-use lib.Dec.{leb, ltb}
+use lib.Dec.{eqb, leb, ltb}
 use native.Mathlib.Omega.{arith}
-use borrow.Author.Tests.{leb-true, ltb-true, ltb-false}
-use Rattle.chars.specs.Code.{AllIn, twoIn, fourIn, eightIn}
+use borrow.Author.Tests.{leb-true, ltb-true, ltb-false, eqb-false, not-true}
+use Rattle.chars.specs.Code.{Each, fourBy, eightBy, Within, AllIn, twoIn, eightIn, Other, NoneOf, andOther, twoNot, eightNot}
 use Rattle.chars.proofs.Bools.{and-both}
 
-module _ (low high : ℕ) (s : List ℕ) where
-  all-one : (i : ℕ) → low ≤ getD s i 0 → getD s i 0 ≤ high → AllIn low high s i (i + 1)
-  all-one i a b k l m = let z : k ≡ i = omega arith in rw z (a, b)
+-- ---- any property
 
-  all-join : (i j m : ℕ) → AllIn low high s i j → AllIn low high s j m → AllIn low high s i m
-  all-join i j m a b k l h = go (ltb k j) refl
+module _ (P : ℕ → Type 0) (s : List ℕ) where
+  each-one : (i : ℕ) → P (getD s i 0) → Each P s i (i + 1)
+  each-one i a k l m = let z : k ≡ i = omega arith in rw z a
+
+  each-join : (i j m : ℕ) → Each P s i j → Each P s j m → Each P s i m
+  each-join i j m a b k l h = go (ltb k j) refl
     where
-      go : (x : Bool) → ltb k j ≡ x → (low ≤ getD s k 0) × (getD s k 0 ≤ high)
+      go : (x : Bool) → ltb k j ≡ x → P (getD s k 0)
       go true q = a k l (ltb-true k j q)
       go false q = b k (ltb-false k j q) h
 
-  two-all : (i : ℕ) → twoIn low high s i ≡ true → AllIn low high s i (i + 2)
+  each-two : (i : ℕ) → P (getD s i 0) → P (getD s (i + 1) 0) → Each P s i (i + 2)
+  each-two i a b k l m = each-join i (i + 1) (i + 1 + 1) (each-one i a) (each-one (i + 1) b) k l (omega arith)
+
+-- a test of two bytes by which both have it
+module _ (P : ℕ → Type 0) (s : List ℕ) (two : List ℕ → ℕ → Bool) (both : (i : ℕ) → two s i ≡ true → P (getD s i 0) × P (getD s (i + 1) 0)) where
+  four-each : (i : ℕ) → fourBy two s i ≡ true → Each P s i (i + 4)
+  unfolding fourBy
+  four-each i e k l m =
+      let b = and-both (two s i) (two s (i + 2)) e in
+      let x = both i (b .0) in
+      let y = both (i + 2) (b .1) in
+      each-join P s i (i + 2) (i + 2 + 2) (each-two P s i (x .0) (x .1)) (each-two P s (i + 2) (y .0) (y .1)) k l (omega arith)
+
+  eight-each : (i : ℕ) → eightBy two s i ≡ true → (i + 8 ≤ length s) × Each P s i (i + 8)
+  unfolding eightBy
+  eight-each i e =
+      let a = and-both (leb (i + 8) (length s)) (fourBy two s i && fourBy two s (i + 4)) e in
+      let b = and-both (fourBy two s i) (fourBy two s (i + 4)) (a .1) in
+      let x = four-each i (b .0) in
+      let y = four-each (i + 4) (b .1) in
+      (leb-true (i + 8) (length s) (a .0), λ k l m. each-join P s i (i + 4) (i + 4 + 4) x y k l (omega arith))
+
+  -- eight more
+  each-more : (i j : ℕ) → Each P s i j → eightBy two s j ≡ true → (j + 8 ≤ length s) × Each P s i (j + 8)
+  each-more i j a e = let b = eight-each j e in (b .0, each-join P s i j (j + 8) a (b .1))
+
+-- ---- bytes of a range
+
+module _ (low high : ℕ) (s : List ℕ) where
+  both-in : (i : ℕ) → twoIn low high s i ≡ true → Within low high (getD s i 0) × Within low high (getD s (i + 1) 0)
   unfolding twoIn
-  two-all i e =
+  both-in i e =
       let x = getD s i 0 in
       let y = getD s (i + 1) 0 in
       let c = and-both ((leb low x && leb x high) && leb low y) (leb y high) e in
       let b = and-both (leb low x && leb x high) (leb low y) (c .0) in
       let a = and-both (leb low x) (leb x high) (b .0) in
-      all-two i (leb-true low x (a .0)) (leb-true x high (a .1)) (leb-true low y (b .1)) (leb-true y high (c .1))
-    where
-      all-two : (i : ℕ) → low ≤ getD s i 0 → getD s i 0 ≤ high → low ≤ getD s (i + 1) 0 → getD s (i + 1) 0 ≤ high → AllIn low high s i (i + 2)
-      all-two i a b c d k l m = all-join i (i + 1) (i + 1 + 1) (all-one i a b) (all-one (i + 1) c d) k l (omega arith)
-
-  four-all : (i : ℕ) → fourIn low high s i ≡ true → AllIn low high s i (i + 4)
-  unfolding fourIn
-  four-all i e k l m =
-      let b = and-both (twoIn low high s i) (twoIn low high s (i + 2)) e in
-      all-join i (i + 2) (i + 2 + 2) (two-all i (b .0)) (two-all (i + 2) (b .1)) k l (omega arith)
+      ((leb-true low x (a .0), leb-true x high (a .1)), (leb-true low y (b .1), leb-true y high (c .1)))
 
   pub eight-all : (i : ℕ) → eightIn low high s i ≡ true → (i + 8 ≤ length s) × AllIn low high s i (i + 8)
-  unfolding eightIn
-  eight-all i e =
-      let a = and-both (leb (i + 8) (length s)) (fourIn low high s i && fourIn low high s (i + 4)) e in
-      let b = and-both (fourIn low high s i) (fourIn low high s (i + 4)) (a .1) in
-      (leb-true (i + 8) (length s) (a .0), λ k l m. all-join i (i + 4) (i + 4 + 4) (four-all i (b .0)) (four-all (i + 4) (b .1)) k l (omega arith))
+  eight-all = eight-each (Within low high) s (twoIn low high) both-in
 
-  -- eight more
   pub all-more : (i j : ℕ) → AllIn low high s i j → eightIn low high s j ≡ true → (j + 8 ≤ length s) × AllIn low high s i (j + 8)
-  all-more i j a e = let b = eight-all j e in (b .0, all-join i j (j + 8) a (b .1))
+  all-more = each-more (Within low high) s (twoIn low high) both-in
+
+-- ---- bytes that are none of four
+
+module _ (a b c d : ℕ) where
+  and-other : (p : Bool) (x : ℕ) → andOther p a b c d x ≡ true → (p ≡ true) × Other a b c d x
+  and-other p x e =
+      let l = and-both (((p && not (eqb x a)) && not (eqb x b)) && not (eqb x c)) (not (eqb x d)) e in
+      let m = and-both ((p && not (eqb x a)) && not (eqb x b)) (not (eqb x c)) (l .0) in
+      let n = and-both (p && not (eqb x a)) (not (eqb x b)) (m .0) in
+      let o = and-both p (not (eqb x a)) (n .0) in
+      (o .0, (is-not a (o .1), is-not b (n .1), is-not c (m .1), is-not d (l .1)))
+    where
+      is-not : (y : ℕ) → not (eqb x y) ≡ true → x ≡ y → ⊥
+      is-not y q = eqb-false x y (not-true _ q)
+
+  module _ (s : List ℕ) where
+    both-not : (i : ℕ) → twoNot a b c d s i ≡ true → Other a b c d (getD s i 0) × Other a b c d (getD s (i + 1) 0)
+    unfolding twoNot
+    both-not i e =
+        let y = and-other (andOther true a b c d (getD s i 0)) (getD s (i + 1) 0) e in
+        (and-other true (getD s i 0) (y .0) .1, y .1)
+
+    pub none-more : (i j : ℕ) → NoneOf a b c d s i j → eightNot a b c d s j ≡ true → (j + 8 ≤ length s) × NoneOf a b c d s i (j + 8)
+    none-more = each-more (Other a b c d) s (twoNot a b c d) both-not

@@ -1,6 +1,7 @@
 -- Definitions that only the code needs: what its shortcuts test.
 use Prim.Native.Nat.{ℕ, _+_, _-_, _/_, _%_, _^_, _≤_, _<_}
-use mathlib.Core.Bool.{Bool, cond, _&&_, _||_}
+use mathlib.Core.Path.{_≡_}
+use mathlib.Core.Bool.{Bool, true, cond, not, _&&_, _||_}
 use mathlib.Core.List.{List, [], _∷_}
 use lib.ListN.{length, drop, getD}
 use lib.Dec.{eqb, leb, ltb}
@@ -25,19 +26,54 @@ asciiIdChar t = head (λ c. ltb c 0x80 && isIdChar c) t
 unfoldable pub russianAt : List ℕ → ℕ → Bool
 russianAt s i = fits (0xD0 to 0xD0 ∷ 0x90 to 0xBF ∷ []) (drop i s) || fits (0xD1 to 0xD1 ∷ 0x80 to 0x8F ∷ []) (drop i s)
 
+-- ---- runs of bytes, tested by eights
+
+-- every byte from the place i to the place j has the property
+abbrev pub Each : (ℕ → Type 0) → List ℕ → ℕ → ℕ → Type 0
+Each P s i j = (k : ℕ) → i ≤ k → k < j → P (getD s k 0)
+
+-- do the four bytes there pass a test of two bytes?
+unfoldable pub fourBy : (List ℕ → ℕ → Bool) → List ℕ → ℕ → Bool
+fourBy two s i = two s i && two s (i + 2)
+
+-- do eight bytes stand there, and pass it?
+unfoldable pub eightBy : (List ℕ → ℕ → Bool) → List ℕ → ℕ → Bool
+eightBy two s i = leb (i + 8) (length s) && (fourBy two s i && fourBy two s (i + 4))
+
 -- ---- bytes of a range, from low to high
 
--- every byte from the place i to the place j lies in the range
-abbrev pub AllIn : ℕ → ℕ → List ℕ → ℕ → ℕ → Type 0
-AllIn low high s i j = (k : ℕ) → i ≤ k → k < j → (low ≤ getD s k 0) × (getD s k 0 ≤ high)
+abbrev pub Within : ℕ → ℕ → ℕ → Type 0
+Within low high x = (low ≤ x) × (x ≤ high)
 
--- do the two, four bytes there lie in it?
+abbrev pub AllIn : ℕ → ℕ → List ℕ → ℕ → ℕ → Type 0
+AllIn low high = Each (Within low high)
+
 unfoldable pub twoIn : ℕ → ℕ → List ℕ → ℕ → Bool
 twoIn low high s i = ((leb low (getD s i 0) && leb (getD s i 0) high) && leb low (getD s (i + 1) 0)) && leb (getD s (i + 1) 0) high
 
-unfoldable pub fourIn : ℕ → ℕ → List ℕ → ℕ → Bool
-fourIn low high s i = twoIn low high s i && twoIn low high s (i + 2)
+abbrev pub fourIn : ℕ → ℕ → List ℕ → ℕ → Bool
+fourIn low high = fourBy (twoIn low high)
 
--- do eight bytes stand there, all of them in it?
-unfoldable pub eightIn : ℕ → ℕ → List ℕ → ℕ → Bool
-eightIn low high s i = leb (i + 8) (length s) && (fourIn low high s i && fourIn low high s (i + 4))
+abbrev pub eightIn : ℕ → ℕ → List ℕ → ℕ → Bool
+eightIn low high = eightBy (twoIn low high)
+
+-- ---- bytes that are none of four
+
+abbrev pub Other : ℕ → ℕ → ℕ → ℕ → ℕ → Type 0
+Other a b c d x = (x ≡ a → ⊥) × (x ≡ b → ⊥) × (x ≡ c → ⊥) × (x ≡ d → ⊥)
+
+abbrev pub NoneOf : ℕ → ℕ → ℕ → ℕ → List ℕ → ℕ → ℕ → Type 0
+NoneOf a b c d = Each (Other a b c d)
+
+-- p holds, and the byte x is none of them
+abbrev pub andOther : Bool → ℕ → ℕ → ℕ → ℕ → ℕ → Bool
+andOther p a b c d x = (((p && not (eqb x a)) && not (eqb x b)) && not (eqb x c)) && not (eqb x d)
+
+unfoldable pub twoNot : ℕ → ℕ → ℕ → ℕ → List ℕ → ℕ → Bool
+twoNot a b c d s i = andOther (andOther true a b c d (getD s i 0)) a b c d (getD s (i + 1) 0)
+
+abbrev pub fourNot : ℕ → ℕ → ℕ → ℕ → List ℕ → ℕ → Bool
+fourNot a b c d = fourBy (twoNot a b c d)
+
+abbrev pub eightNot : ℕ → ℕ → ℕ → ℕ → List ℕ → ℕ → Bool
+eightNot a b c d = eightBy (twoNot a b c d)

@@ -1,8 +1,8 @@
-// Bytes of a range, eight by one test. `&` looks at all of them, without a branch.
+// Bytes of a range, and bytes that are none of four: eight by one test. `&` looks at all of them, without a branch.
 ghost use mathlib.Core.Path.{_≡_};
 ghost use Prim.Native.Nat.{_+_, _≤_};
 ghost use lib.ListN.{length};
-ghost use Rattle.chars.specs.Code.{AllIn, twoIn, fourIn, eightIn};
+ghost use Rattle.chars.specs.Code.{AllIn, twoIn, fourIn, eightIn, NoneOf, twoNot, fourNot, eightNot};
 
 fn two_in(s: &[u8], at: usize, low: u8, high: u8) -> bool
     requires { ⌜ at + 2 ≤ length (now s) ⌝ }
@@ -39,4 +39,48 @@ pub fn skip_eights(s: &[u8], at: usize, low: u8, high: u8) -> usize
         i += 8;
     }
     i
+}
+
+fn two_not(s: &[u8], at: usize, a: u8, b: u8, c: u8, d: u8) -> bool
+    requires { ⌜ at + 2 ≤ length (now s) ⌝ }
+    ensures { λ r. ⌜ r ≡ twoNot a b c d (now (s .entry)) at ⌝ }
+{
+    (s[at] != a)
+        & (s[at] != b)
+        & (s[at] != c)
+        & (s[at] != d)
+        & (s[at + 1] != a)
+        & (s[at + 1] != b)
+        & (s[at + 1] != c)
+        & (s[at + 1] != d)
+}
+
+fn four_not(s: &[u8], at: usize, a: u8, b: u8, c: u8, d: u8) -> bool
+    requires { ⌜ at + 4 ≤ length (now s) ⌝ }
+    ensures { λ r. ⌜ r ≡ fourNot a b c d (now (s .entry)) at ⌝ }
+{
+    two_not(s, at, a, b, c, d) & two_not(s, at + 2, a, b, c, d)
+}
+
+// Whether eight bytes stand at a place, none of them one of the four.
+fn eight_not(s: &[u8], at: usize, a: u8, b: u8, c: u8, d: u8) -> bool
+    requires { ⌜ at ≤ length (now s) ⌝ }
+    ensures { λ r. ⌜ r ≡ eightNot a b c d (now (s .entry)) at ⌝ }
+{
+    if s.len() - at < 8 {
+        return false;
+    }
+    four_not(s, at, a, b, c, d) & four_not(s, at + 4, a, b, c, d)
+}
+
+// A place to which no byte is one of the four: as far as they come by eights.
+pub fn skip_others(s: &[u8], at: usize, a: u8, b: u8, c: u8, d: u8) -> usize
+    requires { ⌜ at ≤ length (now s) ⌝ }
+    ensures { λ r. ⌜ (at ≤ r) × (r ≤ length (now (s .entry))) × NoneOf a b c d (now (s .entry)) at r ⌝ }
+{
+    let mut end = at;
+    while eight_not(s, end, a, b, c, d) {
+        end += 8;
+    }
+    end
 }

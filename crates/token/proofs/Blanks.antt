@@ -9,7 +9,7 @@ use native.Mathlib.Omega.{arith}
 use borrow.Author.Tests.{leb-true, ltb-true}
 use Rattle.chars.specs.Quoted.{codes, oneOf}
 use Rattle.chars.specs.Text.{Text, from, afterRun}
-use Rattle.chars.specs.Code.{AllIn}
+use Rattle.chars.specs.Code.{AllIn, Within}
 use Rattle.chars.proofs.Carry.{carry}
 use Rattle.chars.proofs.Places.{at-ascii}
 use Rattle.chars.proofs.IdRuns.{run-stays}
@@ -49,4 +49,6 @@ two-blanks s i e f =
 -- spaces that are passed together
 pub spaces-past : (s : List ℕ) (low high i r : ℕ) → 0x20 ≤ low → high ≤ 0x20 → i ≤ r → r ≤ length s → AllIn low high s i r
     → afterRun (isAny " \t") (from s r) ≡ afterRun (isAny " \t") (from s i)
-spaces-past s low high i r x y = all-past (afterRun (isAny " \t")) s low high (λ k h a b. blank-on s k _ h (let z : getD s k 0 ≡ 0x20 = omega arith in ap (oneOf " \t") z) refl) i r
+spaces-past s low high i r x y =
+    all-past (afterRun (isAny " \t")) s (Within low high)
+    (λ k h a. blank-on s k _ h (let z : getD s k 0 ≡ 0x20 = omega arith in ap (oneOf " \t") z) refl) i r

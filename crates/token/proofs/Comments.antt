@@ -9,7 +9,7 @@ use lib.Dec.{eqb, ltb}
 use native.Mathlib.Omega.{arith}
 use borrow.Author.Tests.{ltb-true, ltb-false, eqb-true, eq-eqb, ne-eqb}
 use Rattle.chars.specs.Text.{Char, Text, from, place, afterRun}
-use Rattle.chars.specs.Code.{AllIn}
+use Rattle.chars.specs.Code.{AllIn, Within}
 use Rattle.chars.proofs.Bools.{clash, and-both}
 use Rattle.chars.proofs.Places.{at-char, at-ascii, at-end, place-from, byte-by-byte, codeAt}
 use Rattle.token.specs.Tests.{startsWith, begins, endsLine, endOfLine, opensLine, opensBlock, closesBlock}
@@ -114,7 +114,7 @@ above-line s i h = ends-line s i ∙ simp (ne-eqb (getD s i 0) 0x0A (λ e. omega
 
 -- such bytes that are passed together
 pub line-past : (s : List ℕ) (i r : ℕ) → i ≤ r → r ≤ length s → AllIn 0x0E 0xFF s i r → afterRun inLine (from s r) ≡ afterRun inLine (from s i)
-line-past s = all-past (afterRun inLine) s 0x0E 0xFF (λ k h a b. line-on s k _ h (above-line s k (omega arith)) refl)
+line-past s = all-past (afterRun inLine) s (Within 0x0E 0xFF) (λ k h a. line-on s k _ h (above-line s k (omega arith)) refl)
 
 -- ---- block comments
 

@@ -8,7 +8,7 @@ use lib.Dec.{ltb}
 use native.Mathlib.Omega.{arith}
 use borrow.Author.Tests.{ltb-true, ltb-false}
 use Rattle.chars.specs.Text.{Char, Text, from, place, nextOf, stepAt, afterRun}
-use Rattle.chars.specs.Code.{AllIn}
+use Rattle.chars.specs.Code.{Each}
 use Rattle.chars.specs.declared.text.Step.the-variants as step
 use Rattle.chars.proofs.Places.{at-char, at-end, at-ascii, place-from, next-on, step-text, step-none, codeAt}
 use Rattle.token.specs.Code.{cursorAt, peekedOf, peekAt}
@@ -89,14 +89,13 @@ module _ (p : Text → Bool) (s : List ℕ) (i : ℕ) (f : Text) where
   unfolding afterRun
   run-none h q = at-end s i h ∙ sym (ap (afterRun p) (at-end s i h)) ∙ q
 
--- ---- bytes from low to high, passed together: what f finds past any one of them is what it finds before it
+-- ---- bytes of one property, passed together: what f finds past any one of them is what it finds before it
 
-module _ {A : Type 0} (f : Text → A) (s : List ℕ) (low high : ℕ) (on : (k : ℕ) → k < length s → low ≤ getD s k 0 → getD s k 0 ≤ high → f (from s (k + 1)) ≡ f (from s k)) where
-  pub all-past : (i r : ℕ) → i ≤ r → r ≤ length s → AllIn low high s i r → f (from s r) ≡ f (from s i)
+module _ {A : Type 0} (f : Text → A) (s : List ℕ) (P : ℕ → Type 0)
+    (on : (k : ℕ) → k < length s → P (getD s k 0) → f (from s (k + 1)) ≡ f (from s k)) where
+  pub all-past : (i r : ℕ) → i ≤ r → r ≤ length s → Each P s i r → f (from s r) ≡ f (from s i)
   all-past i r l h a = go (r - i) i (omega arith) a
     where
-      go : (n i : ℕ) → i + n ≡ r → AllIn low high s i r → f (from s r) ≡ f (from s i)
+      go : (n i : ℕ) → i + n ≡ r → Each P s i r → f (from s r) ≡ f (from s i)
       go zero i e a = let z : r ≡ i = omega arith in ap (λ j. f (from s j)) z
-      go (suc n) i e a =
-          let b = a i (omega arith) (omega arith) in
-          go n (i + 1) (omega arith) (λ k m. a k (omega arith)) ∙ on i (omega arith) (b .0) (b .1)
+      go (suc n) i e a = go n (i + 1) (omega arith) (λ k m. a k (omega arith)) ∙ on i (omega arith) (a i (omega arith) (omega arith))

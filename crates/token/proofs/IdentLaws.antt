@@ -10,7 +10,7 @@ use native.Mathlib.Omega.{arith}
 use borrow.Author.Tests.{ltb-true, ltb-false, eqb-true, ne-eqb}
 use Rattle.chars.specs.Quoted.{oneOf}
 use Rattle.chars.specs.Text.{Char, Text, from, place, nextOf, head, idChar, afterRun}
-use Rattle.chars.specs.Code.{AllIn}
+use Rattle.chars.specs.Code.{AllIn, Within}
 use Rattle.chars.specs.Classes.{isIdStart, isIdChar, isOpSign}
 use Rattle.chars.proofs.Bools.{clash}
 use Rattle.chars.proofs.ClassLaws.{under-no-id}
@@ -227,7 +227,8 @@ module _ (s : List ℕ) (i : ℕ) where
 -- past an underscore and those that follow it up to r
 pub pass-unders : (s : List ℕ) (i : ℕ) (u : Bool) → getD s i 0 ≡ 0x5F → (r : ℕ) → i + 1 ≤ r → r ≤ length s → AllIn 0x5F 0x5F s (i + 1) r
     → afterIdent true (from s r) ≡ afterIdent u (from s i)
-pass-unders s i u e r l h a = all-past (afterIdent true) s 0x5F 0x5F (λ k m x y. pass-under s k true (omega arith)) (i + 1) r l h a ∙ pass-under s i u e
+pass-unders s i u e r l h a =
+    all-past (afterIdent true) s (Within 0x5F 0x5F) (λ k m x. pass-under s k true (omega arith)) (i + 1) r l h a ∙ pass-under s i u e
 
 -- ---- what is left of a text
 

@@ -10,7 +10,7 @@ use native.Mathlib.Omega.{arith}
 use borrow.Author.Tests.{ltb-true, ltb-false, ne-eqb, eq-eqb, eqb-true}
 use Rattle.chars.specs.Quoted.{oneOf}
 use Rattle.chars.specs.Text.{Char, Text, from, place, nextOf, head, afterRun}
-use Rattle.chars.specs.Code.{AllIn}
+use Rattle.chars.specs.Code.{Within, AllIn, Other, NoneOf}
 use Rattle.chars.proofs.Bools.{clash, and-both, or-neither, not-true}
 use Rattle.chars.proofs.Texts.{Suffix}
 use Rattle.chars.proofs.Places.{at-ascii, at-end, at-char, place-from, next-on, wide-code, codeAt, byte-by-byte}
@@ -163,7 +163,7 @@ module _ (s : List ℕ) (i : ℕ) where
 
 -- quotes that are passed together
 pub quotes-past : (s : List ℕ) (i r : ℕ) → i ≤ r → r ≤ length s → AllIn 0x22 0x22 s i r → afterRun quote (from s r) ≡ afterRun quote (from s i)
-quotes-past s = all-past (afterRun quote) s 0x22 0x22 (λ k h a b. quotes-next s k h (omega arith))
+quotes-past s = all-past (afterRun quote) s (Within 0x22 0x22) (λ k h a. quotes-next s k h (omega arith))
 
 -- ---- what stands for itself
 
@@ -176,10 +176,13 @@ module _ (c : ℕ) where
       let d = or-neither (eqb c 36) (eqb c 92 || false) (b .1) in
       (a .0, b .0, d .0, or-neither (eqb c 92) false (d .1) .0)
 
-  wide-ordinary : 0x80 ≤ c → isOrdinary c ≡ true
+  other-ordinary : Other 0x0A 0x22 0x24 0x5C c → isOrdinary c ≡ true
   unfolding isOrdinary
+  other-ordinary (x, y, z, w) = rw (ne-eqb c 10 x, ne-eqb c 34 y, ne-eqb c 36 z, ne-eqb c 92 w)
+
+  wide-ordinary : 0x80 ≤ c → isOrdinary c ≡ true
   wide-ordinary h =
-      rw (ne-eqb c 10 (λ e. absurd (omega arith)), ne-eqb c 34 (λ e. absurd (omega arith)), ne-eqb c 36 (λ e. absurd (omega arith)), ne-eqb c 92 (λ e. absurd (omega arith)))
+      other-ordinary ((λ e. absurd (omega arith)), (λ e. absurd (omega arith)), (λ e. absurd (omega arith)), (λ e. absurd (omega arith)))
 
 pub ordinary-byte : (s : List ℕ) (i : ℕ) → i < length s → head isOrdinary (from s i) ≡ isOrdinary (getD s i 0)
 ordinary-byte s i h = go (ltb (getD s i 0) 0x80) refl
@@ -222,6 +225,12 @@ module _ {A : Type 0} (f : Text → A) (test : Text → Bool) (w : Walk f test) 
 
 pub skips : Walk (afterRun (head isOrdinary)) (head isOrdinary)
 skips = record { pass = λ c u e. after-next (head isOrdinary) c u e; plain = λ c u e. e }
+
+-- ordinary bytes that are passed together
+pub skip-past : (s : List ℕ) (i r : ℕ) → i ≤ r → r ≤ length s → NoneOf 0x0A 0x22 0x24 0x5C s i r
+    → afterRun (head isOrdinary) (from s r) ≡ afterRun (head isOrdinary) (from s i)
+skip-past s =
+    all-past (afterRun (head isOrdinary)) s (Other 0x0A 0x22 0x24 0x5C) (λ k h o. walk-on _ _ skips s k h (ordinary-byte s k h ∙ other-ordinary _ o))
 
 pub skip-stop : (s : List ℕ) (i : ℕ) → i < length s → isOrdinary (getD s i 0) ≡ false → from s i ≡ afterRun (head isOrdinary) (from s i)
 skip-stop s i h e =

@@ -66,12 +66,12 @@ fn is_ordinary(b: u8) -> bool
     }
 }
 
-// Past the ordinary characters that stand there. A byte of 0x80 or more is never one of the four, so no character is decoded.
+// Past the ordinary characters that stand there, eights of bytes first. A byte of 0x80 or more is never one of the four, so no character is decoded.
 fn skip_ordinary(s: &[u8], c: Cursor) -> Cursor
     requires { ⌜ c .at ≤ length (now s) ⌝ }
     ensures { λ r. ⌜ (c .at ≤ r .at) × (r .at ≤ length (now (s .entry))) × (from (now (s .entry)) (r .at) ≡ afterRun (head isOrdinary) (from (now (s .entry)) (c .at))) ⌝ }
 {
-    let mut i = c.at;
+    let mut i = chars::eights::skip_others(s, c.at, 0x0A, 0x22, 0x24, 0x5C);
     while i < s.len() {
         if !is_ordinary(s[i]) {
             return Cursor { at: i };

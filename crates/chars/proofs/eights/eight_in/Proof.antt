@@ -2,7 +2,7 @@ use Prim.Native.Nat.{_+_}
 use native.Mathlib.Omega.{arith}
 use borrow.Author.Tests.{le-leb, lt-leb}
 use lib.ListN.{length}
-use Rattle.chars.specs.Code.{eightIn}
+use Rattle.chars.specs.Code.{eightBy}
 use borrow.Author.Needs.{needs}
 use Rattle.chars.proofs.eights.eight_in.Statement.{statement}
 use Rattle.chars.proofs.eights.eight_in.Tie as tie
@@ -11,7 +11,7 @@ sub-if1 : tie.Need-sub-if1
 sub-if1 c = search needs
 
 returns : tie.Need-returns
-unfolding eightIn
+unfolding eightBy
 returns c =
     let a = c .before .before .args in
     let z = lt-leb (a .at + 8) (length (a .s .now)) (omega arith) in
@@ -27,7 +27,7 @@ four-in-requires-2 : tie.Need-four-in-requires-2
 four-in-requires-2 c κs = search needs
 
 returns-2 : tie.Need-returns-2
-unfolding eightIn
+unfolding eightBy
 returns-2 c =
     let a = c .before .before .before .before .args in
     let z = le-leb (a .at + 8) (length (a .s .now)) (omega arith) in

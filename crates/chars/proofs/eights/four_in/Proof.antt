@@ -1,4 +1,4 @@
-use Rattle.chars.specs.Code.{fourIn}
+use Rattle.chars.specs.Code.{fourBy}
 use borrow.Author.Needs.{needs}
 use Rattle.chars.proofs.eights.four_in.Statement.{statement}
 use Rattle.chars.proofs.eights.four_in.Tie as tie
@@ -13,7 +13,7 @@ two-in-requires-2 : tie.Need-two-in-requires-2
 two-in-requires-2 c κs = search needs
 
 returns : tie.Need-returns
-unfolding fourIn
+unfolding fourBy
 returns c = rw (c .before .two-in .ensures, c .two-in2 .ensures)
 
 pub four-in-spec : {M : Type 1} → statement M

@@ -7,7 +7,7 @@ use borrow.Author.Tests.{not-true, not-false}
 use lib.ListN.{length}
 use Rattle.chars.specs.Text.{from, head, afterRun}
 use Rattle.token.specs.Code.{isOrdinary}
-use Rattle.token.proofs.StringLaws.{walk-on, skips, ordinary-byte, skip-stop, skip-end}
+use Rattle.token.proofs.StringLaws.{walk-on, skips, ordinary-byte, skip-stop, skip-end, skip-past}
 use Rattle.token.proofs.string.skip_ordinary.Statement.{statement}
 use Rattle.token.proofs.string.skip_ordinary.Tie as tie
 
@@ -17,8 +17,11 @@ Inv-loop s i₀ i = (i₀ ≤ i) × (i ≤ length s) × (afterRun (head isOrdina
 abbrev μ-loop : tie.MeasureT-loop
 μ-loop s i₀ i = length s - i
 
+skip-others-requires : tie.Need-skip-others-requires Inv-loop μ-loop
+skip-others-requires c κs = c .before .pre
+
 loop-holds : tie.Need-loop-holds Inv-loop μ-loop
-loop-holds c = (omega arith, (c .before .pre), refl)
+loop-holds c = (omega arith, c .skip-others .ensures .1, refl)
 
 shared-slice-read-is-ordinary : tie.Need-shared-slice-read-is-ordinary Inv-loop μ-loop
 shared-slice-read-is-ordinary c = c .before .loop-test .taken
@@ -28,8 +31,12 @@ is-ordinary-requires c κs = search needs
 
 returns : tie.Need-returns Inv-loop μ-loop
 returns c =
-    let s = c .before .before .before .before .before .before .args .s .now in
-    (c .before .before .before .before .loop .inv .0, c .before .before .before .before .loop .inv .1, skip-stop s _ (c .before .before .before .loop-test .taken) (sym (c .before .is-ordinary .ensures) ∙ not-true _ (c .if1 .taken)) ∙ c .before .before .before .before .loop .inv .2)
+    let s = c .before .before .before .before .before .before .before .args .s .now in
+    let h = c .before .before .before .loop-test .taken in
+    let loop = c .before .before .before .before .loop .inv in
+    let e = c .before .before .before .before .before .skip-others .ensures in
+    let stop = skip-stop s _ h (sym (c .before .is-ordinary .ensures) ∙ not-true _ (c .if1 .taken)) in
+    (omega (arith, loop .0, e .0), loop .1, stop ∙ loop .2 ∙ skip-past s _ _ (e .0) (e .1) (e .2))
 
 add-i : tie.Need-add-i Inv-loop μ-loop
 add-i c = let h = c .before .before .before .loop-test .taken in omega arith
@@ -39,13 +46,18 @@ loop-less c = let h = c .before .before .before .loop-test .taken in omega arith
 
 loop-again : tie.Need-loop-again Inv-loop μ-loop
 loop-again c =
-    let s = c .before .before .before .before .before .before .args .s .now in
+    let s = c .before .before .before .before .before .before .before .args .s .now in
     let h = c .before .before .before .loop-test .taken in
+    let loop = c .before .before .before .before .loop .inv in
     let e = ordinary-byte s _ h ∙ sym (c .before .is-ordinary .ensures) ∙ not-false _ (c .if1 .left) in
-    (omega (arith, c .before .before .before .before .loop .inv .0), omega arith, walk-on _ _ skips s _ h e ∙ c .before .before .before .before .loop .inv .2)
+    (omega (arith, loop .0), omega arith, walk-on _ _ skips s _ h e ∙ loop .2)
 
 returns-2 : tie.Need-returns-2 Inv-loop μ-loop
-returns-2 c = (c .before .loop .inv .0, c .before .loop .inv .1, skip-end (c .before .before .before .args .s .now) _ (c .loop-test .left) ∙ c .before .loop .inv .2)
+returns-2 c =
+    let s = c .before .before .before .before .args .s .now in
+    let loop = c .before .loop .inv in
+    let e = c .before .before .skip-others .ensures in
+    (omega (arith, loop .0, e .0), loop .1, skip-end s _ (c .loop-test .left) ∙ loop .2 ∙ skip-past s _ _ (e .0) (e .1) (e .2))
 
 pub skip-ordinary-spec : {M : Type 1} → statement M
 skip-ordinary-spec =
@@ -53,6 +65,7 @@ skip-ordinary-spec =
     (tie.spec
     Inv-loop
     μ-loop
+    skip-others-requires
     loop-holds
     shared-slice-read-is-ordinary
     is-ordinary-requires

@@ -1,0 +1,37 @@
+use Prim.Native.Nat.{_+_}
+use native.Mathlib.Omega.{arith}
+use borrow.Author.Tests.{le-leb, lt-leb}
+use lib.ListN.{length}
+use Rattle.chars.specs.Code.{eightBy}
+use borrow.Author.Needs.{needs}
+use Rattle.chars.proofs.eights.eight_not.Statement.{statement}
+use Rattle.chars.proofs.eights.eight_not.Tie as tie
+
+sub-if1 : tie.Need-sub-if1
+sub-if1 c = search needs
+
+returns : tie.Need-returns
+unfolding eightBy
+returns c =
+    let a = c .before .before .args in
+    let z = lt-leb (a .at + 8) (length (a .s .now)) (omega arith) in
+    rw z
+
+four-not-requires : tie.Need-four-not-requires
+four-not-requires c κs = search needs
+
+add-four-not : tie.Need-add-four-not
+add-four-not c = search needs
+
+four-not-requires-2 : tie.Need-four-not-requires-2
+four-not-requires-2 c κs = search needs
+
+returns-2 : tie.Need-returns-2
+unfolding eightBy
+returns-2 c =
+    let a = c .before .before .before .before .args in
+    let z = le-leb (a .at + 8) (length (a .s .now)) (omega arith) in
+    rw (z, ← c .before .four-not .ensures, ← c .four-not2 .ensures)
+
+pub eight-not-spec : {M : Type 1} → statement M
+eight-not-spec = tie.close (tie.spec sub-if1 returns four-not-requires add-four-not four-not-requires-2 returns-2)
