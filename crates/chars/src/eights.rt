@@ -20,10 +20,12 @@ fn four_in(s: &[u8], at: usize, low: u8, high: u8) -> bool
 
 // Whether eight bytes stand at a place, all of them in the range.
 pub fn eight_in(s: &[u8], at: usize, low: u8, high: u8) -> bool
-    requires { ⌜ at ≤ length (now s) ⌝ }
     ensures { λ r. ⌜ r ≡ eightIn low high (now (s .entry)) at ⌝ }
 {
-    if s.len() - at < 8 {
+    if s.len() < 8 {
+        return false;
+    }
+    if s.len() - 8 < at {
         return false;
     }
     four_in(s, at, low, high) & four_in(s, at + 4, low, high)
@@ -31,8 +33,7 @@ pub fn eight_in(s: &[u8], at: usize, low: u8, high: u8) -> bool
 
 // A place to which all bytes lie in the range: as far as they come by eights.
 pub fn skip_eights(s: &[u8], at: usize, low: u8, high: u8) -> usize
-    requires { ⌜ at ≤ length (now s) ⌝ }
-    ensures { λ r. ⌜ (at ≤ r) × (r ≤ length (now (s .entry))) × AllIn low high (now (s .entry)) at r ⌝ }
+    ensures { λ r. ⌜ (at ≤ r) × (at ≤ length (now (s .entry)) → r ≤ length (now (s .entry))) × AllIn low high (now (s .entry)) at r ⌝ }
 {
     let mut i = at;
     while eight_in(s, i, low, high) {
@@ -64,10 +65,12 @@ fn four_not(s: &[u8], at: usize, a: u8, b: u8, c: u8, d: u8) -> bool
 
 // Whether eight bytes stand at a place, none of them one of the four.
 fn eight_not(s: &[u8], at: usize, a: u8, b: u8, c: u8, d: u8) -> bool
-    requires { ⌜ at ≤ length (now s) ⌝ }
     ensures { λ r. ⌜ r ≡ eightNot a b c d (now (s .entry)) at ⌝ }
 {
-    if s.len() - at < 8 {
+    if s.len() < 8 {
+        return false;
+    }
+    if s.len() - 8 < at {
         return false;
     }
     four_not(s, at, a, b, c, d) & four_not(s, at + 4, a, b, c, d)
@@ -75,8 +78,7 @@ fn eight_not(s: &[u8], at: usize, a: u8, b: u8, c: u8, d: u8) -> bool
 
 // A place to which no byte is one of the four: as far as they come by eights.
 pub fn skip_others(s: &[u8], at: usize, a: u8, b: u8, c: u8, d: u8) -> usize
-    requires { ⌜ at ≤ length (now s) ⌝ }
-    ensures { λ r. ⌜ (at ≤ r) × (r ≤ length (now (s .entry))) × NoneOf a b c d (now (s .entry)) at r ⌝ }
+    ensures { λ r. ⌜ (at ≤ r) × (at ≤ length (now (s .entry)) → r ≤ length (now (s .entry))) × NoneOf a b c d (now (s .entry)) at r ⌝ }
 {
     let mut end = at;
     while eight_not(s, end, a, b, c, d) {

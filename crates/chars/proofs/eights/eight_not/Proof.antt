@@ -7,13 +7,20 @@ use borrow.Author.Needs.{needs}
 use Rattle.chars.proofs.eights.eight_not.Statement.{statement}
 use Rattle.chars.proofs.eights.eight_not.Tie as tie
 
-sub-if1 : tie.Need-sub-if1
-sub-if1 c = search needs
-
 returns : tie.Need-returns
 unfolding eightBy
 returns c =
     let a = c .before .before .args in
+    let z = lt-leb (a .at + 8) (length (a .s .now)) (omega arith) in
+    rw z
+
+sub-if2 : tie.Need-sub-if2
+sub-if2 c = search needs
+
+returns-2 : tie.Need-returns-2
+unfolding eightBy
+returns-2 c =
+    let a = c .before .before .before .args in
     let z = lt-leb (a .at + 8) (length (a .s .now)) (omega arith) in
     rw z
 
@@ -26,12 +33,12 @@ add-four-not c = search needs
 four-not-requires-2 : tie.Need-four-not-requires-2
 four-not-requires-2 c κs = search needs
 
-returns-2 : tie.Need-returns-2
+returns-3 : tie.Need-returns-3
 unfolding eightBy
-returns-2 c =
-    let a = c .before .before .before .before .args in
+returns-3 c =
+    let a = c .before .before .before .before .before .args in
     let z = le-leb (a .at + 8) (length (a .s .now)) (omega arith) in
     rw (z, ← c .before .four-not .ensures, ← c .four-not2 .ensures)
 
 pub eight-not-spec : {M : Type 1} → statement M
-eight-not-spec = tie.close (tie.spec sub-if1 returns four-not-requires add-four-not four-not-requires-2 returns-2)
+eight-not-spec = tie.close (tie.spec returns sub-if2 returns-2 four-not-requires add-four-not four-not-requires-2 returns-3)

@@ -4,20 +4,21 @@ use native.Mathlib.Omega.{arith}
 use lib.ListN.{length}
 use Rattle.chars.specs.Code.{NoneOf}
 use Rattle.chars.proofs.Spans.{none-more}
+use borrow.Author.Needs.{needs}
 use Rattle.chars.proofs.eights.skip_others.Statement.{statement}
 use Rattle.chars.proofs.eights.skip_others.Tie as tie
 
 abbrev Inv-loop : tie.InvT-loop
-Inv-loop s at a b c d end₀ end = (at ≤ end) × (end ≤ length s) × NoneOf a b c d s at end
+Inv-loop s at a b c d end₀ end = (at ≤ end) × (at ≤ length s → end ≤ length s) × NoneOf a b c d s at end
 
 abbrev μ-loop : tie.MeasureT-loop
 μ-loop s at a b c d end₀ end = length s - end
 
 loop-holds : tie.Need-loop-holds Inv-loop μ-loop
-loop-holds c = (omega arith, c .before .pre, λ k l m. absurd (omega arith))
+loop-holds c = (omega arith, λ h. h, λ k l m. absurd (omega arith))
 
 eight-not-requires : tie.Need-eight-not-requires Inv-loop μ-loop
-eight-not-requires c κs = c .loop .inv .1
+eight-not-requires c κs = search needs
 
 add-end : tie.Need-add-end Inv-loop μ-loop
 add-end c =
@@ -33,7 +34,7 @@ loop-again : tie.Need-loop-again Inv-loop μ-loop
 loop-again c =
     let m = none-more _ _ _ _ _ _ _ (c .before .before .loop .inv .2) (sym (c .before .eight-not .ensures) ∙ c .if1 .taken) in
     let l = c .before .before .loop .inv .0 in
-    (omega arith, m .0, m .1)
+    (omega arith, λ h. m .0, m .1)
 
 returns : tie.Need-returns Inv-loop μ-loop
 returns c = c .before .before .loop .inv

@@ -25,13 +25,13 @@ add-skip-eights : tie.Need-add-skip-eights Inv-loop μ-loop
 add-skip-eights c = omega arith
 
 skip-eights-requires : tie.Need-skip-eights-requires Inv-loop μ-loop
-skip-eights-requires c κs = omega arith
+skip-eights-requires c κs = search needs
 
 -- past ASCII
 loop-less : tie.Need-loop-less Inv-loop μ-loop
 loop-less c =
     let a = c .skip-eights .ensures .0 in
-    let b = c .skip-eights .ensures .1 in
+    let b = c .skip-eights .ensures .1 (omega arith) in
     omega arith
 
 loop-again : tie.Need-loop-again Inv-loop μ-loop
@@ -39,7 +39,8 @@ loop-again c =
     let s = c .before .before .before .before .before .before .args .s .now in
     let loop = c .before .before .before .before .loop in
     let a = c .skip-eights .ensures in
-    (a .1, valid-to s (loop .i) _ (c .before .before .before .loop-test .taken) (c .before .if1 .taken) (a .0) (a .1) (a .2) ∙ loop .inv .1)
+    let l = a .1 (omega arith) in
+    (l, valid-to s (loop .i) _ (c .before .before .before .loop-test .taken) (c .before .if1 .taken) (a .0) l (a .2) ∙ loop .inv .1)
 
 pair-in-requires : tie.Need-pair-in-requires Inv-loop μ-loop
 pair-in-requires c κs = search needs

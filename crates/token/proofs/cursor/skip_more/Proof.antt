@@ -18,12 +18,13 @@ abbrev μ-loop : tie.MeasureT-loop
 μ-loop s at i₀ i = length s - i
 
 skip-eights-requires : tie.Need-skip-eights-requires Inv-loop μ-loop
-skip-eights-requires c κs = c .before .pre
+skip-eights-requires c κs = search needs
 
 loop-holds : tie.Need-loop-holds Inv-loop μ-loop
 loop-holds c =
     let e = c .skip-eights .ensures in
-    (e .1, e .0, spaces-past (c .before .before .args .s .now) _ _ _ _ (omega arith) (omega arith) (e .0) (e .1) (e .2))
+    let l = e .1 (c .before .before .pre) in
+    (l, e .0, spaces-past (c .before .before .args .s .now) _ _ _ _ (omega arith) (omega arith) (e .0) l (e .2))
 
 shared-slice-read-is-blank : tie.Need-shared-slice-read-is-blank Inv-loop μ-loop
 shared-slice-read-is-blank c = search needs

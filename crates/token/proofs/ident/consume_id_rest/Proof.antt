@@ -46,12 +46,7 @@ add-skip-eights c =
     omega arith
 
 skip-eights-requires : tie.Need-skip-eights-requires Inv-loop μ-loop Inv-chunks μ-chunks
-skip-eights-requires c κs =
-    let s = c .before .before .before .before .before .args .s .now in
-    let i = c .before .before .loop .i in
-    let e = sym (c .before .byte-at .ensures) ∙ c .if1 .taken in
-    let l = under-inside s i e in
-    omega arith
+skip-eights-requires c κs = search needs
 
 loop-less : tie.Need-loop-less Inv-loop μ-loop Inv-chunks μ-chunks
 loop-less c =
@@ -60,7 +55,7 @@ loop-less c =
     let e = sym (c .before .before .byte-at .ensures) ∙ c .before .if1 .taken in
     let l = under-inside s i e in
     let r = c .skip-eights .ensures in
-    omega (arith, r .0, r .1)
+    omega (arith, r .0, r .1 (omega arith))
 
 loop-again : tie.Need-loop-again Inv-loop μ-loop Inv-chunks μ-chunks
 loop-again c =
@@ -71,7 +66,8 @@ loop-again c =
     let chunk = c .before .before .before .before .chunks .i in
     let r = c .skip-eights .ensures in
     let t = lt-ltb chunk (c .skip-eights .result) (omega (arith, r .0)) in
-    (omega (arith, r .0), r .1, ap (λ u. afterIdent u (from s (c .skip-eights .result))) t ∙ pass-unders s i (ltb chunk i) e _ (r .0) (r .1) (r .2) ∙ c .before .before .before .loop .inv .2)
+    let k = r .1 (omega arith) in
+    (omega (arith, r .0), k, ap (λ u. afterIdent u (from s (c .skip-eights .result))) t ∙ pass-unders s i (ltb chunk i) e _ (r .0) k (r .2) ∙ c .before .before .before .loop .inv .2)
 
 id-run-end-requires : tie.Need-id-run-end-requires Inv-loop μ-loop Inv-chunks μ-chunks
 id-run-end-requires c κs = search needs

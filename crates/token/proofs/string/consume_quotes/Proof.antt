@@ -6,6 +6,7 @@ use lib.ListN.{length}
 use Rattle.chars.specs.Text.{from, afterRun}
 use Rattle.token.specs.Tests.{quote}
 use Rattle.token.proofs.StringLaws.{quotes-next, quotes-stop, quotes-end, quotes-past}
+use borrow.Author.Needs.{needs}
 use Rattle.token.proofs.string.consume_quotes.Statement.{statement}
 use Rattle.token.proofs.string.consume_quotes.Tie as tie
 
@@ -16,10 +17,10 @@ abbrev μ-loop : tie.MeasureT-loop
 μ-loop s i₀ i = length s - i
 
 skip-eights-requires : tie.Need-skip-eights-requires Inv-loop μ-loop
-skip-eights-requires c κs = c .before .pre
+skip-eights-requires c κs = search needs
 
 loop-holds : tie.Need-loop-holds Inv-loop μ-loop
-loop-holds c = (c .skip-eights .ensures .1, refl)
+loop-holds c = (c .skip-eights .ensures .1 (c .before .before .pre), refl)
 
 shared-slice-read-if1 : tie.Need-shared-slice-read-if1 Inv-loop μ-loop
 shared-slice-read-if1 c = c .before .loop-test .taken
@@ -30,7 +31,8 @@ returns c =
     let loop = c .before .before .before .loop in
     let h = c .before .before .loop-test .taken in
     let e = c .before .before .before .before .skip-eights .ensures in
-    (loop .inv .0, quotes-stop s _ h (c .if1 .taken) ∙ loop .inv .1 ∙ quotes-past s _ _ (e .0) (e .1) (e .2))
+    let l = e .1 (c .before .before .before .before .before .before .pre) in
+    (loop .inv .0, quotes-stop s _ h (c .if1 .taken) ∙ loop .inv .1 ∙ quotes-past s _ _ (e .0) l (e .2))
 
 add-i : tie.Need-add-i Inv-loop μ-loop
 add-i c =
@@ -52,7 +54,8 @@ returns-2 c =
     let s = c .before .before .before .before .args .s .now in
     let loop = c .before .loop in
     let e = c .before .before .skip-eights .ensures in
-    (loop .inv .0, quotes-end s _ (c .loop-test .left) ∙ loop .inv .1 ∙ quotes-past s _ _ (e .0) (e .1) (e .2))
+    let l = e .1 (c .before .before .before .before .pre) in
+    (loop .inv .0, quotes-end s _ (c .loop-test .left) ∙ loop .inv .1 ∙ quotes-past s _ _ (e .0) l (e .2))
 
 pub consume-quotes-spec : {M : Type 1} → statement M
 consume-quotes-spec =

@@ -18,10 +18,10 @@ abbrev μ-loop : tie.MeasureT-loop
 μ-loop s i₀ i = length s - i
 
 skip-others-requires : tie.Need-skip-others-requires Inv-loop μ-loop
-skip-others-requires c κs = c .before .pre
+skip-others-requires c κs = search needs
 
 loop-holds : tie.Need-loop-holds Inv-loop μ-loop
-loop-holds c = (omega arith, c .skip-others .ensures .1, refl)
+loop-holds c = (omega arith, c .skip-others .ensures .1 (c .before .before .pre), refl)
 
 shared-slice-read-is-ordinary : tie.Need-shared-slice-read-is-ordinary Inv-loop μ-loop
 shared-slice-read-is-ordinary c = c .before .loop-test .taken
@@ -35,8 +35,9 @@ returns c =
     let h = c .before .before .before .loop-test .taken in
     let loop = c .before .before .before .before .loop .inv in
     let e = c .before .before .before .before .before .skip-others .ensures in
+    let l = e .1 (c .before .before .before .before .before .before .before .pre) in
     let stop = skip-stop s _ h (sym (c .before .is-ordinary .ensures) ∙ not-true _ (c .if1 .taken)) in
-    (omega (arith, loop .0, e .0), loop .1, stop ∙ loop .2 ∙ skip-past s _ _ (e .0) (e .1) (e .2))
+    (omega (arith, loop .0, e .0), loop .1, stop ∙ loop .2 ∙ skip-past s _ _ (e .0) l (e .2))
 
 add-i : tie.Need-add-i Inv-loop μ-loop
 add-i c = let h = c .before .before .before .loop-test .taken in omega arith
@@ -57,7 +58,8 @@ returns-2 c =
     let s = c .before .before .before .before .args .s .now in
     let loop = c .before .loop .inv in
     let e = c .before .before .skip-others .ensures in
-    (omega (arith, loop .0, e .0), loop .1, skip-end s _ (c .loop-test .left) ∙ loop .2 ∙ skip-past s _ _ (e .0) (e .1) (e .2))
+    let l = e .1 (c .before .before .before .before .pre) in
+    (omega (arith, loop .0, e .0), loop .1, skip-end s _ (c .loop-test .left) ∙ loop .2 ∙ skip-past s _ _ (e .0) l (e .2))
 
 pub skip-ordinary-spec : {M : Type 1} → statement M
 skip-ordinary-spec =

@@ -6,6 +6,7 @@ use lib.ListN.{length, getD}
 use Rattle.chars.specs.Text.{from, afterRun}
 use Rattle.token.specs.Tests.{endOfLine}
 use Rattle.token.proofs.Comments.{opens-line, pair-at, pair-past, line-stop, line-on, line-end, line-past}
+use borrow.Author.Needs.{needs}
 use Rattle.token.proofs.cursor.Cursor.consume_line_comment.Statement.{statement}
 use Rattle.token.proofs.cursor.Cursor.consume_line_comment.Tie as tie
 
@@ -24,15 +25,15 @@ add-skip-eights c =
     omega (arith, p .within)
 
 skip-eights-requires : tie.Need-skip-eights-requires Inv-loop μ-loop
-skip-eights-requires c κs =
-    let args = c .before .before .args in
-    let pre = c .before .before .pre in
-    let s = args .s .now in
-    let p = pair-at s (args .self .at) 0x2F 0x2F (omega arith) (omega arith) (omega arith) (omega arith) (sym (opens-line s (args .self .at)) ∙ pre .1) in
-    p .within
+skip-eights-requires c κs = search needs
 
 loop-holds : tie.Need-loop-holds Inv-loop μ-loop
-loop-holds c = (c .skip-eights .ensures .1, refl)
+loop-holds c =
+    let args = c .before .before .before .args in
+    let pre = c .before .before .before .pre in
+    let s = args .s .now in
+    let p = pair-at s (args .self .at) 0x2F 0x2F (omega arith) (omega arith) (omega arith) (omega arith) (sym (opens-line s (args .self .at)) ∙ pre .1) in
+    (c .skip-eights .ensures .1 (p .within), refl)
 
 line-ends-at-requires : tie.Need-line-ends-at-requires Inv-loop μ-loop
 line-ends-at-requires c κs = c .before .loop .inv .0
@@ -45,7 +46,7 @@ returns c =
     let p = pair-at s (args .self .at) 0x2F 0x2F (omega arith) (omega arith) (omega arith) (omega arith) (sym (opens-line s (args .self .at)) ∙ pre .1) in
     let loop = c .before .before .before .loop in
     let e = c .before .before .before .before .skip-eights .ensures in
-    let q = loop .inv .1 ∙ line-past s _ _ (e .0) (e .1) (e .2) ∙ ap (afterRun (λ t. not (endOfLine t))) (pair-past p) in
+    let q = loop .inv .1 ∙ line-past s _ _ (e .0) (e .1 (p .within)) (e .2) ∙ ap (afterRun (λ t. not (endOfLine t))) (pair-past p) in
     (loop .inv .0, line-stop s (loop .i) _ (c .before .before .loop-test .taken) (sym (c .before .line-ends-at .ensures) ∙ c .if1 .taken) q)
 
 add-i : tie.Need-add-i Inv-loop μ-loop
@@ -68,7 +69,7 @@ returns-2 c =
     let p = pair-at s (args .self .at) 0x2F 0x2F (omega arith) (omega arith) (omega arith) (omega arith) (sym (opens-line s (args .self .at)) ∙ pre .1) in
     let loop = c .before .loop in
     let e = c .before .before .skip-eights .ensures in
-    let q = loop .inv .1 ∙ line-past s _ _ (e .0) (e .1) (e .2) ∙ ap (afterRun (λ t. not (endOfLine t))) (pair-past p) in
+    let q = loop .inv .1 ∙ line-past s _ _ (e .0) (e .1 (p .within)) (e .2) ∙ ap (afterRun (λ t. not (endOfLine t))) (pair-past p) in
     (loop .inv .0, line-end s (loop .i) _ (c .loop-test .left) q)
 
 pub consume-line-comment-spec : {M : Type 1} → statement M
