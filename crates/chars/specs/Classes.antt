@@ -1,11 +1,9 @@
 -- Document 01, "Character classes".
 use Prim.Native.Nat.{ℕ}
 use mathlib.Core.Bool.{Bool, not, _&&_, _||_}
-use mathlib.Core.Path.{_≡_}
-use mathlib.Core.List.{List}
 use lib.Dec.{leb}
 use Rattle.chars.specs.Quoted.{between, oneOf}
-use Rattle.chars.specs.Ranges.{inRanges, pairs}
+use Rattle.chars.specs.Ranges.{inRanges}
 use Rattle.chars.specs.Tables.{alphabeticTable, lowercaseTable, uppercaseTable, ndTable, alphaNotLetterTable}
 
 -- the properties of a code up to U+FFFF
@@ -39,11 +37,3 @@ isOpSign c = oneOf "!#%&*+-/:<=>?@\\^|~⇒" c
 -- Printable: at most U+FFFF, not U+0000 to U+001F, U+007F to U+009F, nor U+FFF0 to U+FFFF.
 unfoldable pub isPrintable : ℕ → Bool
 isPrintable c = leb c 0xFFFF && not (between 0x0000 0x001F c) && not (between 0x007F 0x009F c) && not (between 0xFFF0 0xFFFF c)
-
--- ---- how the code lends the tables
-
--- the range ends of the three tables that id characters are judged by
-pub record IdTables (alphas marks digits : List ℕ) : Type 0 where
-  pub alphabetic-is : pairs alphas ≡ alphabeticTable
-  pub marks-is : pairs marks ≡ alphaNotLetterTable
-  pub nd-is : pairs digits ≡ ndTable

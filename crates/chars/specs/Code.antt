@@ -5,7 +5,8 @@ use mathlib.Core.Bool.{Bool, true, cond, not, _&&_, _||_}
 use mathlib.Core.List.{List, [], _∷_}
 use lib.ListN.{length, drop, getD}
 use lib.Dec.{eqb, leb, ltb}
-use Rattle.chars.specs.Ranges.{_to_}
+use Rattle.chars.specs.Ranges.{_to_, pairs}
+use Rattle.chars.specs.Tables.{alphabeticTable, ndTable, alphaNotLetterTable}
 use Rattle.chars.specs.Utf8.{fits}
 use Rattle.chars.specs.Classes.{isIdChar}
 use Rattle.chars.specs.Text.{Text, head}
@@ -77,3 +78,11 @@ fourNot a b c d = fourBy (twoNot a b c d)
 
 abbrev pub eightNot : ℕ → ℕ → ℕ → ℕ → List ℕ → ℕ → Bool
 eightNot a b c d = eightBy (twoNot a b c d)
+
+-- ---- how the code lends the tables
+
+-- the range ends of the three tables that id characters are judged by
+pub record IdTables (alphas marks digits : List ℕ) : Type 0 where
+  pub alphabetic-is : pairs alphas ≡ alphabeticTable
+  pub marks-is : pairs marks ≡ alphaNotLetterTable
+  pub nd-is : pairs digits ≡ ndTable

@@ -15,9 +15,9 @@ ghost use Rattle.chars.specs.Ranges.{pairs, inRanges, ascendingFrom};
 ghost use lib.Dec.{ltb};
 ghost use lib.ListN.{length};
 ghost use Rattle.chars.specs.Tables.{alphabeticTable, alphaNotLetterTable};
-ghost use Rattle.chars.specs.Classes.{isIdStart, isIdChar, isOpSign, isPrintable, lowercase, uppercase, alphabetic, alphaNotLetter, IdTables};
+ghost use Rattle.chars.specs.Classes.{isIdStart, isIdChar, isOpSign, isPrintable, lowercase, uppercase, alphabetic, alphaNotLetter};
 ghost use Rattle.chars.specs.Text.{from, place, idChar, afterRun};
-ghost use Rattle.chars.specs.Code.{asciiIdChar, bitIn, russianAt};
+ghost use Rattle.chars.specs.Code.{asciiIdChar, bitIn, russianAt, IdTables};
 
 // The last code that the tables speak of.
 const LAST: u32 = 0xFFFF;
@@ -83,7 +83,7 @@ pub fn is_op_char(c: u32) -> bool
     }
 }
 
-// Whether the byte's bit is set in two masks, for the codes up to 0x3F and from 0x40 to 0x7F: two tests where a `match` takes a dozen.
+// Whether the byte's bit is set in one of two masks, for the codes up to 0x3F and from 0x40 to 0x7F: two tests where a `match` takes a dozen.
 pub fn has_bit(b: u8, low: u64, high: u64) -> bool
     ensures { λ r. ⌜ r ≡ bitIn low high b ⌝ }
 {

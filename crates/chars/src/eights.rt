@@ -1,5 +1,6 @@
 // Bytes of a range, and bytes that are none of four: eight by one test. `&` looks at all of them, without a branch.
 ghost use mathlib.Core.Path.{_≡_};
+ghost use mathlib.Core.Bool.{false};
 ghost use Prim.Native.Nat.{_+_, _≤_};
 ghost use lib.ListN.{length};
 ghost use Rattle.chars.specs.Code.{AllIn, twoIn, fourIn, eightIn, NoneOf, twoNot, fourNot, eightNot};
@@ -31,9 +32,9 @@ pub fn eight_in(s: &[u8], at: usize, low: u8, high: u8) -> bool
     four_in(s, at, low, high) & four_in(s, at + 4, low, high)
 }
 
-// A place to which all bytes lie in the range: as far as they come by eights.
+// The place to which all bytes lie in the range, eight at a time: no eight more stand there.
 pub fn skip_eights(s: &[u8], at: usize, low: u8, high: u8) -> usize
-    ensures { λ r. ⌜ (at ≤ r) × (at ≤ length (now (s .entry)) → r ≤ length (now (s .entry))) × AllIn low high (now (s .entry)) at r ⌝ }
+    ensures { λ r. ⌜ (at ≤ r) × (at ≤ length (now (s .entry)) → r ≤ length (now (s .entry))) × AllIn low high (now (s .entry)) at r × (eightIn low high (now (s .entry)) r ≡ false) ⌝ }
 {
     let mut i = at;
     while eight_in(s, i, low, high) {
@@ -76,9 +77,9 @@ fn eight_not(s: &[u8], at: usize, a: u8, b: u8, c: u8, d: u8) -> bool
     four_not(s, at, a, b, c, d) & four_not(s, at + 4, a, b, c, d)
 }
 
-// A place to which no byte is one of the four: as far as they come by eights.
+// The place to which no byte is one of the four, eight at a time: no eight more stand there.
 pub fn skip_others(s: &[u8], at: usize, a: u8, b: u8, c: u8, d: u8) -> usize
-    ensures { λ r. ⌜ (at ≤ r) × (at ≤ length (now (s .entry)) → r ≤ length (now (s .entry))) × NoneOf a b c d (now (s .entry)) at r ⌝ }
+    ensures { λ r. ⌜ (at ≤ r) × (at ≤ length (now (s .entry)) → r ≤ length (now (s .entry))) × NoneOf a b c d (now (s .entry)) at r × (eightNot a b c d (now (s .entry)) r ≡ false) ⌝ }
 {
     let mut end = at;
     while eight_not(s, end, a, b, c, d) {

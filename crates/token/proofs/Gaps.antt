@@ -11,6 +11,7 @@ use native.Mathlib.Omega.{arith}
 use borrow.Author.Tests.{eqb-true}
 use Rattle.chars.specs.Quoted.{codes}
 use Rattle.chars.specs.Text.{Char, Text, afterRun}
+use Rattle.chars.proofs.IdRuns.{run-stays}
 use Rattle.chars.proofs.Bools.{clash, and-both}
 use Rattle.token.specs.Tests.{isAny, begins, startsWith, opensLine, opensBlock, closesBlock, endOfLine}
 use Rattle.token.specs.Shapes.{Run, Times, _then_, both, LineComment, Items, Block}
@@ -25,10 +26,6 @@ use Rattle.token.proofs.Prefixed.{after-fails}
 pub pass-run : (p : Text → Bool) {s m : Text} → Run p s m → afterRun p s ≡ afterRun p m
 pass-run p Run.stop = refl
 pass-run p (Run.next {c} {s} e w) = after-next p c s e ∙ pass-run p w
-
-pub after-here : (p : Text → Bool) (m : Text) → p m ≡ false → afterRun p m ≡ m
-after-here p [] e = unfold afterRun in refl
-after-here p (c ∷ m) e = after-stop p c m e
 
 -- ---- two characters
 
@@ -80,7 +77,7 @@ line-found s r h = go (h .0) (h .1)
         → (opensLine s ≡ true) × (Found.gap GapKind.lineComment (afterRun inLine (drop 2 s)) ≡ Found.gap GapKind.lineComment r)
     go (both {m = t} a w) e =
         let x = times-line s t a in
-        (x .0, ap (Found.gap GapKind.lineComment) (rw (← x .1) (pass-run inLine w ∙ after-here inLine r (rw e))))
+        (x .0, ap (Found.gap GapKind.lineComment) (rw (← x .1) (pass-run inLine w ∙ run-stays inLine r (rw e))))
 
 -- ---- block comments
 

@@ -14,6 +14,7 @@ use Rattle.chars.specs.Code.{AllIn, Within}
 use Rattle.chars.specs.Classes.{isIdStart, isIdChar, isOpSign}
 use Rattle.chars.proofs.Bools.{clash}
 use Rattle.chars.proofs.ClassLaws.{under-no-id}
+use Rattle.chars.proofs.IdRuns.{run-stays, run-done, run-place}
 use Rattle.chars.proofs.Texts.{Suffix, suffix-trans, drop-suffix, text-suffix, text-place}
 use Rattle.chars.proofs.Places.{at-char, at-ascii, at-end, next-on, place-from, byte-by-byte}
 use Rattle.token.specs.Tests.{isAny, begins, quote, opSign, freeSign, opensComment, notBacktick}
@@ -39,16 +40,6 @@ head-inside p s i e = go (ltb i (length s)) refl
     go : (b : Bool) → ltb i (length s) ≡ b → i < length s
     go true h = ltb-true i (length s) h
     go false h = clash (sym (ap (head p) (at-end s i (ltb-false i (length s) h))) ∙ e)
-
--- where a run ends nothing of it stands
-after-done : (p : Text → Bool) → p [] ≡ false → (t : Text) → p (afterRun p t) ≡ false
-unfolding afterRun
-after-done p z [] = z
-after-done p z (c ∷ t) = go (p (c ∷ t)) refl (after-done p z t)
-  where
-    go : (b : Bool) → p (c ∷ t) ≡ b → p (afterRun p t) ≡ false → p (afterRun p (c ∷ t)) ≡ false
-    go true e ih = ap p (after-next p c t e) ∙ ih
-    go false e ih = ap p (after-stop p c t e) ∙ e
 
 -- what is left of a text stands no earlier
 drop-later : (s : List ℕ) (k i : ℕ) → i ≤ length s → i ≤ place (length s) (drop k (from s i))
@@ -86,22 +77,6 @@ left-to s i j r h k e v =
 
 pub run-left : (p : Text → Bool) (t : Text) → Suffix (afterRun p t) t
 run-left p t = run-suffix p (run-after p t)
-
--- the place where a run ends
-pub run-place : (p : Text → Bool) (s : List ℕ) (i j : ℕ) → i ≤ length s → j ≡ place (length s) (afterRun p (from s i))
-    → (i ≤ j) × (j ≤ length s) × (from s j ≡ afterRun p (from s i))
-run-place p s i j h e =
-    let v = run-left p (from s i) in
-    let t = text-suffix s (afterRun p (from s i)) (from s i) v (i, refl) in
-    let a = suffix-later s i (afterRun p (from s i)) h v in
-    let b = place-within s (t .0) in
-    let c : place (length s) (afterRun p (from s i)) ≤ length s = rw (← t .1) b in
-    (omega arith, omega arith, ap (from s) e ∙ text-place s (afterRun p (from s i)) t)
-
-pub after-stays : (p : Text → Bool) (t : Text) → p t ≡ false → afterRun p t ≡ t
-unfolding afterRun
-after-stays p [] e = refl
-after-stays p (c ∷ t) e = after-stop p c t e
 
 after-moves : (p : Text → Bool) (t : Text) → p [] ≡ false → afterRun p t ≡ t → p t ≡ false
 after-moves p [] z e = z
@@ -203,7 +178,7 @@ module _ (s : List ℕ) (i : ℕ) where
 
       moved : (b : Bool) → idChar (from s i) ≡ b → b ≡ true
       moved true f = refl
-      moved false f = absurd (n (e ∙ ap (place (length s)) (after-stays idChar (from s i) f) ∙ place-from s i h))
+      moved false f = absurd (n (e ∙ ap (place (length s)) (run-stays idChar (from s i) f) ∙ place-from s i h))
 
   -- no chunk follows
   pub pass-none : (u : Bool) → i ≤ length s → i ≡ place (length s) (afterRun idChar (from s i)) → (getD s i 0 ≡ 0x5F → ⊥)
@@ -221,7 +196,7 @@ module _ (s : List ℕ) (i : ℕ) where
   pub pass-all : (j : ℕ) → i ≤ length s → j ≡ place (length s) (afterRun idChar (from s i)) → (getD s j 0 ≡ 0x5F → ⊥)
       → from s j ≡ afterIdent false (from s i)
   pass-all j h e n =
-      let f = ap idChar (run-place idChar s i j h e .2) ∙ after-done idChar refl (from s i) in
+      let f = ap idChar (run-place idChar s i j h e .2) ∙ run-done idChar s refl (from s i) in
       sym (rest-none false (from s j) f (any-byte "_" refl s j ∙ rw (ne-eqb (getD s j 0) 0x5F n))) ∙ pass-run j h e .1
 
 -- past an underscore and those that follow it up to r

@@ -1,32 +1,31 @@
 -- Tokens that their ASCII bytes tell are what the scanner finds.
 use Prim.Native.Nat.{ℕ, _+_, _≤_, _<_}
 use mathlib.Core.Path.{_≡_, refl, sym, _∙_, ap}
-use mathlib.Core.Bool.{Bool, true, false, cond, not, _&&_, _||_}
+use mathlib.Core.Bool.{Bool, true, false, cond, _&&_}
 use mathlib.Core.Logic.{_⊎_, inl, inr}
 use mathlib.Core.List.{List, [], _∷_, append-nil}
 use mathlib.Core.Option.{Option, none, some}
 use lib.ListN.{length, drop, getD}
-use lib.Dec.{eqb, leb, ltb}
+use lib.Dec.{leb, ltb}
 use native.Mathlib.Omega.{arith}
 use borrow.Author.Tests.{ltb-true, leb-true, lt-ltb, ne-eqb}
 use Rattle.chars.specs.Quoted.{codes, oneOf}
 use Rattle.chars.specs.Classes.{isIdStart, isOpSign}
-use Rattle.chars.specs.Text.{Char, Text, from, place, head, idChar, afterRun}
+use Rattle.chars.specs.Text.{Text, from, place, idChar, afterRun}
 use Rattle.chars.specs.Code.{asciiIdChar}
 use Rattle.chars.proofs.Bools.{clash, and-both}
-use Rattle.chars.proofs.Carry.{every, carry, carry-not}
-use Rattle.chars.proofs.ClassLaws.{start-not, sign-not, sign-no-start, slash-no-start}
-use Rattle.chars.proofs.IdRuns.{ascii-whole}
-use Rattle.chars.proofs.Places.{at-ascii, ascii-next, place-from, run-next}
-use Rattle.chars.proofs.Texts.{Suffix}
+use Rattle.chars.proofs.Carry.{carry, carry-not}
+use Rattle.chars.proofs.ClassLaws.{start-not, sign-no-start, slash-no-start}
+use Rattle.chars.proofs.IdRuns.{run-stays, ascii-whole}
+use Rattle.chars.proofs.Places.{ascii-next, place-from, run-next}
 use Rattle.token.specs.Tests.{isAny, begins, quote, opSign, freeSign, opensComment}
 use Rattle.token.specs.Kinds.{Token, kindNumber, wordOf, runOf}
-use Rattle.token.specs.Records.{bit, le2, le4, values, recordLength, headOf, recordOf}
+use Rattle.token.specs.Records.{values, recordLength, fieldsOf, headOf, recordOf}
 use Rattle.token.specs.Flags.{GapKind, fresh, push, cutOf}
-use Rattle.token.specs.Answer.{Found, Start, signOf, scan, afterIdent, codesTo, wordOr, runOr}
+use Rattle.token.specs.Answer.{Found, signOf, scan, afterIdent, codesTo, wordOr, runOr}
 use Rattle.token.specs.Seek.{seek, nextOf}
 use Rattle.token.specs.Measure.{lineEndAt}
-use Rattle.token.specs.Code.{Plain, PlainOr, LeftOf, cursorAt, pieceOf, pieceNumber, signNumber, fieldsOf}
+use Rattle.token.specs.Code.{Plain, PlainOr, LeftOf, cursorAt, pieceOf, pieceNumber, signNumber}
 use Rattle.token.specs.declared.gap.Gap.{Gap}
 use Rattle.token.specs.declared.kinds.Kw.{Kw}
 use Rattle.token.specs.declared.kinds.TokenKind.{TokenKind}
@@ -34,7 +33,7 @@ use Rattle.token.specs.declared.kinds.TokenKind.the-variants as tk
 use Rattle.token.specs.declared.piece.Piece.{Piece}
 use Rattle.token.specs.declared.piece.Piece.the-variants as piece
 use Rattle.token.proofs.Bytes.{inside, two-bytes}
-use Rattle.token.proofs.IdentLaws.{after-stays, left-to, run-left, ident-left, pass-all, quote-byte, scan-word, scan-run, run-alone, not-prefixed, token-at}
+use Rattle.token.proofs.IdentLaws.{left-to, run-left, ident-left, pass-all, quote-byte, scan-word, scan-run, run-alone, not-prefixed, token-at}
 use Rattle.token.proofs.Lexes.{sign-at, word-at, operator-at, ascii-head, ascii-start, next-token, next-lf}
 use Rattle.token.proofs.Seeks.{seek-blanks}
 use Rattle.token.proofs.Stores.{head-fields}
@@ -86,11 +85,11 @@ sign-low b e =
 
 -- ---- words and runs
 
-abbrev pub wordKind : Option Kw → TokenKind
+abbrev wordKind : Option Kw → TokenKind
 wordKind none = tk.Ident
 wordKind (some k) = tk.Kw k
 
-abbrev pub runKind : Option Kw → TokenKind
+abbrev runKind : Option Kw → TokenKind
 runKind none = tk.OpId
 runKind (some k) = tk.Kw k
 
@@ -238,7 +237,7 @@ module _ (s : List ℕ) (i : ℕ) (h : i < length s) (l : getD s i 0 < 0x80) (c 
   run-more e = ap (λ j. afterRun freeSign (from s j)) (sym (ascii-next s i h l)) ∙ run-next freeSign s i h (free-byte true e)
 
   pub run-over : ltb (getD s i 0) 0x80 && isOpSign (getD s i 0) ≡ false → afterRun freeSign (from s i) ≡ from s i
-  run-over e = after-stays freeSign (from s i) (free-byte false e)
+  run-over e = run-stays freeSign (from s i) (free-byte false e)
 
 -- where the first sign was passed it is no `/`
 pub first : (s : List ℕ) (a i : ℕ) → (i ≡ a) ⊎ (opensComment (from s a) ≡ false) → (getD s i 0 ≡ 0x2F → ⊥) → opensComment (from s a) ≡ false
@@ -247,11 +246,11 @@ first s a i (inr k) c = k
 
 -- ---- records
 
-pub bare-length : (k : TokenKind) → values k ≡ [] → 13 ≡ recordLength k
+bare-length : (k : TokenKind) → values k ≡ [] → 13 ≡ recordLength k
 unfolding recordLength
 bare-length k e = rw e
 
-pub bare-record : (t : Token) → values (t .kind) ≡ [] → recordOf t ≡ fieldsOf 13 (kindNumber (t .kind)) (t .start) (t .end) (t .cut)
+bare-record : (t : Token) → values (t .kind) ≡ [] → recordOf t ≡ fieldsOf 13 (kindNumber (t .kind)) (t .start) (t .end) (t .cut)
 unfolding recordOf
 bare-record t e =
     rw e (append-nil (headOf t) ∙ sym (head-fields t) ∙ ap (λ z. fieldsOf z (kindNumber (t .kind)) (t .start) (t .end) (t .cut)) (sym (bare-length (t .kind) e)))

@@ -9,9 +9,8 @@ use native.Mathlib.Nat.{add-zero, zero-add}
 use native.Mathlib.Numerals.{add-one, add-two, add-three}
 use native.Mathlib.Omega.{arith}
 use Rattle.token.specs.Kinds.{kindNumber, Token}
-use Rattle.token.specs.Records.{bit, le2, le4, le8, values, recordLength, headOf, recordOf}
+use Rattle.token.specs.Records.{bit, le2, le4, le8, values, recordLength, fieldsOf, headOf, recordOf}
 use Rattle.token.specs.Host.{blockOf}
-use Rattle.token.specs.Code.{fieldsOf}
 use Rattle.token.specs.declared.kinds.TokenKind.{TokenKind}
 
 pub sets-append : (l : List ℕ) (i : ℕ) (a b : List ℕ) → sets l i (a ++ b) ≡ sets (sets l i a) (i + length a) b
@@ -41,7 +40,7 @@ unfolding le4
 length-four x = refl
 
 pub length-head : (t : Token) → length (headOf t) ≡ 13
-unfolding headOf le2 le4
+unfolding headOf fieldsOf le2 le4
 length-head t = refl
 
 pub length-record : (t : Token) → length (recordOf t) ≡ recordLength (t .kind)
@@ -70,7 +69,7 @@ put-eight l m n w x = put-fours l m n w (x % 4294967296) (x / 4294967296)
 -- ---- records
 
 pub head-fields : (t : Token) → fieldsOf (recordLength (t .kind)) (kindNumber (t .kind)) (t .start) (t .end) (t .cut) ≡ headOf t
-unfolding fieldsOf headOf le2 le4
+unfolding headOf
 head-fields t = refl
 
 pub put-thirteen : (x k a e c : ℕ) (b : Bool) (l m n o p : List ℕ) (w : ℕ) → c ≡ bit b

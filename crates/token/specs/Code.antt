@@ -2,7 +2,7 @@
 use Prim.Native.Nat.{ℕ, zero, suc, _+_, _-_, _≤_, _<_}
 use mathlib.Core.Path.{_≡_}
 use mathlib.Core.Bool.{Bool, true, false, cond, not, _&&_}
-use mathlib.Core.List.{List, [], _∷_, _++_}
+use mathlib.Core.List.{List, [], _∷_}
 use mathlib.Core.Logic.{_⊎_}
 use mathlib.Core.Option.{Option, none, some}
 use lib.ListN.{length, drop, getD}
@@ -15,7 +15,6 @@ use Rattle.token.specs.Tests.{isDigit, isHexDigit, digitValue, isAny, do
 use Rattle.token.specs.Kinds.{Word, word, kindNumber}
 use Rattle.token.specs.Answer.{Found, Esc, good, bad, hexes, afterSlash, Inside, closed, wrong, inPlain, inPrefixed, plainContent, afterIdent}
 use Rattle.token.specs.Answer.{escapedOf, signOf}
-use Rattle.token.specs.Records.{bit, le2, le4}
 use Rattle.token.specs.declared.kinds.Kw.{Kw}
 use Rattle.token.specs.declared.kinds.TokenKind.{TokenKind}
 use Rattle.token.specs.declared.kinds.TokenKind.the-variants as tk
@@ -165,8 +164,8 @@ symbolOf m =
 
 -- ---- tokens that their ASCII bytes tell
 
--- A token without values that stands from i to e: one of the nine signs; a word of ASCII id characters that prefixes no string; or a run of
--- ASCII operator signs that has no `/` and that none follows.
+-- A token without values that stands from i to e: one of the nine signs; an identifier or keyword that begins with an ASCII byte and prefixes
+-- no string; or a run of operator signs that begins with an ASCII byte, opens no comment, and before none ends.
 pub data Plain (s : List ℕ) (i e : ℕ) : Type 0 where
   single : oneOf "()[]{},;." (getD s i 0) ≡ true → e ≡ i + 1 → Plain s i e
   letters : ltb (getD s i 0) 0x80 && isIdStart (getD s i 0) ≡ true → e ≤ length s → from s e ≡ afterIdent false (from s (i + 1))
@@ -186,10 +185,6 @@ signNumber b = cond (oneOf "()[]{},;." b) (kindNumber (signOf (record { code = b
 abbrev pub pieceNumber : Piece → ℕ
 pieceNumber (piece.Token k c) = kindNumber k
 pieceNumber (piece.Refused j a) = 0
-
--- a record's first 13 bytes, from its length and its kind's number
-unfoldable pub fieldsOf : ℕ → ℕ → ℕ → ℕ → Bool → List ℕ
-fieldsOf size number start end cut = le2 size ++ (le2 number ++ (le4 start ++ (le4 end ++ (bit cut ∷ []))))
 
 -- ---- a plain string's content, quotes taken off by eights
 

@@ -12,7 +12,7 @@ use Rattle.chars.specs.Text.{charsAt, from, afterRun}
 use Rattle.token.specs.Tests.{same, isDigit, isHexDigit, begins}
 use Rattle.token.specs.Kinds.{wordOf, runOf, kindNumber, Token}
 use Rattle.token.specs.Answer.{codesTo, scanReturn, scanLine, close, scanBlock, readDigits, scanNumber, hexes, digitsUpTo, afterSlash, inPlain, inPrefixed, inTriple, inString, strip, plainContent, scanString, orPrefixed, afterIdent, scanIdent, scanOperator, scanBacktick, scanCharSym, startOf, signOf, scan, walk, answer}
-use Rattle.token.specs.Records.{Value, one, four, eight, valuesOf, bit, le2, le4, le8, values, recordLength, headOf, recordOf, records, recordBytes}
+use Rattle.token.specs.Records.{Value, one, four, eight, valuesOf, bit, le2, le4, le8, values, recordLength, fieldsOf, headOf, recordOf, records, recordBytes}
 use Rattle.token.specs.Host.{Verdict, good, bad, short, judge, verdict, blockOf, seenOf, Seen, hostOf}
 
 -- a number in base ten, before the text t; the first argument bounds its digits
@@ -83,5 +83,5 @@ holds (_gives_ s t ∷ es) = cond (same (listed (script s)) (codes t)) (holds es
 
 -- the same for what a host sees
 unfoldable pub hosted : List ℕ → List ℕ → List ℕ → Seen
-unfolding listed le2 headOf recordOf records blockOf seenOf hostOf
+unfolding listed le2 fieldsOf headOf recordOf records blockOf seenOf hostOf
 hosted s buffer answerBlock = hostOf s buffer answerBlock

@@ -21,6 +21,7 @@ lineEndAt start end mark = record { kind = tk.Newline mark; start = start; end =
 abbrev pub eofAt : ℕ → Bool → Token
 eofAt last cut = record { kind = tk.Eof; start = last; end = last; cut = cut }
 
+-- both counts
 abbrev pub total : ℕ → ℕ → Measured
 total c b = measured.Total c b
 

@@ -61,8 +61,11 @@ unfoldable pub recordLength : TokenKind → ℕ
 recordLength k = 13 + length (values k)
 
 -- length (2 bytes, whole record), kind (2), start (4), end (4), cut (1)
+unfoldable pub fieldsOf : ℕ → ℕ → ℕ → ℕ → Bool → List ℕ
+fieldsOf size kind start end cut = le2 size ++ (le2 kind ++ (le4 start ++ (le4 end ++ (bit cut ∷ []))))
+
 unfoldable pub headOf : Token → List ℕ
-headOf t = le2 (recordLength (t .kind)) ++ le2 (kindNumber (t .kind)) ++ le4 (t .start) ++ le4 (t .end) ++ (bit (t .cut) ∷ [])
+headOf t = fieldsOf (recordLength (t .kind)) (kindNumber (t .kind)) (t .start) (t .end) (t .cut)
 
 -- then the values
 unfoldable pub recordOf : Token → List ℕ

@@ -1,5 +1,5 @@
-// Tokens that their ASCII bytes tell, which most tokens are: the nine signs, words without `_`, prefix or other letters, and runs of operator
-// signs without `/`. They have no values, so that a kind's number makes the record. All others go by `lexer::lex_token`.
+// Tokens that their ASCII bytes tell, which most tokens are: the nine signs, words of one run of ASCII id characters that prefix no string, and
+// runs of ASCII operator signs without `/`. They have no values, so that a kind's number makes the record. All others go by `lexer::advance`.
 use crate::cursor::byte_at;
 use crate::ident::Keyword;
 use crate::ident::run_keyword;
@@ -16,7 +16,8 @@ ghost use Rattle.chars.specs.Quoted.{oneOf};
 ghost use Rattle.chars.specs.Classes.{isIdStart, isOpSign};
 ghost use Rattle.chars.specs.Text.{from};
 ghost use Rattle.token.specs.Answer.{scan};
-ghost use Rattle.token.specs.Code.{Plain, PlainOr, pieceOf, pieceNumber, signNumber, fieldsOf};
+ghost use Rattle.token.specs.Code.{Plain, PlainOr, pieceOf, pieceNumber, signNumber};
+ghost use Rattle.token.specs.Records.{fieldsOf};
 
 // Whether the byte is one of the nine signs.
 fn is_sign(b: u8) -> bool
@@ -44,7 +45,8 @@ fn word_end(s: &[u8], at: usize) -> usize
     end
 }
 
-// Where the run of operator signs ends that begins there; the place itself, where a `/` or a character past ASCII follows, or the end.
+// Where the run of operator signs ends that begins there; the place itself, where a `/` or a character past ASCII stands in it. At the script's
+// end too, which is rare and left to the others.
 fn run_end(s: &[u8], at: usize) -> usize
     requires { ⌜ (at < length (now s)) × (ltb (getD (now s) at 0) 0x80 && isOpSign (getD (now s) at 0) ≡ true) ⌝ }
     ensures { λ r. ⌜ PlainOr (now (s .entry)) at r ⌝ }

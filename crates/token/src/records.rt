@@ -42,7 +42,7 @@ fn put_if(
     }
 }
 
-// The same for a line end. It calls `put_record` itself: so that is compiled once, and `put_if` into the walk.
+// The same for a line end. With two callers `put_record` is compiled once, by itself, and `put_if` into the walk.
 fn put_line_if(out: &mut [u8], w: usize, start: usize, end: usize, mark: bool, stores: bool)
     requires { ⌜ (stores ≡ true → w + 14 ≤ length (now out)) ⌝ }
     ensures { λ r. ⌜ now (out .exit) ≡ cond stores (sets (now (out .entry)) w (recordOf (lineEndAt start end mark))) (now (out .entry)) ⌝ }
@@ -64,8 +64,8 @@ fn finish(out: &mut [u8], w: usize, n: usize, last: usize, cut: bool, stores: bo
 }
 
 // One walk over the script: it counts tokens and record bytes, and stores the records where it is told to. Measuring and writing are both
-// this walk, so that a step is called from one place and compiled into the loop. Most tokens are told by their bytes; the others, comments and
-// the end go by `advance`.
+// this walk, so that a step is called from one place and compiled into the loop. Most tokens are told by their bytes, and so is an LF, which
+// each line has; the others, comments and the end go by `advance`.
 fn walk_script(s: &[u8], out: &mut [u8], stores: bool) -> Measured
     requires { ⌜ (stores ≡ false → length (now s) ≤ 16777216) × (stores ≡ true → Fits (answer (now s)) (length (now out))) ⌝ }
     ensures { λ r. ⌜ r ≡ measuredOf 0 0 (answer (now (s .entry))) ⌝ }

@@ -5,9 +5,8 @@ ghost use Prim.Native.Nat.{_+_, _≤_};
 ghost use mathlib.Core.List.{_++_};
 ghost use lib.ListN.{length};
 ghost use lib.Seq.{sets};
-ghost use Rattle.token.specs.Records.{bit, le2, le4, le8, values, recordLength, headOf, recordOf};
+ghost use Rattle.token.specs.Records.{bit, le2, le4, le8, values, recordLength, fieldsOf, headOf, recordOf};
 ghost use Rattle.token.specs.Host.{blockOf};
-ghost use Rattle.token.specs.Code.{fieldsOf};
 
 fn bit_of(b: bool) -> u8
     ensures { λ r. ⌜ r ≡ bit b ⌝ }

@@ -33,7 +33,9 @@ loop-again c =
     (omega arith, λ h. m .0, m .1)
 
 returns : tie.Need-returns Inv-loop μ-loop
-returns c = c .before .before .loop .inv
+returns c =
+    let v = c .before .before .loop .inv in
+    (v .0, v .1, v .2, sym (c .before .eight-in .ensures) ∙ c .if1 .left)
 
 pub skip-eights-spec : {M : Type 1} → statement M
 skip-eights-spec = tie.close (tie.spec Inv-loop μ-loop loop-holds eight-in-requires add-i loop-less loop-again returns)

@@ -37,7 +37,9 @@ loop-again c =
     (omega arith, λ h. m .0, m .1)
 
 returns : tie.Need-returns Inv-loop μ-loop
-returns c = c .before .before .loop .inv
+returns c =
+    let v = c .before .before .loop .inv in
+    (v .0, v .1, v .2, sym (c .before .eight-not .ensures) ∙ c .if1 .left)
 
 pub skip-others-spec : {M : Type 1} → statement M
 skip-others-spec = tie.close (tie.spec Inv-loop μ-loop loop-holds eight-not-requires add-end loop-less loop-again returns)

@@ -9,7 +9,8 @@ use Rattle.chars.specs.Classes.{isOpSign}
 use Rattle.chars.specs.Text.{from, afterRun}
 use Rattle.chars.proofs.Places.{next-on, run-next}
 use Rattle.token.specs.Tests.{opSign, freeSign, opensComment}
-use Rattle.token.proofs.IdentLaws.{after-stays, past-same, past-other}
+use Rattle.token.proofs.IdentLaws.{past-same, past-other}
+use Rattle.chars.proofs.IdRuns.{run-stays}
 use Rattle.token.proofs.ident.consume_op_run.Statement.{statement}
 use Rattle.token.proofs.ident.consume_op_run.Tie as tie
 
@@ -30,7 +31,7 @@ returns c =
     let s = c .before .before .before .before .before .args .s .now in
     let i = c .before .before .before .loop .d .at in
     let e = past-same isOpSign s i (sym (c .if1 .taken) ∙ c .before .before .sign-end .ensures) in
-    (c .before .before .before .loop .inv .0, sym (after-stays freeSign (from s i) (ap (λ z. z && not (opensComment (from s i))) e)) ∙ c .before .before .before .loop .inv .1)
+    (c .before .before .before .loop .inv .0, sym (run-stays freeSign (from s i) (ap (λ z. z && not (opensComment (from s i))) e)) ∙ c .before .before .before .loop .inv .1)
 
 opens-comment-requires : tie.Need-opens-comment-requires Inv-loop μ-loop
 opens-comment-requires c κs = c .before .before .before .loop .inv .0
@@ -40,7 +41,7 @@ returns-2 c =
     let s = c .before .before .before .before .before .before .before .args .s .now in
     let i = c .before .before .before .before .before .loop .d .at in
     let e = sym (c .before .opens-comment .ensures) ∙ c .if2 .taken in
-    (c .before .before .before .before .before .loop .inv .0, sym (after-stays freeSign (from s i) (ap (λ z. opSign (from s i) && not z) e ∙ and-false (opSign (from s i)))) ∙ c .before .before .before .before .before .loop .inv .1)
+    (c .before .before .before .before .before .loop .inv .0, sym (run-stays freeSign (from s i) (ap (λ z. opSign (from s i) && not z) e ∙ and-false (opSign (from s i)))) ∙ c .before .before .before .before .before .loop .inv .1)
 
 loop-less : tie.Need-loop-less Inv-loop μ-loop
 loop-less c =

@@ -8,7 +8,8 @@ use Rattle.chars.specs.Classes.{isOpSign}
 use Rattle.chars.specs.Text.{from, afterRun}
 use Rattle.chars.proofs.Places.{next-on, run-next}
 use Rattle.token.specs.Tests.{opSign}
-use Rattle.token.proofs.IdentLaws.{after-stays, past-same, past-other}
+use Rattle.token.proofs.IdentLaws.{past-same, past-other}
+use Rattle.chars.proofs.IdRuns.{run-stays}
 use Rattle.token.proofs.ident.consume_signs.Statement.{statement}
 use Rattle.token.proofs.ident.consume_signs.Tie as tie
 
@@ -29,7 +30,7 @@ returns c =
     let s = c .before .before .before .before .args .s .now in
     let i = c .before .before .loop .i in
     let e = past-same isOpSign s i (sym (c .if1 .taken) ∙ c .before .sign-end .ensures) in
-    (c .before .before .loop .inv .0, sym (after-stays opSign (from s i) e) ∙ c .before .before .loop .inv .1)
+    (c .before .before .loop .inv .0, sym (run-stays opSign (from s i) e) ∙ c .before .before .loop .inv .1)
 
 loop-less : tie.Need-loop-less Inv-loop μ-loop
 loop-less c =

@@ -1,7 +1,7 @@
 -- Nothing, or one record.
 use mathlib.Core.Path.{sym, ap, _∙_}
 use lib.Seq.{sets}
-use Rattle.token.specs.Code.{fieldsOf}
+use Rattle.token.specs.Records.{fieldsOf}
 use Rattle.token.proofs.Measures.{put-none, put-one}
 use borrow.Author.Needs.{needs}
 use Rattle.token.proofs.plain.put_plain_if.Statement.{statement}
