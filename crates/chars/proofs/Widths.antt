@@ -1,14 +1,14 @@
 -- How wide a character is, and the check of one character after the other.
 use Prim.Native.Nat.{ℕ, zero, suc, _+_, _-_, _≤_, _<_}
 use mathlib.Core.Path.{_≡_, refl, sym, _∙_, ap}
-use mathlib.Core.Bool.{Bool, true, false, _&&_}
+use mathlib.Core.Bool.{Bool, true, _&&_}
 use mathlib.Core.Logic.{_⊎_, inl, inr}
 use mathlib.Core.List.{List, [], _∷_}
 use lib.ListN.{length, drop, getD, length-drop, drop-of-length-le}
 use lib.Seq.{drop-drop}
-use lib.Dec.{leb, ltb}
+use lib.Dec.{leb}
 use native.Mathlib.Omega.{arith}
-use borrow.Author.Tests.{leb-true, ltb-true, ltb-false}
+use borrow.Author.Tests.{leb-true}
 use Rattle.chars.specs.Ranges.{Range, _to_}
 use Rattle.chars.specs.Utf8.{table37, fits, Row, here, later, width, validFrom}
 use Rattle.chars.specs.Code.{AllIn}

@@ -1,4 +1,4 @@
--- The run of blanks, byte by byte.
+-- The run of blanks, byte by byte and by eights.
 use Prim.Native.Nat.{ℕ, _+_, _≤_, _<_}
 use mathlib.Core.Path.{_≡_, refl, sym, _∙_, ap}
 use mathlib.Core.Bool.{true, false}

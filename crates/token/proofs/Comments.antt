@@ -1,17 +1,17 @@
--- Comments, byte by byte.
-use Prim.Native.Nat.{ℕ, zero, suc, _+_, _-_, _≤_, _<_}
+-- Comments, byte by byte, line comments by eights first.
+use Prim.Native.Nat.{ℕ, suc, _+_, _≤_, _<_}
 use mathlib.Core.Path.{_≡_, refl, sym, _∙_, ap}
-use mathlib.Core.Bool.{Bool, true, false, cond, not, _&&_, _||_, and-false}
+use mathlib.Core.Bool.{Bool, true, false, not, _&&_, _||_, and-false}
 use mathlib.Core.List.{List, [], _∷_}
-use mathlib.Core.Option.{Option, none, some}
+use mathlib.Core.Option.{Option, some}
 use lib.ListN.{length, drop, getD}
 use lib.Dec.{eqb, ltb}
 use native.Mathlib.Omega.{arith}
-use borrow.Author.Tests.{ltb-true, ltb-false, eqb-true, eq-eqb, ne-eqb}
-use Rattle.chars.specs.Text.{Char, Text, from, place, afterRun}
+use borrow.Author.Tests.{ltb-true, ltb-false, eqb-true, ne-eqb}
+use Rattle.chars.specs.Text.{Char, Text, from, afterRun}
 use Rattle.chars.specs.Code.{AllIn, Within}
-use Rattle.chars.proofs.Bools.{clash, and-both}
-use Rattle.chars.proofs.Places.{at-char, at-ascii, at-end, place-from, byte-by-byte, codeAt}
+use Rattle.chars.proofs.Bools.{and-both}
+use Rattle.chars.proofs.Places.{at-char, at-ascii, at-end, place-from, byte-by-byte}
 use Rattle.token.specs.Tests.{startsWith, begins, endsLine, endOfLine, opensLine, opensBlock, closesBlock}
 use Rattle.token.specs.Answer.{close}
 use Rattle.token.specs.Code.{cursorAt, closedOf}

@@ -1,19 +1,18 @@
 -- The cursor: one character, and runs of bytes.
 use Prim.Native.Nat.{ℕ, zero, suc, _+_, _-_, _≤_, _<_}
 use mathlib.Core.Path.{_≡_, refl, sym, _∙_, ap}
-use mathlib.Core.Bool.{Bool, true, false, cond}
+use mathlib.Core.Bool.{Bool, true, false}
 use mathlib.Core.List.{List, [], _∷_}
-use lib.ListN.{length, drop, getD}
+use lib.ListN.{length, getD}
 use lib.Dec.{ltb}
 use native.Mathlib.Omega.{arith}
 use borrow.Author.Tests.{ltb-true, ltb-false}
 use Rattle.chars.specs.Text.{Char, Text, from, place, nextOf, stepAt, afterRun}
 use Rattle.chars.specs.Code.{Each}
 use Rattle.chars.specs.declared.text.Step.the-variants as step
-use Rattle.chars.proofs.Places.{at-char, at-end, at-ascii, place-from, next-on, step-text, step-none, codeAt}
+use Rattle.chars.proofs.Places.{at-char, at-end, place-from, next-on, step-text, step-none, codeAt}
 use Rattle.token.specs.Code.{cursorAt, peekedOf, peekAt}
 use Rattle.token.specs.declared.cursor.Cursor.{Cursor}
-use Rattle.token.specs.declared.cursor.Peeked.{Peeked}
 use Rattle.token.specs.declared.cursor.Peeked.the-variants as peeked
 
 -- the character at i, as the code has it

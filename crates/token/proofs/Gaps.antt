@@ -1,5 +1,5 @@
 -- Line ends and comments.
-use Prim.Native.Nat.{ℕ, zero, suc, _≤_, _-_}
+use Prim.Native.Nat.{ℕ, zero, suc, _≤_}
 use mathlib.Core.Path.{_≡_, refl, sym, _∙_, ap}
 use mathlib.Core.Bool.{Bool, true, false, not, _&&_, _||_}
 use mathlib.Core.Logic.{_⊎_, inl, inr}
@@ -18,7 +18,7 @@ use Rattle.token.specs.Shapes.{Run, Times, _then_, both, LineComment, It
 use Rattle.token.specs.Flags.{GapKind}
 use Rattle.token.specs.Answer.{Found, scanLine, close, blockOr, scanBlock}
 use Rattle.token.proofs.Base.{no-some}
-use Rattle.token.proofs.Runs.{after-next, after-stop, run-after}
+use Rattle.token.proofs.Runs.{after-next, run-after}
 use Rattle.token.proofs.Prefixed.{after-fails}
 
 -- ---- runs that stop

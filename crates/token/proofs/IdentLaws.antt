@@ -1,7 +1,7 @@
 -- How identifiers, operators and backticks are read place by place.
 use Prim.Native.Nat.{ℕ, zero, suc, _+_, _-_, _≤_, _<_}
 use mathlib.Core.Path.{_≡_, refl, sym, _∙_, ap}
-use mathlib.Core.Bool.{Bool, true, false, cond, _&&_, or-false}
+use mathlib.Core.Bool.{Bool, true, false, cond, or-false}
 use mathlib.Core.List.{List, [], _∷_}
 use mathlib.Core.Option.{Option, some}
 use lib.ListN.{length, drop, getD, List·getD-eq-default}
@@ -11,11 +11,11 @@ use borrow.Author.Tests.{ltb-true, ltb-false, eqb-true, ne-eqb}
 use Rattle.chars.specs.Quoted.{oneOf}
 use Rattle.chars.specs.Text.{Char, Text, from, place, nextOf, head, idChar, afterRun}
 use Rattle.chars.specs.Code.{AllIn, Within}
-use Rattle.chars.specs.Classes.{isIdStart, isIdChar, isOpSign}
+use Rattle.chars.specs.Classes.{isIdStart, isIdChar}
 use Rattle.chars.proofs.Bools.{clash}
 use Rattle.chars.proofs.ClassLaws.{under-no-id}
 use Rattle.chars.proofs.IdRuns.{run-stays, run-done, run-place}
-use Rattle.chars.proofs.Texts.{Suffix, suffix-trans, drop-suffix, text-suffix, text-place}
+use Rattle.chars.proofs.Texts.{Suffix, suffix-trans, drop-suffix}
 use Rattle.chars.proofs.Places.{at-char, at-ascii, at-end, next-on, place-from, byte-by-byte}
 use Rattle.token.specs.Tests.{isAny, begins, quote, opSign, freeSign, opensComment, notBacktick}
 use Rattle.token.specs.Kinds.{wordOf, runOf}

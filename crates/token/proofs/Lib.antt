@@ -30,7 +30,7 @@ pub mod Seeks
 pub mod Lexes
 pub mod Turns
 pub mod Stores
-pub mod PlainLaws
+pub mod DirectLaws
 pub mod Measures
 pub mod Verdicts
 pub mod Entries

@@ -155,10 +155,6 @@ plainContent n s r =
     let t = take (length s - length r) s in
     strip (length t) t (reverse t) (place n r)
 
-abbrev pub stringOf : TokenKind → Inside → Found
-stringOf k (closed r) = Found.token k r
-stringOf k (wrong j q) = Found.stuck j q
-
 abbrev pub plainOf : ℕ → Text → Inside → Found
 plainOf n s (closed r) = Found.token (plainContent n s r) r
 plainOf n s (wrong j q) = Found.stuck j q

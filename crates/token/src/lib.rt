@@ -9,7 +9,7 @@ mod ident; // identifiers, operators and backticks
 mod charsym; // characters and symbols
 mod lexer; // one step over a script: the gap, then one token
 mod store; // stores into lent bytes
-mod plain; // tokens that their ASCII bytes tell
+mod direct; // tokens that their ASCII bytes tell
 mod records; // the records, measured first and then written
 pub mod host; // the host's entry
 pub mod text; // token text

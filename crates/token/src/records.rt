@@ -1,12 +1,12 @@
 // The records of a script: measured first, then written. Document 01, "Records".
 use crate::cursor::Cursor;
 use crate::cursor::byte_at;
+use crate::direct::direct_end;
+use crate::direct::put_direct_if;
 use crate::gap::Gap;
 use crate::kinds::TokenKind;
 use crate::lexer::Next;
 use crate::lexer::advance;
-use crate::plain::plain_end;
-use crate::plain::put_plain_if;
 use crate::store::put_record;
 ghost use mathlib.Core.Path.{_≡_};
 ghost use mathlib.Core.Bool.{true, false, cond};
@@ -77,10 +77,10 @@ fn walk_script(s: &[u8], out: &mut [u8], stores: bool) -> Measured
     let mut b: usize = 0;
     loop {
         let d = c.skip_blanks(s);
-        let e = plain_end(s, d.at);
+        let e = direct_end(s, d.at);
         n += 1;
         if d.at < e {
-            put_plain_if(out, s, b, d.at, e, g.cut_of(), stores);
+            put_direct_if(out, s, b, d.at, e, g.cut_of(), stores);
             b += TokenKind::HEAD_LENGTH as usize;
             c = Cursor { at: e };
             g = Gap::new();

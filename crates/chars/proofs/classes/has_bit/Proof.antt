@@ -1,6 +1,4 @@
 -- By the mask that has the byte's bit.
-use mathlib.Core.Path.{refl, sym}
-use native.Mathlib.Omega.{arith}
 use borrow.Author.Tests.{lt-ltb, le-ltb}
 use Rattle.chars.specs.Code.{bitIn}
 use borrow.Author.Needs.{needs}

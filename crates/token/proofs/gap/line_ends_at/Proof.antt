@@ -1,9 +1,5 @@
-use Prim.Native.Nat.{_<_}
-use mathlib.Core.Path.{_≡_, sym, _∙_, ap}
+use mathlib.Core.Path.{sym, _∙_}
 use native.Mathlib.Omega.{arith}
-use lib.ListN.{getD}
-use mathlib.Core.Bool.{_||_, _&&_}
-use lib.Dec.{eqb}
 use borrow.Author.Tests.{eq-eqb, ne-eqb}
 use Rattle.token.proofs.Comments.{ends-line, above-line}
 use borrow.Author.Needs.{needs}

@@ -1,5 +1,5 @@
 -- The outer loop keeps what follows the rest from its place on; so does the inner one, where an underscore came last if it has moved.
-use Prim.Native.Nat.{_≤_, _<_, _-_, _+_}
+use Prim.Native.Nat.{_≤_, _<_, _-_}
 use mathlib.Core.Path.{_≡_, refl, sym, ap, _∙_}
 use mathlib.Core.Bool.{false, cond}
 use native.Mathlib.Omega.{arith}

@@ -1,5 +1,5 @@
 -- Nothing, or a record of 14 bytes.
-use mathlib.Core.Path.{sym, _∙_}
+use mathlib.Core.Path.{_∙_}
 use native.Mathlib.Omega.{arith}
 use Rattle.token.proofs.Measures.{newline-length, put-none, put-one}
 use borrow.Author.Needs.{needs}

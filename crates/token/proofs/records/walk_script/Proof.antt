@@ -1,5 +1,5 @@
 -- The loop keeps both answers: what is counted, and what is stored where records are stored.
-use Prim.Native.Nat.{ℕ, _≤_, _<_, _-_, _+_}
+use Prim.Native.Nat.{_≤_, _-_, _+_}
 use mathlib.Core.Path.{_≡_, refl, sym, ap, _∙_}
 use mathlib.Core.Bool.{cond}
 use native.Mathlib.Omega.{arith}
@@ -12,7 +12,7 @@ use Rattle.token.specs.Answer.{walk}
 use Rattle.token.specs.Records.{records}
 use Rattle.token.specs.Measure.{measuredOf, tokensIn}
 use Rattle.token.proofs.Turns.{turn-token, turn-line, turn-end, turn-stop}
-use Rattle.token.proofs.PlainLaws.{next-blanks, plain-of, plain-inside, plain-turn, line-turn}
+use Rattle.token.proofs.DirectLaws.{next-blanks, direct-of, direct-inside, direct-turn, line-turn}
 use Rattle.token.proofs.Measures.{record-most, newline-length, eof-length, measured-turn, measured-end, measured-stop, starts-answer}
 use Rattle.token.proofs.Measures.{Lent, lent-start, lent-room, lent-sum, lent-turn, lent-last, lent-end, lent-most, lent-stop}
 use Rattle.token.proofs.records.walk_script.Statement.{statement}
@@ -47,8 +47,8 @@ skip-blanks-requires c κs =
     let loop′ = c .loop in
     loop′ .inv .0
 
-plain-end-requires : tie.Need-plain-end-requires Inv-loop μ-loop
-plain-end-requires c κs = search needs
+direct-end-requires : tie.Need-direct-end-requires Inv-loop μ-loop
+direct-end-requires c κs = search needs
 
 add-n : tie.Need-add-n Inv-loop μ-loop
 add-n c =
@@ -58,19 +58,19 @@ add-n c =
 cut-of-requires : tie.Need-cut-of-requires Inv-loop μ-loop
 cut-of-requires c κs = search needs
 
-put-plain-if-requires : tie.Need-put-plain-if-requires Inv-loop μ-loop
-put-plain-if-requires c κs =
+put-direct-if-requires : tie.Need-put-direct-if-requires Inv-loop μ-loop
+put-direct-if-requires c κs =
     let args′ = c .before .before .before .before .before .before .before .before .before .before .before .args in
     let loop′ = c .before .before .before .before .before .before .loop in
     let skip-blanks′ = c .before .before .before .before .before .skip-blanks in
-    let plain-end′ = c .before .before .before .before .plain-end in
+    let direct-end′ = c .before .before .before .before .direct-end in
     let cut-of′ = c .cut-of in
     let if1′ = c .before .before .if1 in
     let s = args′ .s .now in
-    let t = plain-turn s (loop′ .c .at) (skip-blanks′ .result .at) (plain-end′ .result) (loop′ .g) (cut-of′ .result) (skip-blanks′ .ensures .2) (cut-of′ .ensures) (plain-end′ .ensures) (if1′ .taken) in
+    let t = direct-turn s (loop′ .c .at) (skip-blanks′ .result .at) (direct-end′ .result) (loop′ .g) (cut-of′ .result) (skip-blanks′ .ensures .2) (cut-of′ .ensures) (direct-end′ .ensures) (if1′ .taken) in
     let u = t .turn in
-    let p = plain-of s _ _ (plain-end′ .ensures) (if1′ .taken) in
-    (plain-inside s _ _ p (if1′ .taken), p, λ z. let k = lent-room u (loop′ .inv .4) z in omega (arith, t .size))
+    let p = direct-of s _ _ (direct-end′ .ensures) (if1′ .taken) in
+    (direct-inside s _ _ p (if1′ .taken), p, λ z. let k = lent-room u (loop′ .inv .4) z in omega (arith, t .size))
 
 cast-b : tie.Need-cast-b Inv-loop μ-loop
 cast-b c = search needs
@@ -80,16 +80,16 @@ add-b c =
     let args′ = c .before .before .before .before .before .before .before .before .before .before .before .before .before .before .args in
     let loop′ = c .before .before .before .before .before .before .before .before .before .loop in
     let skip-blanks′ = c .before .before .before .before .before .before .before .before .skip-blanks in
-    let plain-end′ = c .before .before .before .before .before .before .before .plain-end in
+    let direct-end′ = c .before .before .before .before .before .before .before .direct-end in
     let cut-of′ = c .before .before .before .cut-of in
     let if1′ = c .before .before .before .before .before .if1 in
-    let put-plain-if′ = c .before .before .put-plain-if in
+    let put-direct-if′ = c .before .before .put-direct-if in
     let good′ = c .before .before .before .before .before .before .before .before .before .before .before .before .before .before .good in
     let s = args′ .s .now in
-    let t = plain-turn s (loop′ .c .at) (skip-blanks′ .result .at) (plain-end′ .result) (loop′ .g) (cut-of′ .result) (skip-blanks′ .ensures .2) (cut-of′ .ensures) (plain-end′ .ensures) (if1′ .taken) in
+    let t = direct-turn s (loop′ .c .at) (skip-blanks′ .result .at) (direct-end′ .result) (loop′ .g) (cut-of′ .result) (skip-blanks′ .ensures .2) (cut-of′ .ensures) (direct-end′ .ensures) (if1′ .taken) in
     let u = t .turn in
     let y = t .size in
-    let k = put-plain-if′ .kept .0 in
+    let k = put-direct-if′ .kept .0 in
     let r = good′ .1 .0 .0 in
     ⊎-elim (λ p. omega (arith, k, r)) (λ p. omega arith) (lent-sum u (loop′ .inv .4))
 
@@ -101,11 +101,11 @@ loop-less c =
     let args′ = c .before .before .before .before .before .before .before .before .before .before .before .before .before .before .before .args in
     let loop′ = c .before .before .before .before .before .before .before .before .before .before .loop in
     let skip-blanks′ = c .before .before .before .before .before .before .before .before .before .skip-blanks in
-    let plain-end′ = c .before .before .before .before .before .before .before .before .plain-end in
+    let direct-end′ = c .before .before .before .before .before .before .before .before .direct-end in
     let cut-of′ = c .before .before .before .before .cut-of in
     let if1′ = c .before .before .before .before .before .before .if1 in
     let s = args′ .s .now in
-    let t = plain-turn s (loop′ .c .at) (skip-blanks′ .result .at) (plain-end′ .result) (loop′ .g) (cut-of′ .result) (skip-blanks′ .ensures .2) (cut-of′ .ensures) (plain-end′ .ensures) (if1′ .taken) in
+    let t = direct-turn s (loop′ .c .at) (skip-blanks′ .result .at) (direct-end′ .result) (loop′ .g) (cut-of′ .result) (skip-blanks′ .ensures .2) (cut-of′ .ensures) (direct-end′ .ensures) (if1′ .taken) in
     let u = t .turn in
     omega (arith, u .on, u .within)
 
@@ -114,20 +114,20 @@ loop-again c =
     let args′ = c .before .before .before .before .before .before .before .before .before .before .before .before .before .before .before .args in
     let loop′ = c .before .before .before .before .before .before .before .before .before .before .loop in
     let skip-blanks′ = c .before .before .before .before .before .before .before .before .before .skip-blanks in
-    let plain-end′ = c .before .before .before .before .before .before .before .before .plain-end in
+    let direct-end′ = c .before .before .before .before .before .before .before .before .direct-end in
     let cut-of′ = c .before .before .before .before .cut-of in
     let if1′ = c .before .before .before .before .before .before .if1 in
     let new3′ = c .new3 in
-    let put-plain-if′ = c .before .before .before .put-plain-if in
+    let put-direct-if′ = c .before .before .before .put-direct-if in
     let s = args′ .s .now in
-    let t = plain-turn s (loop′ .c .at) (skip-blanks′ .result .at) (plain-end′ .result) (loop′ .g) (cut-of′ .result) (skip-blanks′ .ensures .2) (cut-of′ .ensures) (plain-end′ .ensures) (if1′ .taken) in
+    let t = direct-turn s (loop′ .c .at) (skip-blanks′ .result .at) (direct-end′ .result) (loop′ .g) (cut-of′ .result) (skip-blanks′ .ensures .2) (cut-of′ .ensures) (direct-end′ .ensures) (if1′ .taken) in
     let u = t .turn in
     let x = u .on in
-    let v = ap (λ h. measuredOf (loop′ .n + 1) (loop′ .b + 13) (walk (length s) 0 h (from s (plain-end′ .result)))) (new3′ .ensures) in
+    let v = ap (λ h. measuredOf (loop′ .n + 1) (loop′ .b + 13) (walk (length s) 0 h (from s (direct-end′ .result)))) (new3′ .ensures) in
     let m = v ∙ measured-turn _ _ _ (loop′ .n) (loop′ .b) 13 (u .walked) (t .size) ∙ loop′ .inv .3 in
-    let q = put-plain-if′ .ensures ∙ ap (λ z. cond (args′ .stores) (sets (loop′ .out) (loop′ .b) z) (loop′ .out)) (sym (t .bytes)) in
+    let q = put-direct-if′ .ensures ∙ ap (λ z. cond (args′ .stores) (sets (loop′ .out) (loop′ .b) z) (loop′ .out)) (sym (t .bytes)) in
     let l = lent-turn u _ 13 (loop′ .inv .4) q (t .size) in
-    (u .within, put-plain-if′ .kept .0 ∙ loop′ .inv .1, omega arith, m, rw (new3′ .ensures) l)
+    (u .within, put-direct-if′ .kept .0 ∙ loop′ .inv .1, omega arith, m, rw (new3′ .ensures) l)
 
 byte-at-requires : tie.Need-byte-at-requires Inv-loop μ-loop
 byte-at-requires c κs = search needs
@@ -424,10 +424,10 @@ walk-script-spec =
     new-requires-2
     loop-holds
     skip-blanks-requires
-    plain-end-requires
+    direct-end-requires
     add-n
     cut-of-requires
-    put-plain-if-requires
+    put-direct-if-requires
     cast-b
     add-b
     new-requires-3

@@ -1,8 +1,8 @@
-use Prim.Native.Nat.{_≤_, _<_, _-_, _+_}
+use Prim.Native.Nat.{_≤_, _-_}
 use mathlib.Core.Path.{_≡_, refl, sym, ap, _∙_}
-use mathlib.Core.Bool.{true, false, not}
+use mathlib.Core.Bool.{not}
 use native.Mathlib.Omega.{arith}
-use lib.ListN.{length, getD}
+use lib.ListN.{length}
 use Rattle.chars.specs.Text.{from, afterRun}
 use Rattle.token.specs.Tests.{endOfLine}
 use Rattle.token.proofs.Comments.{opens-line, pair-at, pair-past, line-stop, line-on, line-end, line-past}

@@ -1,5 +1,4 @@
 -- The first byte that is no blank among two, or the run behind both.
-use Prim.Native.Nat.{_≤_, _+_}
 use mathlib.Core.Path.{refl, sym, ap, _∙_}
 use native.Mathlib.Omega.{arith}
 use borrow.Author.Needs.{needs}

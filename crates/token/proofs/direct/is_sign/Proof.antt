@@ -5,8 +5,8 @@ use Rattle.chars.specs.Code.{bitIn}
 use Rattle.chars.proofs.Carry.{mask-set}
 use Rattle.token.proofs.Bytes.{ascii-list}
 use borrow.Author.Needs.{needs}
-use Rattle.token.proofs.plain.is_sign.Statement.{statement}
-use Rattle.token.proofs.plain.is_sign.Tie as tie
+use Rattle.token.proofs.direct.is_sign.Statement.{statement}
+use Rattle.token.proofs.direct.is_sign.Tie as tie
 
 has-bit-requires : tie.Need-has-bit-requires
 has-bit-requires c κs = search needs

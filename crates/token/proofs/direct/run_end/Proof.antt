@@ -1,6 +1,6 @@
 -- The loop keeps what follows the run from its place on.
 use Prim.Native.Nat.{_≤_, _-_}
-use mathlib.Core.Path.{_≡_, refl, sym, ap, _∙_}
+use mathlib.Core.Path.{_≡_, refl, sym, _∙_}
 use mathlib.Core.Bool.{false}
 use mathlib.Core.Logic.{_⊎_, inl, inr, ⊎-elim}
 use native.Mathlib.Omega.{arith}
@@ -9,10 +9,10 @@ use borrow.Author.Tests.{not-true, not-false}
 use lib.ListN.{length}
 use Rattle.chars.specs.Text.{from, afterRun}
 use Rattle.token.specs.Tests.{freeSign, opensComment}
-use Rattle.token.specs.Code.{Plain}
-use Rattle.token.proofs.PlainLaws.{no-comment, run-more, run-over, first}
-use Rattle.token.proofs.plain.run_end.Statement.{statement}
-use Rattle.token.proofs.plain.run_end.Tie as tie
+use Rattle.token.specs.Code.{Direct}
+use Rattle.token.proofs.DirectLaws.{no-comment, run-more, run-over, first}
+use Rattle.token.proofs.direct.run_end.Statement.{statement}
+use Rattle.token.proofs.direct.run_end.Tie as tie
 
 abbrev Inv-loop : tie.InvT-loop
 Inv-loop s at i₀ i =
@@ -50,7 +50,7 @@ returns-3 c =
     let l = if2′ .left in
     let e = sym (is-op-byte′ .ensures) ∙ not-true _ (if3′ .taken) in
     let q = run-over s (loop′ .i) (loop-test′ .taken) (omega arith) (if1′ .left) e in
-    ⊎-elim (λ p. inl p) (λ p. inr (Plain.signs (pre′ .1) (loop′ .inv .1) (sym q ∙ loop′ .inv .2) p (no-comment s (loop′ .i) (if1′ .left)))) (loop′ .inv .3)
+    ⊎-elim (λ p. inl p) (λ p. inr (Direct.signs (pre′ .1) (loop′ .inv .1) (sym q ∙ loop′ .inv .2) p (no-comment s (loop′ .i) (if1′ .left)))) (loop′ .inv .3)
 
 add-i : tie.Need-add-i Inv-loop μ-loop
 add-i c = search needs

@@ -3,17 +3,17 @@ use mathlib.Core.Path.{sym, ap, _∙_}
 use mathlib.Core.Option.{some, none}
 use Rattle.token.specs.Code.{pieceNumber}
 use Rattle.token.proofs.WordLaws.{key-is, key-not}
-use Rattle.token.proofs.PlainLaws.{plain-run, run-to, run-found}
+use Rattle.token.proofs.DirectLaws.{direct-run, run-to, run-found}
 use borrow.Author.Needs.{needs}
-use Rattle.token.proofs.plain.run_number.Statement.{statement}
-use Rattle.token.proofs.plain.run_number.Tie as tie
+use Rattle.token.proofs.direct.run_number.Statement.{statement}
+use Rattle.token.proofs.direct.run_number.Tie as tie
 
 run-keyword-requires : tie.Need-run-keyword-requires
 run-keyword-requires c κs =
     let args′ = c .before .args in
     let pre′ = c .before .pre in
     let s = args′ .s .now in
-    let w = plain-run s (args′ .at) (args′ .end) (pre′ .0) (pre′ .1) (pre′ .2) (pre′ .3) in
+    let w = direct-run s (args′ .at) (args′ .end) (pre′ .0) (pre′ .1) (pre′ .2) (pre′ .3) in
     run-to s (args′ .at) (args′ .end) (pre′ .0) (w .sign) (w .within) (w .rest)
 
 enum-known-run : tie.Need-enum-known-run
@@ -33,7 +33,7 @@ returns c =
     let run-keyword′ = c .before .before .before .before .run-keyword in
     let number′ = c .number in
     let s = args′ .s .now in
-    let w = plain-run s (args′ .at) (args′ .end) (pre′ .0) (pre′ .1) (pre′ .2) (pre′ .3) in
+    let w = direct-run s (args′ .at) (args′ .end) (pre′ .0) (pre′ .1) (pre′ .2) (pre′ .3) in
     let k = run′ .given .0 .0 in
     let key = key-is _ k (sym (run′ .given .1) ∙ run-keyword′ .ensures) in
     number′ .ensures ∙ ap pieceNumber (run-found s (args′ .at) (args′ .end) (pre′ .0) (w .sign) (w .within) (w .rest) (w .clear) (w .alone) (some k) key)
@@ -45,7 +45,7 @@ returns-2 c =
     let enum-told′ = c .enum-told in
     let run-keyword′ = c .before .before .run-keyword in
     let s = args′ .s .now in
-    let w = plain-run s (args′ .at) (args′ .end) (pre′ .0) (pre′ .1) (pre′ .2) (pre′ .3) in
+    let w = direct-run s (args′ .at) (args′ .end) (pre′ .0) (pre′ .1) (pre′ .2) (pre′ .3) in
     let key = key-not _ (sym (enum-told′ .given .1) ∙ run-keyword′ .ensures) in
     ap pieceNumber (run-found s (args′ .at) (args′ .end) (pre′ .0) (w .sign) (w .within) (w .rest) (w .clear) (w .alone) none key)
 

@@ -25,7 +25,7 @@ use Rattle.token.specs.Flags.{GapKind, fresh, push, cutOf}
 use Rattle.token.specs.Answer.{Found, signOf, scan, afterIdent, codesTo, wordOr, runOr}
 use Rattle.token.specs.Seek.{seek, nextOf}
 use Rattle.token.specs.Measure.{lineEndAt}
-use Rattle.token.specs.Code.{Plain, PlainOr, LeftOf, cursorAt, pieceOf, pieceNumber, signNumber}
+use Rattle.token.specs.Code.{Direct, DirectOr, LeftOf, cursorAt, pieceOf, pieceNumber, signNumber}
 use Rattle.token.specs.declared.gap.Gap.{Gap}
 use Rattle.token.specs.declared.kinds.Kw.{Kw}
 use Rattle.token.specs.declared.kinds.TokenKind.{TokenKind}
@@ -163,19 +163,19 @@ module _ (s : List ℕ) (i e : ℕ) (h : i < length s) where
     pub bare : values kind ≡ []
     pub found : piece.Token kind (cursorAt e) ≡ here
 
-  pub told : Plain s i e → Told
-  told (Plain.single a q) = record { kind = _; bare = sign-bare _; found = ap (λ j. piece.Token (signOf (signText a)) (cursorAt j)) q ∙ sign-found a }
-  told (Plain.letters a l r z) = record { kind = _; bare = word-bare (wordOf (codesTo (from s i) (from s e))); found = word-found a l r z _ refl }
-  told (Plain.signs a l r y z) = record { kind = _; bare = run-bare (runOf (codesTo (from s i) (from s e))); found = run-found a l r y z _ refl }
+  pub told : Direct s i e → Told
+  told (Direct.single a q) = record { kind = _; bare = sign-bare _; found = ap (λ j. piece.Token (signOf (signText a)) (cursorAt j)) q ∙ sign-found a }
+  told (Direct.letters a l r z) = record { kind = _; bare = word-bare (wordOf (codesTo (from s i) (from s e))); found = word-found a l r z _ refl }
+  told (Direct.signs a l r y z) = record { kind = _; bare = run-bare (runOf (codesTo (from s i) (from s e))); found = run-found a l r y z _ refl }
 
   -- ---- which of them, by the first byte
 
-  pub plain-word : Plain s i e → isStart (getD s i 0) ≡ true
+  pub direct-word : Direct s i e → isStart (getD s i 0) ≡ true
       → (e ≤ n) × (from s e ≡ afterIdent false (from s (i + 1))) × (quote (from s e) ≡ false)
-  plain-word (Plain.letters a l r z) b = (l, r, z)
-  plain-word (Plain.single a q) b =
+  direct-word (Direct.letters a l r z) b = (l, r, z)
+  direct-word (Direct.single a q) b =
       clash (sym (carry-not isIdStart (codes "()[]{},;.") (getD s i 0) (start-not "()[]{},;." refl) a) ∙ and-both (ltb (getD s i 0) 0x80) (isIdStart (getD s i 0)) b .1)
-  plain-word (Plain.signs a l r y z) b =
+  direct-word (Direct.signs a l r y z) b =
       clash (sym (sign-no-start (getD s i 0) (and-both (ltb (getD s i 0) 0x80) (isOpSign (getD s i 0)) a .1)) ∙ and-both (ltb (getD s i 0) 0x80) (isIdStart (getD s i 0)) b .1)
 
   pub record Run : Type 0 where
@@ -185,11 +185,11 @@ module _ (s : List ℕ) (i e : ℕ) (h : i < length s) where
     pub clear : opensComment (from s i) ≡ false
     pub alone : opensComment (from s e) ≡ false
 
-  pub plain-run : Plain s i e → isStart (getD s i 0) ≡ false → signNumber (getD s i 0) ≡ 0 → Run
+  pub direct-run : Direct s i e → isStart (getD s i 0) ≡ false → signNumber (getD s i 0) ≡ 0 → Run
   unfolding signNumber
-  plain-run (Plain.signs a l r y z) b c = record { sign = a; within = l; rest = r; clear = y; alone = z }
-  plain-run (Plain.letters a l r z) b c = clash (sym b ∙ a)
-  plain-run (Plain.single a q) b c = let z = rw a at c in let k = sign-counts (record { code = getD s i 0; at = 0 } ∷ []) in absurd (omega arith)
+  direct-run (Direct.signs a l r y z) b c = record { sign = a; within = l; rest = r; clear = y; alone = z }
+  direct-run (Direct.letters a l r z) b c = clash (sym b ∙ a)
+  direct-run (Direct.single a q) b c = let z = rw a at c in let k = sign-counts (record { code = getD s i 0; at = 0 } ∷ []) in absurd (omega arith)
 
 -- a byte whose sign number is not 0 is a sign
 pub counted-sign : (b : ℕ) → (signNumber b ≡ 0 → ⊥) → oneOf "()[]{},;." b ≡ true
@@ -201,26 +201,26 @@ counted-sign b h = go (oneOf "()[]{},;." b) refl
     go false e = absurd (h (rw e))
 
 -- where the end is another place
-pub plain-of : (s : List ℕ) (i e : ℕ) → PlainOr s i e → i < e → Plain s i e
-plain-of s i e (inl q) l = absurd (omega arith)
-plain-of s i e (inr p) l = p
+pub direct-of : (s : List ℕ) (i e : ℕ) → DirectOr s i e → i < e → Direct s i e
+direct-of s i e (inl q) l = absurd (omega arith)
+direct-of s i e (inr p) l = p
 
 -- it begins within the script
-pub plain-inside : (s : List ℕ) (i e : ℕ) → Plain s i e → i < e → i < length s
-plain-inside s i e (Plain.single a q) l = inside s i (sign-low (getD s i 0) a .0)
-plain-inside s i e (Plain.letters a w r z) l = omega arith
-plain-inside s i e (Plain.signs a w r y z) l = omega arith
+pub direct-inside : (s : List ℕ) (i e : ℕ) → Direct s i e → i < e → i < length s
+direct-inside s i e (Direct.single a q) l = inside s i (sign-low (getD s i 0) a .0)
+direct-inside s i e (Direct.letters a w r z) l = omega arith
+direct-inside s i e (Direct.signs a w r y z) l = omega arith
 
 -- ---- what the code finds
 
 -- a word up to a byte of ASCII that is neither `_` nor a quote
-pub word-plain : (s : List ℕ) (i e : ℕ) → i < length s → isStart (getD s i 0) ≡ true → e ≡ place (length s) (afterRun asciiIdChar (from s (i + 1)))
-    → getD s e 0 < 0x80 → (getD s e 0 ≡ 0x5F → ⊥) → (getD s e 0 ≡ 0x22 → ⊥) → Plain s i e
-word-plain s i e h a q l u z =
+pub word-direct : (s : List ℕ) (i e : ℕ) → i < length s → isStart (getD s i 0) ≡ true → e ≡ place (length s) (afterRun asciiIdChar (from s (i + 1)))
+    → getD s e 0 < 0x80 → (getD s e 0 ≡ 0x5F → ⊥) → (getD s e 0 ≡ 0x22 → ⊥) → Direct s i e
+word-direct s i e h a q l u z =
     let k : i + 1 ≤ length s = omega arith in
     let w = ascii-whole s (i + 1) e k q l in
     let p : e ≡ place (length s) (afterRun idChar (from s (i + 1))) = sym (ap (place (length s)) (w .2) ∙ place-from s e (w .1)) in
-    Plain.letters a (w .1) (pass-all s (i + 1) e k p u) (quote-byte s e ∙ ne-eqb (getD s e 0) 0x22 z)
+    Direct.letters a (w .1) (pass-all s (i + 1) e k p u) (quote-byte s e ∙ ne-eqb (getD s e 0) 0x22 z)
 
 -- one more sign of a run, or its end
 module _ (s : List ℕ) (i : ℕ) (h : i < length s) (l : getD s i 0 < 0x80) (c : getD s i 0 ≡ 0x2F → ⊥) where
@@ -263,16 +263,16 @@ pub next-blanks : (s : List ℕ) (i d : ℕ) (g : Gap) → from s d ≡ afterRun
 next-blanks s i d g e = ap (nextOf (length s)) (ap (seek (length s) 0 g) e ∙ seek-blanks (length s) g (from s i))
 
 module _ (s : List ℕ) (i d e : ℕ) (g : Gap) (cut : Bool) where
-  pub record PlainTurn : Type 0 where
+  pub record DirectTurn : Type 0 where
     pub token : Token
     pub turn : Turn s i g token e fresh
     pub size : 13 ≡ recordLength (token .kind)
     pub bytes : recordOf token ≡ fieldsOf 13 (pieceNumber (pieceOf (length s) (scan (length s) (from s d)))) d e cut
 
-  pub plain-turn : from s d ≡ afterRun (isAny " \t") (from s i) → cut ≡ cutOf g → PlainOr s d e → d < e → PlainTurn
-  plain-turn b c o l =
-      let p = plain-of s d e o l in
-      let h = plain-inside s d e p l in
+  pub direct-turn : from s d ≡ afterRun (isAny " \t") (from s i) → cut ≡ cutOf g → DirectOr s d e → d < e → DirectTurn
+  direct-turn b c o l =
+      let p = direct-of s d e o l in
+      let h = direct-inside s d e p l in
       let t = told s d e h p in
       let k = t .kind in
       let q = next-token s d g h k (cursorAt e) cut c (t .found) ∙ next-blanks s i d g b in

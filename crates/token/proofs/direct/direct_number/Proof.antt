@@ -1,9 +1,9 @@
 -- By the first byte.
 use mathlib.Core.Path.{sym, _∙_}
-use Rattle.token.proofs.PlainLaws.{counted-sign, sign-number}
+use Rattle.token.proofs.DirectLaws.{counted-sign, sign-number}
 use borrow.Author.Needs.{needs}
-use Rattle.token.proofs.plain.plain_number.Statement.{statement}
-use Rattle.token.proofs.plain.plain_number.Tie as tie
+use Rattle.token.proofs.direct.direct_number.Statement.{statement}
+use Rattle.token.proofs.direct.direct_number.Tie as tie
 
 shared-slice-read-b : tie.Need-shared-slice-read-b
 shared-slice-read-b c = search needs
@@ -50,8 +50,8 @@ returns-3 c =
     let run-number′ = c .run-number in
     run-number′ .ensures
 
-pub plain-number-spec : {M : Type 1} → statement M
-plain-number-spec =
+pub direct-number-spec : {M : Type 1} → statement M
+direct-number-spec =
     tie.close
     (tie.spec
     shared-slice-read-b

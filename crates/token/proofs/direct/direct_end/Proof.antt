@@ -2,10 +2,10 @@
 use mathlib.Core.Path.{refl, sym, _∙_}
 use mathlib.Core.Logic.{inl, inr}
 use native.Mathlib.Omega.{arith}
-use Rattle.token.specs.Code.{Plain}
+use Rattle.token.specs.Code.{Direct}
 use borrow.Author.Needs.{needs}
-use Rattle.token.proofs.plain.plain_end.Statement.{statement}
-use Rattle.token.proofs.plain.plain_end.Tie as tie
+use Rattle.token.proofs.direct.direct_end.Statement.{statement}
+use Rattle.token.proofs.direct.direct_end.Tie as tie
 
 returns : tie.Need-returns
 returns c = inl refl
@@ -39,7 +39,7 @@ returns-3 : tie.Need-returns-3
 returns-3 c =
     let is-sign′ = c .before .is-sign in
     let if3′ = c .if3 in
-    inr (Plain.single (sym (is-sign′ .ensures) ∙ if3′ .taken) refl)
+    inr (Direct.single (sym (is-sign′ .ensures) ∙ if3′ .taken) refl)
 
 is-op-byte-requires : tie.Need-is-op-byte-requires
 is-op-byte-requires c κs = search needs
@@ -60,8 +60,8 @@ returns-4 c =
 returns-5 : tie.Need-returns-5
 returns-5 c = inl refl
 
-pub plain-end-spec : {M : Type 1} → statement M
-plain-end-spec =
+pub direct-end-spec : {M : Type 1} → statement M
+direct-end-spec =
     tie.close
     (tie.spec
     returns

@@ -16,7 +16,7 @@ ghost use Rattle.chars.specs.Quoted.{oneOf};
 ghost use Rattle.chars.specs.Classes.{isIdStart, isOpSign};
 ghost use Rattle.chars.specs.Text.{from};
 ghost use Rattle.token.specs.Answer.{scan};
-ghost use Rattle.token.specs.Code.{Plain, PlainOr, pieceOf, pieceNumber, signNumber};
+ghost use Rattle.token.specs.Code.{Direct, DirectOr, pieceOf, pieceNumber, signNumber};
 ghost use Rattle.token.specs.Records.{fieldsOf};
 
 // Whether the byte is one of the nine signs.
@@ -29,7 +29,7 @@ fn is_sign(b: u8) -> bool
 // Where the word ends that begins there; the place itself, where more than ASCII id characters must be looked at.
 fn word_end(s: &[u8], at: usize) -> usize
     requires { ⌜ (at < length (now s)) × (ltb (getD (now s) at 0) 0x80 && isIdStart (getD (now s) at 0) ≡ true) ⌝ }
-    ensures { λ r. ⌜ PlainOr (now (s .entry)) at r ⌝ }
+    ensures { λ r. ⌜ DirectOr (now (s .entry)) at r ⌝ }
 {
     let end = chars::classes::ascii_run_end(s, at + 1);
     let b = byte_at(s, end);
@@ -49,7 +49,7 @@ fn word_end(s: &[u8], at: usize) -> usize
 // end too, which is rare and left to the others.
 fn run_end(s: &[u8], at: usize) -> usize
     requires { ⌜ (at < length (now s)) × (ltb (getD (now s) at 0) 0x80 && isOpSign (getD (now s) at 0) ≡ true) ⌝ }
-    ensures { λ r. ⌜ PlainOr (now (s .entry)) at r ⌝ }
+    ensures { λ r. ⌜ DirectOr (now (s .entry)) at r ⌝ }
 {
     let mut i = at;
     while i < s.len() {
@@ -69,8 +69,8 @@ fn run_end(s: &[u8], at: usize) -> usize
 }
 
 // Where the token ends that begins there, if its ASCII bytes tell it; else the place itself.
-pub fn plain_end(s: &[u8], at: usize) -> usize
-    ensures { λ r. ⌜ PlainOr (now (s .entry)) at r ⌝ }
+pub fn direct_end(s: &[u8], at: usize) -> usize
+    ensures { λ r. ⌜ DirectOr (now (s .entry)) at r ⌝ }
 {
     if s.len() <= at {
         return at;
@@ -115,7 +115,7 @@ fn starts_word(b: u8) -> bool
 
 // The kind's number of the word from `at` to `end`.
 fn word_number(s: &[u8], at: usize, end: usize) -> u16
-    requires { ⌜ (at < length (now s)) × Plain (now s) at end × (ltb (getD (now s) at 0) 0x80 && isIdStart (getD (now s) at 0) ≡ true) ⌝ }
+    requires { ⌜ (at < length (now s)) × Direct (now s) at end × (ltb (getD (now s) at 0) 0x80 && isIdStart (getD (now s) at 0) ≡ true) ⌝ }
     ensures { λ r. ⌜ r ≡ pieceNumber (pieceOf (length (now (s .entry))) (scan (length (now (s .entry))) (from (now (s .entry)) at))) ⌝ }
 {
     if !starts_word(s[at]) {
@@ -130,7 +130,7 @@ fn word_number(s: &[u8], at: usize, end: usize) -> u16
 
 // The kind's number of the run of operator signs from `at` to `end`.
 fn run_number(s: &[u8], at: usize, end: usize) -> u16
-    requires { ⌜ (at < length (now s)) × Plain (now s) at end × (ltb (getD (now s) at 0) 0x80 && isIdStart (getD (now s) at 0) ≡ false) × (signNumber (getD (now s) at 0) ≡ 0) ⌝ }
+    requires { ⌜ (at < length (now s)) × Direct (now s) at end × (ltb (getD (now s) at 0) 0x80 && isIdStart (getD (now s) at 0) ≡ false) × (signNumber (getD (now s) at 0) ≡ 0) ⌝ }
     ensures { λ r. ⌜ r ≡ pieceNumber (pieceOf (length (now (s .entry))) (scan (length (now (s .entry))) (from (now (s .entry)) at))) ⌝ }
 {
     let run = run_keyword(s, at, end);
@@ -141,8 +141,8 @@ fn run_number(s: &[u8], at: usize, end: usize) -> u16
 }
 
 // The kind's number of such a token from `at` to `end`.
-fn plain_number(s: &[u8], at: usize, end: usize) -> u16
-    requires { ⌜ (at < length (now s)) × Plain (now s) at end ⌝ }
+fn direct_number(s: &[u8], at: usize, end: usize) -> u16
+    requires { ⌜ (at < length (now s)) × Direct (now s) at end ⌝ }
     ensures { λ r. ⌜ r ≡ pieceNumber (pieceOf (length (now (s .entry))) (scan (length (now (s .entry))) (from (now (s .entry)) at))) ⌝ }
 {
     let b = s[at];
@@ -157,7 +157,7 @@ fn plain_number(s: &[u8], at: usize, end: usize) -> u16
 }
 
 // Stores the record of such a token, where records are to be stored.
-pub fn put_plain_if(
+pub fn put_direct_if(
     out: &mut [u8],
     s: &[u8],
     w: usize,
@@ -166,11 +166,11 @@ pub fn put_plain_if(
     cut: bool,
     stores: bool,
 )
-    requires { ⌜ (start < length (now s)) × Plain (now s) start end × (stores ≡ true → w + 13 ≤ length (now out)) ⌝ }
+    requires { ⌜ (start < length (now s)) × Direct (now s) start end × (stores ≡ true → w + 13 ≤ length (now out)) ⌝ }
     ensures { λ r. ⌜ now (out .exit) ≡ cond stores (sets (now (out .entry)) w (fieldsOf 13 (pieceNumber (pieceOf (length (now (s .entry))) (scan (length (now (s .entry))) (from (now (s .entry)) start)))) start end cut)) (now (out .entry)) ⌝ }
 {
     if stores {
-        let number = plain_number(s, start, end);
+        let number = direct_number(s, start, end);
         put_fields(out, w, TokenKind::HEAD_LENGTH, number, start, end, cut);
         return;
     }

@@ -1,12 +1,10 @@
 -- Each sign by its byte; any other is none of the nine.
-use mathlib.Core.Path.{refl, sym, ap, _∙_}
-use mathlib.Core.Bool.{Bool, cond}
+use mathlib.Core.Path.{sym, ap}
 use borrow.Author.Tests.{ne-eqb}
-use Rattle.chars.specs.Quoted.{oneOf}
 use Rattle.token.specs.Answer.{signOf}
 use Rattle.token.specs.Code.{signNumber}
-use Rattle.token.proofs.plain.sign_number.Statement.{statement}
-use Rattle.token.proofs.plain.sign_number.Tie as tie
+use Rattle.token.proofs.direct.sign_number.Statement.{statement}
+use Rattle.token.proofs.direct.sign_number.Tie as tie
 
 returns : tie.Need-returns
 unfolding signNumber signOf

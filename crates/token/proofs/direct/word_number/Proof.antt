@@ -7,10 +7,10 @@ use Rattle.chars.specs.Quoted.{codes}
 use Rattle.token.specs.Kinds.{nineWords}
 use Rattle.token.specs.Code.{pieceNumber}
 use Rattle.token.proofs.WordLaws.{key-is, key-not, word-at, first-none}
-use Rattle.token.proofs.PlainLaws.{plain-word, word-left, word-found}
+use Rattle.token.proofs.DirectLaws.{direct-word, word-left, word-found}
 use borrow.Author.Needs.{needs}
-use Rattle.token.proofs.plain.word_number.Statement.{statement}
-use Rattle.token.proofs.plain.word_number.Tie as tie
+use Rattle.token.proofs.direct.word_number.Statement.{statement}
+use Rattle.token.proofs.direct.word_number.Tie as tie
 
 shared-slice-read-starts-word : tie.Need-shared-slice-read-starts-word
 shared-slice-read-starts-word c = search needs
@@ -25,7 +25,7 @@ returns c =
     let starts-word′ = c .before .starts-word in
     let if1′ = c .if1 in
     let s = args′ .s .now in
-    let w = plain-word s (args′ .at) (args′ .end) (pre′ .0) (pre′ .1) (pre′ .2) in
+    let w = direct-word s (args′ .at) (args′ .end) (pre′ .0) (pre′ .1) (pre′ .2) in
     let l = word-left s (args′ .at) (args′ .end) (pre′ .0) (pre′ .2) (w .0) (w .1) in
     let b = sym (starts-word′ .ensures) ∙ not-true _ (if1′ .taken) in
     let key = word-at s (args′ .at) (args′ .end) (l .0) (l .1) (l .2) ∙ first-none (codes "cefimrt") nineWords (args′ .end - args′ .at) s (args′ .at) refl b in
@@ -36,7 +36,7 @@ word-keyword-requires c κs =
     let args′ = c .before .before .before .before .args in
     let pre′ = c .before .before .before .before .pre in
     let s = args′ .s .now in
-    let w = plain-word s (args′ .at) (args′ .end) (pre′ .0) (pre′ .1) (pre′ .2) in
+    let w = direct-word s (args′ .at) (args′ .end) (pre′ .0) (pre′ .1) (pre′ .2) in
     word-left s (args′ .at) (args′ .end) (pre′ .0) (pre′ .2) (w .0) (w .1)
 
 enum-known-word : tie.Need-enum-known-word
@@ -56,7 +56,7 @@ returns-2 c =
     let word-keyword′ = c .before .before .before .before .word-keyword in
     let number′ = c .number in
     let s = args′ .s .now in
-    let w = plain-word s (args′ .at) (args′ .end) (pre′ .0) (pre′ .1) (pre′ .2) in
+    let w = direct-word s (args′ .at) (args′ .end) (pre′ .0) (pre′ .1) (pre′ .2) in
     let k = word′ .given .0 .0 in
     let key = key-is _ k (sym (word′ .given .1) ∙ word-keyword′ .ensures) in
     number′ .ensures ∙ ap pieceNumber (word-found s (args′ .at) (args′ .end) (pre′ .0) (pre′ .2) (w .0) (w .1) (w .2) (some k) key)
@@ -68,7 +68,7 @@ returns-3 c =
     let enum-told′ = c .enum-told in
     let word-keyword′ = c .before .before .word-keyword in
     let s = args′ .s .now in
-    let w = plain-word s (args′ .at) (args′ .end) (pre′ .0) (pre′ .1) (pre′ .2) in
+    let w = direct-word s (args′ .at) (args′ .end) (pre′ .0) (pre′ .1) (pre′ .2) in
     let key = key-not _ (sym (enum-told′ .given .1) ∙ word-keyword′ .ensures) in
     ap pieceNumber (word-found s (args′ .at) (args′ .end) (pre′ .0) (pre′ .2) (w .0) (w .1) (w .2) none key)
 

@@ -1,11 +1,11 @@
 -- By the byte that follows the ASCII id characters.
-use mathlib.Core.Path.{refl, sym, _∙_}
+use mathlib.Core.Path.{refl, _∙_}
 use mathlib.Core.Logic.{inl, inr}
 use native.Mathlib.Omega.{arith}
-use Rattle.token.proofs.PlainLaws.{word-plain}
+use Rattle.token.proofs.DirectLaws.{word-direct}
 use borrow.Author.Needs.{needs}
-use Rattle.token.proofs.plain.word_end.Statement.{statement}
-use Rattle.token.proofs.plain.word_end.Tie as tie
+use Rattle.token.proofs.direct.word_end.Statement.{statement}
+use Rattle.token.proofs.direct.word_end.Tie as tie
 
 add-ascii-run-end : tie.Need-add-ascii-run-end
 add-ascii-run-end c = search needs
@@ -36,7 +36,7 @@ returns-4 c =
     let if3′ = c .if3 in
     let e = byte-at′ .ensures in
     let l = if1′ .left in
-    inr (word-plain (args′ .s .now) (args′ .at) _ (pre′ .0) (pre′ .1) (ascii-run-end′ .ensures) (omega arith) (λ q. if2′ .left (e ∙ q)) (λ q. if3′ .left (e ∙ q)))
+    inr (word-direct (args′ .s .now) (args′ .at) _ (pre′ .0) (pre′ .1) (ascii-run-end′ .ensures) (omega arith) (λ q. if2′ .left (e ∙ q)) (λ q. if3′ .left (e ∙ q)))
 
 pub word-end-spec : {M : Type 1} → statement M
 word-end-spec =
