@@ -1,4 +1,4 @@
--- Runs of bytes that have a property, tested by eights.
+-- Runs of bytes that have a property, tested by eights and thirty-twos.
 use Prim.Native.Nat.{ℕ, _+_, _≤_}
 use mathlib.Core.Path.{_≡_, refl}
 use mathlib.Core.Bool.{Bool, true, false, not, _&&_}
@@ -7,7 +7,7 @@ use lib.ListN.{length, getD}
 use lib.Dec.{eqb, leb, ltb}
 use native.Mathlib.Omega.{arith}
 use borrow.Author.Tests.{leb-true, ltb-true, ltb-false, eqb-false, not-true}
-use Rattle.chars.specs.Code.{Each, fourBy, eightBy, Within, AllIn, twoIn, eightIn, Other, NoneOf, andOther, twoNot, eightNot}
+use Rattle.chars.specs.Code.{Each, fourBy, eightBy, sixteenBy, thirtyTwoBy, Within, AllIn, twoIn, eightIn, thirtyTwoIn, Other, NoneOf, andOther, twoNot, eightNot}
 use Rattle.chars.proofs.Bools.{and-both}
 
 -- ---- any property
@@ -16,7 +16,7 @@ module _ (P : ℕ → Type 0) (s : List ℕ) where
   each-one : (i : ℕ) → P (getD s i 0) → Each P s i (i + 1)
   each-one i a k l m = let z : k ≡ i = omega arith in rw z a
 
-  each-join : (i j m : ℕ) → Each P s i j → Each P s j m → Each P s i m
+  pub each-join : (i j m : ℕ) → Each P s i j → Each P s j m → Each P s i m
   each-join i j m a b k l h = go (ltb k j) refl
     where
       go : (x : Bool) → ltb k j ≡ x → P (getD s k 0)
@@ -26,28 +26,41 @@ module _ (P : ℕ → Type 0) (s : List ℕ) where
   each-two : (i : ℕ) → P (getD s i 0) → P (getD s (i + 1) 0) → Each P s i (i + 2)
   each-two i a b k l m = each-join i (i + 1) (i + 1 + 1) (each-one i a) (each-one (i + 1) b) k l (omega arith)
 
+  -- by two tests: up to j, and of the n bytes there
+  each-and : {p q : Bool} (i j n m : ℕ) → m ≤ j + n → (p ≡ true → Each P s i j) → (q ≡ true → Each P s j (j + n)) → p && q ≡ true → Each P s i m
+  each-and {p} {q} i j n m h a b e k l u = let c = and-both p q e in each-join i j (j + n) (a (c .0)) (b (c .1)) k l (omega arith)
+
+  -- n bytes that stand there
+  each-here : {p : Bool} (i n : ℕ) → (p ≡ true → Each P s i (i + n)) → leb (i + n) (length s) && p ≡ true → (i + n ≤ length s) × Each P s i (i + n)
+  each-here {p} i n a e = let c = and-both (leb (i + n) (length s)) p e in (leb-true (i + n) (length s) (c .0), a (c .1))
+
+  -- n more
+  each-more : (i j n : ℕ) → Each P s i j → (j + n ≤ length s) × Each P s j (j + n) → (j + n ≤ length s) × Each P s i (j + n)
+  each-more i j n a b = (b .0, each-join i j (j + n) a (b .1))
+
 -- a test of two bytes by which both have it
 module _ (P : ℕ → Type 0) (s : List ℕ) (two : List ℕ → ℕ → Bool) (both : (i : ℕ) → two s i ≡ true → P (getD s i 0) × P (getD s (i + 1) 0)) where
+  two-each : (i : ℕ) → two s i ≡ true → Each P s i (i + 2)
+  two-each i e = let x = both i e in each-two P s i (x .0) (x .1)
+
   four-each : (i : ℕ) → fourBy two s i ≡ true → Each P s i (i + 4)
   unfolding fourBy
-  four-each i e k l m =
-      let b = and-both (two s i) (two s (i + 2)) e in
-      let x = both i (b .0) in
-      let y = both (i + 2) (b .1) in
-      each-join P s i (i + 2) (i + 2 + 2) (each-two P s i (x .0) (x .1)) (each-two P s (i + 2) (y .0) (y .1)) k l (omega arith)
+  four-each i = each-and P s i (i + 2) 2 (i + 4) (omega arith) (two-each i) (two-each (i + 2))
 
   eight-each : (i : ℕ) → eightBy two s i ≡ true → (i + 8 ≤ length s) × Each P s i (i + 8)
   unfolding eightBy
-  eight-each i e =
-      let a = and-both (leb (i + 8) (length s)) (fourBy two s i && fourBy two s (i + 4)) e in
-      let b = and-both (fourBy two s i) (fourBy two s (i + 4)) (a .1) in
-      let x = four-each i (b .0) in
-      let y = four-each (i + 4) (b .1) in
-      (leb-true (i + 8) (length s) (a .0), λ k l m. each-join P s i (i + 4) (i + 4 + 4) x y k l (omega arith))
+  eight-each i = each-here P s i 8 (each-and P s i (i + 4) 4 (i + 8) (omega arith) (four-each i) (four-each (i + 4)))
 
-  -- eight more
-  each-more : (i j : ℕ) → Each P s i j → eightBy two s j ≡ true → (j + 8 ≤ length s) × Each P s i (j + 8)
-  each-more i j a e = let b = eight-each j e in (b .0, each-join P s i j (j + 8) a (b .1))
+  sixteen-each : (i : ℕ) → sixteenBy two s i ≡ true → Each P s i (i + 16)
+  unfolding sixteenBy
+  sixteen-each i =
+      let a = each-and P s i (i + 4) 4 (i + 8) (omega arith) (four-each i) (four-each (i + 4)) in
+      let b = each-and P s i (i + 8) 4 (i + 12) (omega arith) a (four-each (i + 8)) in
+      each-and P s i (i + 12) 4 (i + 16) (omega arith) b (four-each (i + 12))
+
+  thirty-two-each : (i : ℕ) → thirtyTwoBy two s i ≡ true → (i + 32 ≤ length s) × Each P s i (i + 32)
+  unfolding thirtyTwoBy
+  thirty-two-each i = each-here P s i 32 (each-and P s i (i + 16) 16 (i + 32) (omega arith) (sixteen-each i) (sixteen-each (i + 16)))
 
 -- ---- bytes of a range
 
@@ -66,7 +79,10 @@ module _ (low high : ℕ) (s : List ℕ) where
   eight-all = eight-each (Within low high) s (twoIn low high) both-in
 
   pub all-more : (i j : ℕ) → AllIn low high s i j → eightIn low high s j ≡ true → (j + 8 ≤ length s) × AllIn low high s i (j + 8)
-  all-more = each-more (Within low high) s (twoIn low high) both-in
+  all-more i j a e = each-more (Within low high) s i j 8 a (eight-all j e)
+
+  pub all-long : (i j : ℕ) → AllIn low high s i j → thirtyTwoIn low high s j ≡ true → (j + 32 ≤ length s) × AllIn low high s i (j + 32)
+  all-long i j a e = each-more (Within low high) s i j 32 a (thirty-two-each (Within low high) s (twoIn low high) both-in j e)
 
 -- ---- bytes that are none of four
 
@@ -90,4 +106,4 @@ module _ (a b c d : ℕ) where
         (and-other true (getD s i 0) (y .0) .1, y .1)
 
     pub none-more : (i j : ℕ) → NoneOf a b c d s i j → eightNot a b c d s j ≡ true → (j + 8 ≤ length s) × NoneOf a b c d s i (j + 8)
-    none-more = each-more (Other a b c d) s (twoNot a b c d) both-not
+    none-more i j h e = each-more (Other a b c d) s i j 8 h (eight-each (Other a b c d) s (twoNot a b c d) both-not j e)

@@ -27,7 +27,7 @@ asciiIdChar t = head (λ c. ltb c 0x80 && isIdChar c) t
 unfoldable pub russianAt : List ℕ → ℕ → Bool
 russianAt s i = fits (0xD0 to 0xD0 ∷ 0x90 to 0xBF ∷ []) (drop i s) || fits (0xD1 to 0xD1 ∷ 0x80 to 0x8F ∷ []) (drop i s)
 
--- ---- runs of bytes, tested by eights
+-- ---- runs of bytes, tested by eights and thirty-twos
 
 -- every byte from the place i to the place j has the property
 abbrev pub Each : (ℕ → Type 0) → List ℕ → ℕ → ℕ → Type 0
@@ -40,6 +40,13 @@ fourBy two s i = two s i && two s (i + 2)
 -- do eight bytes stand there, and pass it?
 unfoldable pub eightBy : (List ℕ → ℕ → Bool) → List ℕ → ℕ → Bool
 eightBy two s i = leb (i + 8) (length s) && (fourBy two s i && fourBy two s (i + 4))
+
+-- the same of sixteen bytes, and of thirty-two
+unfoldable pub sixteenBy : (List ℕ → ℕ → Bool) → List ℕ → ℕ → Bool
+sixteenBy two s i = ((fourBy two s i && fourBy two s (i + 4)) && fourBy two s (i + 8)) && fourBy two s (i + 12)
+
+unfoldable pub thirtyTwoBy : (List ℕ → ℕ → Bool) → List ℕ → ℕ → Bool
+thirtyTwoBy two s i = leb (i + 32) (length s) && (sixteenBy two s i && sixteenBy two s (i + 16))
 
 -- ---- bytes of a range, from low to high
 
@@ -57,6 +64,12 @@ fourIn low high = fourBy (twoIn low high)
 
 abbrev pub eightIn : ℕ → ℕ → List ℕ → ℕ → Bool
 eightIn low high = eightBy (twoIn low high)
+
+abbrev pub sixteenIn : ℕ → ℕ → List ℕ → ℕ → Bool
+sixteenIn low high = sixteenBy (twoIn low high)
+
+abbrev pub thirtyTwoIn : ℕ → ℕ → List ℕ → ℕ → Bool
+thirtyTwoIn low high = thirtyTwoBy (twoIn low high)
 
 -- ---- bytes that are none of four
 

@@ -1,9 +1,9 @@
-// Bytes of a range, and bytes that are none of four: eight by one test. `&` looks at all of them, without a branch.
+// Bytes of a range, and bytes that are none of four: eight by one test, or thirty-two. `&` looks at all of them, without a branch.
 ghost use mathlib.Core.Path.{_≡_};
 ghost use mathlib.Core.Bool.{false};
 ghost use Prim.Native.Nat.{_+_, _≤_};
 ghost use lib.ListN.{length};
-ghost use Rattle.chars.specs.Code.{AllIn, twoIn, fourIn, eightIn, NoneOf, twoNot, fourNot, eightNot};
+ghost use Rattle.chars.specs.Code.{AllIn, twoIn, fourIn, eightIn, sixteenIn, thirtyTwoIn, NoneOf, twoNot, fourNot, eightNot};
 
 fn two_in(s: &[u8], at: usize, low: u8, high: u8) -> bool
     requires { ⌜ at + 2 ≤ length (now s) ⌝ }
@@ -39,6 +39,40 @@ pub fn skip_eights(s: &[u8], at: usize, low: u8, high: u8) -> usize
     let mut i = at;
     while eight_in(s, i, low, high) {
         i += 8;
+    }
+    i
+}
+
+fn sixteen_in(s: &[u8], at: usize, low: u8, high: u8) -> bool
+    requires { ⌜ at + 16 ≤ length (now s) ⌝ }
+    ensures { λ r. ⌜ r ≡ sixteenIn low high (now (s .entry)) at ⌝ }
+{
+    four_in(s, at, low, high)
+        & four_in(s, at + 4, low, high)
+        & four_in(s, at + 8, low, high)
+        & four_in(s, at + 12, low, high)
+}
+
+// Whether thirty-two bytes stand at a place, all of them in the range.
+fn thirty_two_in(s: &[u8], at: usize, low: u8, high: u8) -> bool
+    ensures { λ r. ⌜ r ≡ thirtyTwoIn low high (now (s .entry)) at ⌝ }
+{
+    if s.len() < 32 {
+        return false;
+    }
+    if s.len() - 32 < at {
+        return false;
+    }
+    sixteen_in(s, at, low, high) & sixteen_in(s, at + 16, low, high)
+}
+
+// As `skip_eights`, by thirty-twos: for long runs.
+pub fn skip_long(s: &[u8], at: usize, low: u8, high: u8) -> usize
+    ensures { λ r. ⌜ (at ≤ r) × (at ≤ length (now (s .entry)) → r ≤ length (now (s .entry))) × AllIn low high (now (s .entry)) at r × (thirtyTwoIn low high (now (s .entry)) r ≡ false) ⌝ }
+{
+    let mut i = at;
+    while thirty_two_in(s, i, low, high) {
+        i += 32;
     }
     i
 }

@@ -1,5 +1,6 @@
 // UTF-8 by the Unicode Standard, Table 3-7.
 use crate::eights::skip_eights;
+use crate::eights::skip_long;
 ghost use mathlib.Core.Path.{_≡_};
 ghost use mathlib.Core.Bool.{cond};
 ghost use mathlib.Core.List.{[], _∷_};
@@ -138,7 +139,8 @@ pub fn valid_prefix(s: &[u8]) -> usize
     let mut i = 0;
     while i < s.len() {
         if s[i] < 0x80 {
-            i = skip_eights(s, i + 1, 0x00, 0x7F);
+            let from = skip_long(s, i + 1, 0x00, 0x7F);
+            i = skip_eights(s, from, 0x00, 0x7F);
         } else if pair_in(s, i, 0xC2, 0xDF, 0x80, 0xBF) {
             i += 2;
         } else {

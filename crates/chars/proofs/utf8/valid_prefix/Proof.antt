@@ -3,7 +3,9 @@ use mathlib.Core.Path.{_≡_, refl, sym, _∙_}
 use native.Mathlib.Omega.{arith}
 use borrow.Author.Needs.{needs}
 use lib.ListN.{length, drop}
+use Rattle.chars.specs.Code.{Within}
 use Rattle.chars.specs.Utf8.{validFrom}
+use Rattle.chars.proofs.Spans.{each-join}
 use Rattle.chars.proofs.Valid.{valid}
 use Rattle.chars.proofs.Widths.{width-within, valid-stop, valid-next, valid-end, valid-to, valid-two}
 use Rattle.chars.proofs.utf8.valid_prefix.Statement.{statement}
@@ -21,8 +23,11 @@ loop-holds c = (omega arith, refl)
 shared-slice-read-if1 : tie.Need-shared-slice-read-if1 Inv-loop μ-loop
 shared-slice-read-if1 c = search needs
 
-add-skip-eights : tie.Need-add-skip-eights Inv-loop μ-loop
-add-skip-eights c = omega arith
+add-skip-long : tie.Need-add-skip-long Inv-loop μ-loop
+add-skip-long c = omega arith
+
+skip-long-requires : tie.Need-skip-long-requires Inv-loop μ-loop
+skip-long-requires c κs = search needs
 
 skip-eights-requires : tie.Need-skip-eights-requires Inv-loop μ-loop
 skip-eights-requires c κs = search needs
@@ -30,17 +35,21 @@ skip-eights-requires c κs = search needs
 -- past ASCII
 loop-less : tie.Need-loop-less Inv-loop μ-loop
 loop-less c =
-    let a = c .skip-eights .ensures .0 in
-    let b = c .skip-eights .ensures .1 (omega arith) in
-    omega arith
+    let a = c .before .skip-long .ensures in
+    let l = a .1 (omega arith) in
+    let b = c .skip-eights .ensures in
+    let m = b .1 l in
+    omega (arith, a .0, b .0)
 
 loop-again : tie.Need-loop-again Inv-loop μ-loop
 loop-again c =
-    let s = c .before .before .before .before .before .before .args .s .now in
-    let loop = c .before .before .before .before .loop in
-    let a = c .skip-eights .ensures in
-    let l = a .1 (omega arith) in
-    (l, valid-to s (loop .i) _ (c .before .before .before .loop-test .taken) (c .before .if1 .taken) (a .0) l (a .2) ∙ loop .inv .1)
+    let s = c .before .before .before .before .before .before .before .args .s .now in
+    let loop = c .before .before .before .before .before .loop in
+    let a = c .before .skip-long .ensures in
+    let b = c .skip-eights .ensures in
+    let l = b .1 (a .1 (omega arith)) in
+    let all = each-join (Within 0x00 0x7F) s _ _ _ (a .2) (b .2) in
+    (l, valid-to s (loop .i) _ (c .before .before .before .before .loop-test .taken) (c .before .before .if1 .taken) (omega (arith, a .0, b .0)) l all ∙ loop .inv .1)
 
 pair-in-requires : tie.Need-pair-in-requires Inv-loop μ-loop
 pair-in-requires c κs = search needs
@@ -121,7 +130,8 @@ valid-prefix-spec =
     μ-loop
     loop-holds
     shared-slice-read-if1
-    add-skip-eights
+    add-skip-long
+    skip-long-requires
     skip-eights-requires
     loop-less
     loop-again
