@@ -1,15 +1,15 @@
--- Comments, byte by byte, line comments by eights first.
-use Prim.Native.Nat.{ℕ, suc, _+_, _≤_, _<_}
+-- Comments, by eights first, then byte by byte.
+use Prim.Native.Nat.{ℕ, suc, _+_, _*_, _≤_, _<_}
 use mathlib.Core.Path.{_≡_, refl, sym, _∙_, ap}
-use mathlib.Core.Bool.{Bool, true, false, not, _&&_, _||_, and-false}
+use mathlib.Core.Bool.{Bool, true, false, not, _&&_, _||_}
 use mathlib.Core.List.{List, [], _∷_}
 use mathlib.Core.Option.{Option, some}
-use lib.ListN.{length, drop, getD}
+use lib.ListN.{length, drop, getD, List·getD-eq-default}
 use lib.Dec.{eqb, ltb}
 use native.Mathlib.Omega.{arith}
 use borrow.Author.Tests.{ltb-true, ltb-false, eqb-true, ne-eqb}
 use Rattle.chars.specs.Text.{Char, Text, from, afterRun}
-use Rattle.chars.specs.Code.{AllIn, Within}
+use Rattle.chars.specs.Code.{AllIn, Within, NoneOf, Other}
 use Rattle.chars.proofs.Bools.{and-both}
 use Rattle.chars.proofs.Places.{at-char, at-ascii, at-end, place-from, byte-by-byte}
 use Rattle.token.specs.Tests.{startsWith, begins, endsLine, endOfLine, opensLine, opensBlock, closesBlock}
@@ -123,59 +123,72 @@ pass : (d : ℕ) (c : Char) (u : Text) → closesBlock (c ∷ u) ≡ false → o
 unfolding close
 pass d c u x y = rw (x, y)
 
--- the bytes that open and close; the code reads the second one a place later
-pub slash-star : (s : List ℕ) (i : ℕ) → getD s i 0 ≡ 0x2F → getD s (i + 1) 0 ≡ 0x2A → Pair s i 0x2F 0x2A
-slash-star s i p q = pair-of s i 0x2F 0x2A (omega arith) (omega arith) (omega arith) (omega arith) p q
-
-pub star-slash : (s : List ℕ) (i : ℕ) → getD s i 0 ≡ 0x2A → getD s (i + 1) 0 ≡ 0x2F → Pair s i 0x2A 0x2F
-star-slash s i p q = pair-of s i 0x2A 0x2F (omega arith) (omega arith) (omega arith) (omega arith) p q
-
-twice : (i : ℕ) → i + 1 + 1 ≡ i + 2
-twice i = omega arith
-
 module _ (s : List ℕ) (i : ℕ) (f : Option Text) where
-  pub block-close : Pair s i 0x2A 0x2F → close 0 0 (from s i) ≡ f → closed.At (cursorAt (i + 1 + 1)) ≡ closedOf (length s) f
+  pub block-close : Pair s i 0x2A 0x2F → close 0 0 (from s i) ≡ f → closed.At (cursorAt (i + 2)) ≡ closedOf (length s) f
   unfolding close closedOf begins
   block-close h q =
       let e : close 0 0 (from s i) ≡ some (from s (i + 2)) = ap (close 0 0) (h .text) in
       let p = place-from s (i + 2) (h .within) in
-      ap (λ j. closed.At (cursorAt j)) (twice i) ∙ sym (ap (closedOf (length s)) (sym q ∙ e) ∙ ap (λ j. closed.At (cursorAt j)) p)
+      sym (ap (closedOf (length s)) (sym q ∙ e) ∙ ap (λ j. closed.At (cursorAt j)) p)
 
-  pub block-less : (d : ℕ) → Pair s i 0x2A 0x2F → close (suc d) 0 (from s i) ≡ f → close d 0 (from s (i + 1 + 1)) ≡ f
+  pub block-less : (d : ℕ) → Pair s i 0x2A 0x2F → close (suc d) 0 (from s i) ≡ f → close d 0 (from s (i + 2)) ≡ f
   unfolding close begins
-  block-less d h q = ap (λ j. close d 0 (from s j)) (twice i) ∙ sym (ap (close (suc d) 0) (h .text)) ∙ q
+  block-less d h q = sym (ap (close (suc d) 0) (h .text)) ∙ q
 
-  pub block-more : (d : ℕ) → Pair s i 0x2F 0x2A → close d 0 (from s i) ≡ f → close (d + 1) 0 (from s (i + 1 + 1)) ≡ f
+  pub block-more : (d : ℕ) → Pair s i 0x2F 0x2A → close d 0 (from s i) ≡ f → close (d + 1) 0 (from s (i + 2)) ≡ f
   unfolding close begins
-  block-more d h q =
-      let m : d + 1 ≡ suc d = omega arith in
-      ap (λ e. close e 0 (from s (i + 1 + 1))) m ∙ ap (λ j. close (suc d) 0 (from s j)) (twice i) ∙ sym (ap (close d 0) (h .text)) ∙ q
+  block-more d h q = let m : d + 1 ≡ suc d = omega arith in ap (λ e. close e 0 (from s (i + 2))) m ∙ sym (ap (close d 0) (h .text)) ∙ q
 
-  block-on : (d : ℕ) → i < length s → closesBlock (from s i) ≡ false → opensBlock (from s i) ≡ false → close d 0 (from s i) ≡ f → close d 0 (from s (i + 1)) ≡ f
-  block-on d h a b q = go (ltb (getD s i 0) 0x80) refl
+  not-both : (x y : ℕ) → (getD s i 0 ≡ x → getD s (i + 1) 0 ≡ y → ⊥) → eqb (getD s i 0) x && eqb (getD s (i + 1) 0) y ≡ false
+  not-both x y n = go (eqb (getD s i 0) x) refl
     where
-      go : (b : Bool) → ltb (getD s i 0) 0x80 ≡ b → close d 0 (from s (i + 1)) ≡ f
-      go true l =
+      go : (b : Bool) → eqb (getD s i 0) x ≡ b → b && eqb (getD s (i + 1) 0) y ≡ false
+      go true e = ne-eqb (getD s (i + 1) 0) y (n (eqb-true (getD s i 0) x e))
+      go false e = refl
+
+  -- one byte is passed where neither mark stands
+  block-on : (d : ℕ) → i < length s → (getD s i 0 ≡ 0x2A → getD s (i + 1) 0 ≡ 0x2F → ⊥) → (getD s i 0 ≡ 0x2F → getD s (i + 1) 0 ≡ 0x2A → ⊥)
+      → close d 0 (from s i) ≡ f → close d 0 (from s (i + 1)) ≡ f
+  block-on d h m n q = go (ltb (getD s i 0) 0x80) refl (closes-block s i ∙ not-both 0x2A 0x2F m) (opens-block s i ∙ not-both 0x2F 0x2A n)
+    where
+      go : (b : Bool) → ltb (getD s i 0) 0x80 ≡ b → closesBlock (from s i) ≡ false → opensBlock (from s i) ≡ false → close d 0 (from s (i + 1)) ≡ f
+      go true l a b =
           let t = at-ascii s i h (ltb-true (getD s i 0) 0x80 l) in
           sym (ap (close d 0) t ∙ pass d _ _ (sym (ap closesBlock t) ∙ a) (sym (ap opensBlock t) ∙ b)) ∙ q
-      go false l = byte-by-byte s (close d 0) (λ c u w. pass d c u (wide-closes c u w) (wide-opens c u w)) i h (ltb-false (getD s i 0) 0x80 l) ∙ q
+      go false l a b = byte-by-byte s (close d 0) (λ c u w. pass d c u (wide-closes c u w) (wide-opens c u w)) i h (ltb-false (getD s i 0) 0x80 l) ∙ q
 
-  -- one byte is passed: a slash without its star, a star without its slash, any other
-  first-not : (x y : ℕ) → (getD s i 0 ≡ x → ⊥) → eqb (getD s i 0) x && eqb (getD s (i + 1) 0) y ≡ false
-  first-not x y n = rw (ne-eqb (getD s i 0) x n)
-
-  next-not : (x y : ℕ) → (getD s (i + 1) 0 ≡ y → ⊥) → eqb (getD s i 0) x && eqb (getD s (i + 1) 0) y ≡ false
-  next-not x y n = rw (ne-eqb (getD s (i + 1) 0) y n) (and-false (eqb (getD s i 0) x))
-
-  pub block-slash : (d : ℕ) → i < length s → getD s i 0 ≡ 0x2F → (getD s (i + 1) 0 ≡ 0x2A → ⊥) → close d 0 (from s i) ≡ f → close d 0 (from s (i + 1)) ≡ f
-  block-slash d h e n = block-on d h (closes-block s i ∙ first-not 0x2A 0x2F (λ z. absurd (omega arith))) (opens-block s i ∙ next-not 0x2F 0x2A n)
-
-  pub block-star : (d : ℕ) → i < length s → getD s i 0 ≡ 0x2A → (getD s (i + 1) 0 ≡ 0x2F → ⊥) → close d 0 (from s i) ≡ f → close d 0 (from s (i + 1)) ≡ f
-  block-star d h e n = block-on d h (closes-block s i ∙ next-not 0x2A 0x2F n) (opens-block s i ∙ first-not 0x2F 0x2A (λ z. absurd (omega arith)))
-
-  pub block-other : (d : ℕ) → i < length s → (getD s i 0 ≡ 0x2F → ⊥) → (getD s i 0 ≡ 0x2A → ⊥) → close d 0 (from s i) ≡ f → close d 0 (from s (i + 1)) ≡ f
-  block-other d h m n = block-on d h (closes-block s i ∙ first-not 0x2A 0x2F n) (opens-block s i ∙ first-not 0x2F 0x2A m)
-
-  pub block-end : (d : ℕ) → length s ≤ i → close d 0 (from s i) ≡ f → closed.Open ≡ closedOf (length s) f
+  block-none : (d : ℕ) → length s ≤ i → close d 0 (from s i) ≡ f → closed.Open ≡ closedOf (length s) f
   unfolding close closedOf
-  block-end d h q = ap (closedOf (length s)) (sym (ap (close d 0) (at-end s i h)) ∙ q)
+  block-none d h q = ap (closedOf (length s)) (sym (ap (close d 0) (at-end s i h)) ∙ q)
+
+-- where at most one byte is left, nothing closes
+pub block-end : (s : List ℕ) (i : ℕ) (f : Option Text) (d : ℕ) → length s ≤ i + 1 → close d 0 (from s i) ≡ f → closed.Open ≡ closedOf (length s) f
+block-end s i f d h q = go (ltb i (length s)) refl
+  where
+    z : getD s (i + 1) 0 ≡ 0
+    z = List·getD-eq-default s 0 h
+
+    go : (b : Bool) → ltb i (length s) ≡ b → closed.Open ≡ closedOf (length s) f
+    go true e = block-none s (i + 1) f d h (block-on s i f d (ltb-true i (length s) e) (λ m n. absurd (omega (arith, z))) (λ m n. absurd (omega (arith, z))) q)
+    go false e = block-none s i f d (ltb-false i (length s) e) q
+
+-- two bytes are told by the number that they make
+module _ (s : List ℕ) (i : ℕ) {p : ℕ} (l : getD s i 0 < 256) (e : p ≡ getD s i 0 + 256 * getD s (i + 1) 0) where
+  pub slash-star : p ≡ 0x2A2F → Pair s i 0x2F 0x2A
+  slash-star q = pair-of s i 0x2F 0x2A (omega arith) (omega arith) (omega arith) (omega arith) (omega arith) (omega arith)
+
+  pub star-slash : p ≡ 0x2F2A → Pair s i 0x2A 0x2F
+  star-slash q = pair-of s i 0x2A 0x2F (omega arith) (omega arith) (omega arith) (omega arith) (omega arith) (omega arith)
+
+  pub block-other : (f : Option Text) (d : ℕ) → i < length s → (p ≡ 0x2A2F → ⊥) → (p ≡ 0x2F2A → ⊥) → close d 0 (from s i) ≡ f → close d 0 (from s (i + 1)) ≡ f
+  block-other f d h m n = block-on s i f d h (λ x y. n (omega arith)) (λ x y. m (omega arith))
+
+-- the comment that begins at i, and the bytes after its mark that are passed together
+pub block-opens : (s : List ℕ) (i : ℕ) → opensBlock (from s i) ≡ true → Pair s i 0x2F 0x2A
+block-opens s i e = pair-at s i 0x2F 0x2A (omega arith) (omega arith) (omega arith) (omega arith) (sym (opens-block s i) ∙ e)
+
+pub block-past : (s : List ℕ) (i r : ℕ) → Pair s i 0x2F 0x2A → i + 2 ≤ r → r ≤ length s → NoneOf 0x2A 0x2F 0x2A 0x2F s (i + 2) r
+    → close 0 0 (from s r) ≡ close 0 0 (drop 2 (from s i))
+block-past s i r p l h a =
+    all-past (close 0 0) s (Other 0x2A 0x2F 0x2A 0x2F) (λ k m o. block-on s k _ 0 m (λ e n. o .0 e) (λ e n. o .1 e) refl) (i + 2) r l h a
+    ∙ ap (close 0 0) (pair-past p)

@@ -4,8 +4,8 @@ use crate::cursor::byte_at;
 use crate::cursor::two_at;
 ghost use mathlib.Core.Path.{_≡_};
 ghost use mathlib.Core.Bool.{true, not, _||_};
-ghost use Prim.Native.Nat.{_+_, _≤_};
-ghost use lib.ListN.{length, drop};
+ghost use Prim.Native.Nat.{_+_, _*_, _≤_};
+ghost use lib.ListN.{length, drop, getD};
 ghost use Rattle.chars.specs.Text.{from, afterRun};
 ghost use Rattle.token.specs.Tests.{endOfLine, endsLine, opensLine, opensBlock};
 ghost use Rattle.token.specs.Flags.{GapKind, fresh, push, cutOf};
@@ -101,6 +101,14 @@ fn line_ends_at(s: &[u8], at: usize) -> bool
     two_at(s, at, 0x0D, 0x0A)
 }
 
+// Two bytes as one number, so that both are compared at once: `/*` is 0x2A2F.
+fn pair_at(s: &[u8], at: usize) -> u32
+    requires { ⌜ at + 2 ≤ length (now s) ⌝ }
+    ensures { λ r. ⌜ r ≡ getD (now (s .entry)) at 0 + 256 * getD (now (s .entry)) (at + 1) 0 ⌝ }
+{
+    s[at] as u32 + 256 * (s[at + 1] as u32)
+}
+
 impl Cursor {
     // Past the line comment that begins there, up to the line end or the end of script. What is above both line-end bytes is passed by eights.
     pub fn consume_line_comment(self, s: &[u8]) -> Cursor
@@ -122,24 +130,23 @@ impl Cursor {
         requires { ⌜ (self .at ≤ length (now s)) × (opensBlock (from (now s) (self .at)) ≡ true) ⌝ }
         ensures { λ r. ⌜ r ≡ closedOf (length (now (s .entry))) (close 0 0 (drop 2 (from (now (s .entry)) (self .at)))) ⌝ }
     {
-        let mut i = self.at + 2;
+        // Most comments have no other mark inside: what is neither `*` nor `/` is passed by eights at the start.
+        let mut i = chars::eights::skip_others(s, self.at + 2, 0x2A, 0x2F, 0x2A, 0x2F);
         let mut depth: usize = 0;
-        while i < s.len() {
-            let b = s[i];
-            i += 1;
-            if b == 0x2F {
-                if byte_at(s, i) == 0x2A {
-                    i += 1;
-                    depth += 1;
+        let last = s.len() - 1;
+        while i < last {
+            let pair = pair_at(s, i);
+            if pair == 0x2A2F {
+                i += 2;
+                depth += 1;
+            } else if pair == 0x2F2A {
+                i += 2;
+                if depth == 0 {
+                    return Closed::At(Cursor { at: i });
                 }
-            } else if b == 0x2A {
-                if byte_at(s, i) == 0x2F {
-                    i += 1;
-                    if depth == 0 {
-                        return Closed::At(Cursor { at: i });
-                    }
-                    depth -= 1;
-                }
+                depth -= 1;
+            } else {
+                i += 1;
             }
         }
         Closed::Open
