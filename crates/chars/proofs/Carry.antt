@@ -67,11 +67,11 @@ each-but f ks a n c h p q e =
     not-true (f c) (sym (or-false (not (f c))) ∙ (rw e at z))
 
 -- two tests that agree at n codes from a on
-abbrev alike : Bool → Bool → Bool
+abbrev pub alike : Bool → Bool → Bool
 alike true y = y
 alike false y = not y
 
-agree : (x y : Bool) → alike x y ≡ true → x ≡ y
+pub agree : (x y : Bool) → alike x y ≡ true → x ≡ y
 agree true y e = sym e
 agree false y e = sym (not-true y e)
 

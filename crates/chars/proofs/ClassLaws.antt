@@ -22,6 +22,11 @@ pub sign-is : (c : ℕ) → isOpSign c ≡ true → oneOf signs c ≡ true
 unfolding isOpSign
 sign-is c e = e
 
+-- of a byte
+pub byte-sign : (b : ℕ) → ltb b 0x80 && isOpSign b ≡ ltb b 0x80 && oneOf signs b
+unfolding isOpSign
+byte-sign b = refl
+
 -- none of the quoted characters is a sign, where none of them is quoted in `signs`
 pub sign-not : (t : String) → every (λ x. not (oneOf signs x)) (codes t) ≡ true → every (λ x. not (isOpSign x)) (codes t) ≡ true
 unfolding isOpSign

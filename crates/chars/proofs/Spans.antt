@@ -7,7 +7,7 @@ use lib.ListN.{length, getD}
 use lib.Dec.{eqb, leb, ltb}
 use native.Mathlib.Omega.{arith}
 use borrow.Author.Tests.{leb-true, ltb-true, ltb-false, eqb-false, not-true}
-use Rattle.chars.specs.Code.{Each, fourBy, eightBy, sixteenBy, thirtyTwoBy, Within, AllIn, twoIn, eightIn, thirtyTwoIn, Other, NoneOf, andOther, twoNot, eightNot}
+use Rattle.chars.specs.Code.{Each, fourBy, eightBy, sixteenBy, thirtyTwoBy, Within, AllIn, twoIn, eightIn, thirtyTwoIn, Other, NoneOf, andOther, twoNot, eightNot, Neither, NeitherOf, twoNeither, eightNeither}
 use Rattle.chars.proofs.Bools.{and-both}
 
 -- ---- any property
@@ -84,7 +84,10 @@ module _ (low high : ℕ) (s : List ℕ) where
   pub all-long : (i j : ℕ) → AllIn low high s i j → thirtyTwoIn low high s j ≡ true → (j + 32 ≤ length s) × AllIn low high s i (j + 32)
   all-long i j a e = each-more (Within low high) s i j 32 a (thirty-two-each (Within low high) s (twoIn low high) both-in j e)
 
--- ---- bytes that are none of four
+-- ---- bytes that are none of four, or of two
+
+is-not : (x y : ℕ) → not (eqb x y) ≡ true → x ≡ y → ⊥
+is-not x y q = eqb-false x y (not-true _ q)
 
 module _ (a b c d : ℕ) where
   and-other : (p : Bool) (x : ℕ) → andOther p a b c d x ≡ true → (p ≡ true) × Other a b c d x
@@ -93,10 +96,7 @@ module _ (a b c d : ℕ) where
       let m = and-both ((p && not (eqb x a)) && not (eqb x b)) (not (eqb x c)) (l .0) in
       let n = and-both (p && not (eqb x a)) (not (eqb x b)) (m .0) in
       let o = and-both p (not (eqb x a)) (n .0) in
-      (o .0, (is-not a (o .1), is-not b (n .1), is-not c (m .1), is-not d (l .1)))
-    where
-      is-not : (y : ℕ) → not (eqb x y) ≡ true → x ≡ y → ⊥
-      is-not y q = eqb-false x y (not-true _ q)
+      (o .0, (is-not x a (o .1), is-not x b (n .1), is-not x c (m .1), is-not x d (l .1)))
 
   module _ (s : List ℕ) where
     both-not : (i : ℕ) → twoNot a b c d s i ≡ true → Other a b c d (getD s i 0) × Other a b c d (getD s (i + 1) 0)
@@ -107,3 +107,17 @@ module _ (a b c d : ℕ) where
 
     pub none-more : (i j : ℕ) → NoneOf a b c d s i j → eightNot a b c d s j ≡ true → (j + 8 ≤ length s) × NoneOf a b c d s i (j + 8)
     none-more i j h e = each-more (Other a b c d) s i j 8 h (eight-each (Other a b c d) s (twoNot a b c d) both-not j e)
+
+module _ (a b : ℕ) (s : List ℕ) where
+  both-neither : (i : ℕ) → twoNeither a b s i ≡ true → Neither a b (getD s i 0) × Neither a b (getD s (i + 1) 0)
+  unfolding twoNeither
+  both-neither i e =
+      let x = getD s i 0 in
+      let y = getD s (i + 1) 0 in
+      let l = and-both ((not (eqb x a) && not (eqb x b)) && not (eqb y a)) (not (eqb y b)) e in
+      let m = and-both (not (eqb x a) && not (eqb x b)) (not (eqb y a)) (l .0) in
+      let n = and-both (not (eqb x a)) (not (eqb x b)) (m .0) in
+      ((is-not x a (n .0), is-not x b (n .1)), (is-not y a (m .1), is-not y b (l .1)))
+
+  pub neither-more : (i j : ℕ) → NeitherOf a b s i j → eightNeither a b s j ≡ true → (j + 8 ≤ length s) × NeitherOf a b s i (j + 8)
+  neither-more i j h e = each-more (Neither a b) s i j 8 h (eight-each (Neither a b) s (twoNeither a b) both-neither j e)

@@ -92,6 +92,23 @@ fourNot a b c d = fourBy (twoNot a b c d)
 abbrev pub eightNot : ℕ → ℕ → ℕ → ℕ → List ℕ → ℕ → Bool
 eightNot a b c d = eightBy (twoNot a b c d)
 
+-- ---- bytes that are neither of two
+
+abbrev pub Neither : ℕ → ℕ → ℕ → Type 0
+Neither a b x = (x ≡ a → ⊥) × (x ≡ b → ⊥)
+
+abbrev pub NeitherOf : ℕ → ℕ → List ℕ → ℕ → ℕ → Type 0
+NeitherOf a b = Each (Neither a b)
+
+unfoldable pub twoNeither : ℕ → ℕ → List ℕ → ℕ → Bool
+twoNeither a b s i = ((not (eqb (getD s i 0) a) && not (eqb (getD s i 0) b)) && not (eqb (getD s (i + 1) 0) a)) && not (eqb (getD s (i + 1) 0) b)
+
+abbrev pub fourNeither : ℕ → ℕ → List ℕ → ℕ → Bool
+fourNeither a b = fourBy (twoNeither a b)
+
+abbrev pub eightNeither : ℕ → ℕ → List ℕ → ℕ → Bool
+eightNeither a b = eightBy (twoNeither a b)
+
 -- ---- how the code lends the tables
 
 -- the range ends of the three tables that id characters are judged by

@@ -17,7 +17,7 @@ ghost use lib.ListN.{length};
 ghost use Rattle.chars.specs.Tables.{alphabeticTable, alphaNotLetterTable};
 ghost use Rattle.chars.specs.Classes.{isIdStart, isIdChar, isOpSign, isPrintable, lowercase, uppercase, alphabetic, alphaNotLetter};
 ghost use Rattle.chars.specs.Text.{from, place, idChar, afterRun};
-ghost use Rattle.chars.specs.Code.{asciiIdChar, bitIn, russianAt, IdTables};
+ghost use Rattle.chars.specs.Code.{bitIn, russianAt, IdTables};
 
 // The last code that the tables speak of.
 const LAST: u32 = 0xFFFF;
@@ -229,7 +229,7 @@ pub fn is_ascii_start(b: u8) -> bool
 }
 
 // Whether a byte is an ASCII id character: a letter, a digit or `$`. The commonest are tested first.
-pub fn is_id_byte(b: u8) -> bool
+fn is_id_byte(b: u8) -> bool
     ensures { λ r. ⌜ r ≡ ltb b 0x80 && isIdChar b ⌝ }
 {
     if 0x61 <= b {
@@ -242,20 +242,6 @@ pub fn is_id_byte(b: u8) -> bool
         return b <= 0x39;
     }
     b == 0x24
-}
-
-// Where the run of ASCII id characters from a place on ends.
-pub fn ascii_run_end(s: &[u8], at: usize) -> usize
-    ensures { λ r. ⌜ r ≡ place (length (now (s .entry))) (afterRun asciiIdChar (from (now (s .entry)) at)) ⌝ }
-{
-    let mut i = at;
-    while i < s.len() {
-        if !is_id_byte(s[i]) {
-            return i;
-        }
-        i += 1;
-    }
-    s.len()
 }
 
 // Whether a Russian letter stands at a place: U+0410 to U+044F.

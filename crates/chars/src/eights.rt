@@ -1,9 +1,9 @@
-// Bytes of a range, and bytes that are none of four: eight by one test, or thirty-two. `&` looks at all of them, without a branch.
+// Bytes of a range, and bytes that are none of four, or of two: eight by one test, or thirty-two. `&` looks at all of them, without a branch.
 ghost use mathlib.Core.Path.{_≡_};
 ghost use mathlib.Core.Bool.{false};
 ghost use Prim.Native.Nat.{_+_, _≤_};
 ghost use lib.ListN.{length};
-ghost use Rattle.chars.specs.Code.{AllIn, twoIn, fourIn, eightIn, sixteenIn, thirtyTwoIn, NoneOf, twoNot, fourNot, eightNot};
+ghost use Rattle.chars.specs.Code.{AllIn, twoIn, fourIn, eightIn, sixteenIn, thirtyTwoIn, NoneOf, twoNot, fourNot, eightNot, NeitherOf, twoNeither, fourNeither, eightNeither};
 
 fn two_in(s: &[u8], at: usize, low: u8, high: u8) -> bool
     requires { ⌜ at + 2 ≤ length (now s) ⌝ }
@@ -117,6 +117,44 @@ pub fn skip_others(s: &[u8], at: usize, a: u8, b: u8, c: u8, d: u8) -> usize
 {
     let mut end = at;
     while eight_not(s, end, a, b, c, d) {
+        end += 8;
+    }
+    end
+}
+
+fn two_neither(s: &[u8], at: usize, a: u8, b: u8) -> bool
+    requires { ⌜ at + 2 ≤ length (now s) ⌝ }
+    ensures { λ r. ⌜ r ≡ twoNeither a b (now (s .entry)) at ⌝ }
+{
+    (s[at] != a) & (s[at] != b) & (s[at + 1] != a) & (s[at + 1] != b)
+}
+
+fn four_neither(s: &[u8], at: usize, a: u8, b: u8) -> bool
+    requires { ⌜ at + 4 ≤ length (now s) ⌝ }
+    ensures { λ r. ⌜ r ≡ fourNeither a b (now (s .entry)) at ⌝ }
+{
+    two_neither(s, at, a, b) & two_neither(s, at + 2, a, b)
+}
+
+// Whether eight bytes stand at a place, none of them one of the two.
+fn eight_neither(s: &[u8], at: usize, a: u8, b: u8) -> bool
+    ensures { λ r. ⌜ r ≡ eightNeither a b (now (s .entry)) at ⌝ }
+{
+    if s.len() < 8 {
+        return false;
+    }
+    if s.len() - 8 < at {
+        return false;
+    }
+    four_neither(s, at, a, b) & four_neither(s, at + 4, a, b)
+}
+
+// As `skip_others`, for two bytes. One that has a single caller is compiled into it, with the two known.
+pub fn skip_neither(s: &[u8], at: usize, a: u8, b: u8) -> usize
+    ensures { λ r. ⌜ (at ≤ r) × (at ≤ length (now (s .entry)) → r ≤ length (now (s .entry))) × NeitherOf a b (now (s .entry)) at r × (eightNeither a b (now (s .entry)) r ≡ false) ⌝ }
+{
+    let mut end = at;
+    while eight_neither(s, end, a, b) {
         end += 8;
     }
     end

@@ -5,16 +5,16 @@ use mathlib.Core.Bool.{Bool, true, false, not, _&&_, _||_}
 use mathlib.Core.List.{List, [], _∷_}
 use mathlib.Core.Option.{Option, some}
 use lib.ListN.{length, drop, getD, List·getD-eq-default}
-use lib.Dec.{eqb, ltb}
+use lib.Dec.{eqb, leb, ltb}
 use native.Mathlib.Omega.{arith}
-use borrow.Author.Tests.{ltb-true, ltb-false, eqb-true, ne-eqb}
+use borrow.Author.Tests.{ltb-true, ltb-false, leb-true, le-leb, lt-leb, eqb-true, eq-eqb, ne-eqb}
 use Rattle.chars.specs.Text.{Char, Text, from, afterRun}
-use Rattle.chars.specs.Code.{AllIn, Within, NoneOf, Other}
+use Rattle.chars.specs.Code.{AllIn, Within, NeitherOf, Neither}
 use Rattle.chars.proofs.Bools.{and-both}
 use Rattle.chars.proofs.Places.{at-char, at-ascii, at-end, place-from, byte-by-byte}
 use Rattle.token.specs.Tests.{startsWith, begins, endsLine, endOfLine, opensLine, opensBlock, closesBlock}
 use Rattle.token.specs.Answer.{close}
-use Rattle.token.specs.Code.{cursorAt, closedOf}
+use Rattle.token.specs.Code.{cursorAt, closedOf, opensAt, fourOpen}
 use Rattle.token.specs.declared.gap.Closed.the-variants as closed
 use Rattle.token.proofs.Bytes.{two-bytes, one-byte, inside}
 use Rattle.token.proofs.Cursors.{run-past, run-here, run-none, all-past}
@@ -183,12 +183,47 @@ module _ (s : List ℕ) (i : ℕ) {p : ℕ} (l : getD s i 0 < 256) (e : p ≡ ge
   pub block-other : (f : Option Text) (d : ℕ) → i < length s → (p ≡ 0x2A2F → ⊥) → (p ≡ 0x2F2A → ⊥) → close d 0 (from s i) ≡ f → close d 0 (from s (i + 1)) ≡ f
   block-other f d h m n = block-on s i f d h (λ x y. n (omega arith)) (λ x y. m (omega arith))
 
--- the comment that begins at i, and the bytes after its mark that are passed together
+-- the comment that begins at i, and bytes that are passed together
 pub block-opens : (s : List ℕ) (i : ℕ) → opensBlock (from s i) ≡ true → Pair s i 0x2F 0x2A
 block-opens s i e = pair-at s i 0x2F 0x2A (omega arith) (omega arith) (omega arith) (omega arith) (sym (opens-block s i) ∙ e)
 
-pub block-past : (s : List ℕ) (i r : ℕ) → Pair s i 0x2F 0x2A → i + 2 ≤ r → r ≤ length s → NoneOf 0x2A 0x2F 0x2A 0x2F s (i + 2) r
-    → close 0 0 (from s r) ≡ close 0 0 (drop 2 (from s i))
-block-past s i r p l h a =
-    all-past (close 0 0) s (Other 0x2A 0x2F 0x2A 0x2F) (λ k m o. block-on s k _ 0 m (λ e n. o .0 e) (λ e n. o .1 e) refl) (i + 2) r l h a
-    ∙ ap (close 0 0) (pair-past p)
+pub block-past : (s : List ℕ) (d i r : ℕ) → i ≤ r → r ≤ length s → NeitherOf 0x2A 0x2F s i r → close d 0 (from s r) ≡ close d 0 (from s i)
+block-past s d = all-past (close d 0) s (Neither 0x2A 0x2F) (λ k m o. block-on s k _ d m (λ e n. o .0 e) (λ e n. o .1 e) refl)
+
+-- the code's test for four more that open
+module _ (s : List ℕ) (i : ℕ) where
+  pub open-short : length s < i + 8 → false ≡ fourOpen s i
+  unfolding fourOpen
+  open-short h = sym (rw (lt-leb (i + 8) (length s) h))
+
+  module _ (h : i + 8 ≤ length s) {p : ℕ} (e : p ≡ getD s i 0 + 256 * getD s (i + 1) 0) where
+    pub open-other : (p ≡ 0x2A2F → ⊥) → false ≡ fourOpen s i
+    unfolding fourOpen
+    open-other n = sym (rw (le-leb (i + 8) (length s) h, ne-eqb (getD s i 0 + 256 * getD s (i + 1) 0) 0x2A2F (λ q. n (e ∙ q))))
+
+    pub open-all : p ≡ 0x2A2F → {x y z : ℕ} → x ≡ getD s (i + 2) 0 + 256 * getD s (i + 2 + 1) 0 → y ≡ getD s (i + 4) 0 + 256 * getD s (i + 4 + 1) 0
+        → z ≡ getD s (i + 6) 0 + 256 * getD s (i + 6 + 1) 0 → (eqb x 0x2A2F && eqb y 0x2A2F) && eqb z 0x2A2F ≡ fourOpen s i
+    unfolding fourOpen
+    open-all q a b c = rw (a, b, c, le-leb (i + 8) (length s) h, eq-eqb (getD s i 0 + 256 * getD s (i + 1) 0) 0x2A2F (sym e ∙ q))
+
+-- four more that open
+module _ (s : List ℕ) (small : (k : ℕ) → getD s k 0 < 256) (i : ℕ) (e : fourOpen s i ≡ true) where
+  pub open-within : i + 8 ≤ length s
+  unfolding fourOpen
+  open-within = leb-true (i + 8) (length s) (and-both (leb (i + 8) (length s)) _ e .0)
+
+  pub open-four : (d : ℕ) (f : Option Text) → close d 0 (from s i) ≡ f → close (d + 4) 0 (from s (i + 8)) ≡ f
+  unfolding fourOpen
+  open-four d f q =
+      let o = and-both (opensAt s i) ((opensAt s (i + 2) && opensAt s (i + 4)) && opensAt s (i + 6)) (and-both (leb (i + 8) (length s)) _ e .1) in
+      let p = and-both (opensAt s (i + 2) && opensAt s (i + 4)) (opensAt s (i + 6)) (o .1) in
+      let r = and-both (opensAt s (i + 2)) (opensAt s (i + 4)) (p .0) in
+      let a = one i (i + 2) d (d + 1) (o .0) (omega arith) (omega arith) q in
+      let b = one (i + 2) (i + 4) (d + 1) (d + 2) (r .0) (omega arith) (omega arith) a in
+      let c = one (i + 4) (i + 6) (d + 2) (d + 3) (r .1) (omega arith) (omega arith) b in
+      one (i + 6) (i + 8) (d + 3) (d + 4) (p .1) (omega arith) (omega arith) c
+    where
+      one : (j k x y : ℕ) → opensAt s j ≡ true → k ≡ j + 2 → y ≡ x + 1 → close x 0 (from s j) ≡ f → close y 0 (from s k) ≡ f
+      one j k x y z m n h =
+          ap (λ v. close v 0 (from s k)) n ∙ ap (λ v. close (x + 1) 0 (from s v)) m
+          ∙ block-more s j f x (slash-star s j (small j) refl (eqb-true (getD s j 0 + 256 * getD s (j + 1) 0) 0x2A2F z)) h

@@ -14,6 +14,7 @@ use Rattle.chars.proofs.Places.{at-char, at-end, place-from, next-on, step-text
 use Rattle.token.specs.Code.{cursorAt, peekedOf, peekAt}
 use Rattle.token.specs.declared.cursor.Cursor.{Cursor}
 use Rattle.token.specs.declared.cursor.Peeked.the-variants as peeked
+use Rattle.token.proofs.Base.{zero-one}
 
 -- the character at i, as the code has it
 pub record Here (s : List ℕ) (i code next : ℕ) : Type 0 where
@@ -61,7 +62,7 @@ peeked-char s i code next e = go (ltb i (length s)) refl
         record { text = t ∙ ap (λ c. record { code = c; at = i } ∷ from s (nextOf s i)) (sym a) ∙ ap (λ j. record { code = code; at = i } ∷ from s j) (sym d); in-script = h; on = omega arith; within = omega arith }
     go false q =
         let f : peeked.Char code (cursorAt next) ≡ peeked.End = e ∙ ap (peekedOf (length s)) (at-end s i (ltb-false i (length s) q)) in
-        absurd (let z : _≡_ {A = ℕ} 0 1 = cc in omega arith)
+        zero-one (cc)
 
 pub peeked-end : (s : List ℕ) (i : ℕ) → peeked.End ≡ peekAt s i → length s ≤ i
 unfolding peekAt
@@ -71,7 +72,7 @@ peeked-end s i e = go (ltb i (length s)) refl
     go false q = ltb-false i (length s) q
     go true q =
         let f : peeked.End ≡ peeked.Char (codeAt s i) (cursorAt (place (length s) (from s (nextOf s i)))) = e ∙ ap (peekedOf (length s)) (at-char s i (ltb-true i (length s) q)) in
-        absurd (let z : _≡_ {A = ℕ} 0 1 = cc in omega arith)
+        zero-one (cc)
 
 -- ---- a run of bytes: what the loop found at its start is f
 

@@ -13,7 +13,7 @@ use Rattle.chars.specs.Quoted.{between, codes, oneOf}
 use Rattle.chars.specs.Text.{Text, from, place, head, afterRun}
 use Rattle.chars.proofs.Bools.{clash, and-both}
 use Rattle.chars.proofs.Ranges.{between-in, between-out, in-between, not-between}
-use Rattle.chars.proofs.Places.{Ascii, head-byte, at-ascii, place-from}
+use Rattle.chars.proofs.Places.{Ascii, head-byte, at-ascii, at-end, place-from}
 use Rattle.token.specs.Tests.{isDigit, isHexDigit, digitValue, begins, hexDigit, hexAhead, longSuffix}
 use Rattle.token.specs.Shapes.{valueFrom}
 use Rattle.token.specs.Answer.{Found, read, readDigits, numberOf, scanNumber}
@@ -21,6 +21,7 @@ use Rattle.token.specs.Code.{cursorAt, pieceOf, digitIn, digitOf, upTo, 
 use Rattle.token.specs.declared.kinds.TokenKind.the-variants as tk
 use Rattle.token.specs.declared.piece.Piece.the-variants as piece
 use Rattle.token.specs.declared.digits.Value.the-variants as value
+use Rattle.token.proofs.Base.{zero-one}
 use Rattle.token.proofs.Bytes.{any-byte, ascii-list, inside, past, two-bytes}
 use Rattle.token.proofs.Numbers.{read-is}
 
@@ -209,6 +210,15 @@ module _ (base : ℕ) (h : 1 ≤ base) where
   pub passes : (limit v d : ℕ) → d ≤ limit → (limit - d) / base < v → limit < v * base + d
   passes limit v d k q = let m = div-lt-iff-lt-mul h .0 q in omega (arith, m)
 
+-- at the script's end nothing more is read
+pub read-done : (p : ℕ → Bool) (base v : ℕ) (s : List ℕ) (i : ℕ) → length s ≤ i → read v (from s i) ≡ readDigits p base v (from s i)
+unfolding readDigits
+read-done p base v s i h = rw (at-end s i h)
+
+-- where a byte is taken as a digit the script goes on
+pub digit-inside : (base : ℕ) → (base ≡ 10) ⊎ (base ≡ 16) → (s : List ℕ) (i d : ℕ) → d ≡ digitOf (getD s i 0) → d < base → i < length s
+digit-inside base h s i d e l = class-at (digitIn base) (digits-ascii base) s i (digit-taken base (getD s i 0) h (omega arith)) .0
+
 pub base-some : (base : ℕ) → (base ≡ 10) ⊎ (base ≡ 16) → 1 ≤ base
 base-some base (inl e) = omega arith
 base-some base (inr e) = omega arith
@@ -232,14 +242,14 @@ fitted w v e = go (leb v 9223372036854775807) refl e
   where
     go : (b : Bool) → leb v 9223372036854775807 ≡ b → value.Of w ≡ cond b (value.Of v) value.Over → (w ≡ v) × (v ≤ 9223372036854775807)
     go true q e = (cc, leb-true v 9223372036854775807 q)
-    go false q e = absurd (let z : _≡_ {A = ℕ} 0 1 = cc in omega arith)
+    go false q e = zero-one (cc)
 
 pub overs : (v : ℕ) → value.Over ≡ valueOf v → 9223372036854775807 < v
 unfolding valueOf
 overs v e = go (leb v 9223372036854775807) refl e
   where
     go : (b : Bool) → leb v 9223372036854775807 ≡ b → value.Over ≡ cond b (value.Of v) value.Over → 9223372036854775807 < v
-    go true q e = absurd (let z : _≡_ {A = ℕ} 0 1 = cc in omega arith)
+    go true q e = zero-one (cc)
     go false q e = leb-false v 9223372036854775807 q
 
 -- ---- numbers

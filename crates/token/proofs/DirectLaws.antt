@@ -1,24 +1,24 @@
 -- Tokens that their ASCII bytes tell are what the scanner finds.
 use Prim.Native.Nat.{ℕ, _+_, _≤_, _<_}
 use mathlib.Core.Path.{_≡_, refl, sym, _∙_, ap}
-use mathlib.Core.Bool.{Bool, true, false, cond, _&&_}
-use mathlib.Core.Logic.{_⊎_, inl, inr}
+use mathlib.Core.Bool.{Bool, true, false, cond, not, _&&_, _||_}
+use mathlib.Core.Logic.{inl, inr}
 use mathlib.Core.List.{List, [], _∷_, append-nil}
 use mathlib.Core.Option.{Option, none, some}
 use lib.ListN.{length, drop, getD}
-use lib.Dec.{leb, ltb}
+use lib.Dec.{eqb, leb, ltb}
 use native.Mathlib.Omega.{arith}
-use borrow.Author.Tests.{ltb-true, leb-true, lt-ltb, ne-eqb}
+use borrow.Author.Tests.{eqb-false, ltb-true, leb-true, leb-false, lt-ltb, ne-eqb, not-true}
 use Rattle.chars.specs.Quoted.{codes, oneOf}
 use Rattle.chars.specs.Classes.{isIdStart, isOpSign}
 use Rattle.chars.specs.Text.{Text, from, place, idChar, afterRun}
 use Rattle.chars.specs.Code.{asciiIdChar}
-use Rattle.chars.proofs.Bools.{clash, and-both}
+use Rattle.chars.proofs.Bools.{clash, and-both, or-neither}
 use Rattle.chars.proofs.Carry.{carry, carry-not}
 use Rattle.chars.proofs.ClassLaws.{start-not, sign-no-start, slash-no-start}
 use Rattle.chars.proofs.IdRuns.{run-stays, ascii-whole}
 use Rattle.chars.proofs.Places.{ascii-next, place-from, run-next}
-use Rattle.token.specs.Tests.{isAny, begins, quote, opSign, freeSign, opensComment}
+use Rattle.token.specs.Tests.{isAny, begins, quote, freeSign, opensComment}
 use Rattle.token.specs.Kinds.{Token, kindNumber, wordOf, runOf}
 use Rattle.token.specs.Records.{values, recordLength, fieldsOf, headOf, recordOf}
 use Rattle.token.specs.Flags.{GapKind, fresh, push, cutOf}
@@ -215,34 +215,37 @@ direct-inside s i e (Direct.signs a w r y z) l = omega arith
 
 -- a word up to a byte of ASCII that is neither `_` nor a quote
 pub word-direct : (s : List ℕ) (i e : ℕ) → i < length s → isStart (getD s i 0) ≡ true → e ≡ place (length s) (afterRun asciiIdChar (from s (i + 1)))
-    → getD s e 0 < 0x80 → (getD s e 0 ≡ 0x5F → ⊥) → (getD s e 0 ≡ 0x22 → ⊥) → Direct s i e
-word-direct s i e h a q l u z =
+    → leb 0x80 (getD s e 0) || oneOf "_\"" (getD s e 0) ≡ false → Direct s i e
+word-direct s i e h a q m =
     let k : i + 1 ≤ length s = omega arith in
-    let w = ascii-whole s (i + 1) e k q l in
+    let t = or-neither (leb 0x80 (getD s e 0)) (oneOf "_\"" (getD s e 0)) m in
+    let u = or-neither (eqb (getD s e 0) 0x5F) (oneOf "\"" (getD s e 0)) (t .1) in
+    let z = or-neither (eqb (getD s e 0) 0x22) false (u .1) in
+    let w = ascii-whole s (i + 1) e k q (leb-false 0x80 (getD s e 0) (t .0)) in
     let p : e ≡ place (length s) (afterRun idChar (from s (i + 1))) = sym (ap (place (length s)) (w .2) ∙ place-from s e (w .1)) in
-    Direct.letters a (w .1) (pass-all s (i + 1) e k p u) (quote-byte s e ∙ ne-eqb (getD s e 0) 0x22 z)
+    Direct.letters a (w .1) (pass-all s (i + 1) e k p (eqb-false (getD s e 0) 0x5F (u .0))) (quote-byte s e ∙ z .0)
+
+-- a byte of a run: an ASCII sign, and no `/`
+abbrev inRun : ℕ → Bool
+inRun b = (ltb b 0x80 && isOpSign b) && not (eqb b 0x2F)
+
+pub run-byte : (b : ℕ) → inRun b ≡ true → (ltb b 0x80 && isOpSign b ≡ true) × (b ≡ 0x2F → ⊥)
+run-byte b e = let k = and-both (ltb b 0x80 && isOpSign b) (not (eqb b 0x2F)) e in (k .0, eqb-false b 0x2F (not-true (eqb b 0x2F) (k .1)))
 
 -- one more sign of a run, or its end
-module _ (s : List ℕ) (i : ℕ) (h : i < length s) (l : getD s i 0 < 0x80) (c : getD s i 0 ≡ 0x2F → ⊥) where
-  free-byte : (b : Bool) → ltb (getD s i 0) 0x80 && isOpSign (getD s i 0) ≡ b → freeSign (from s i) ≡ b
-  free-byte b e =
-      let o : opSign (from s i) ≡ b = ascii-head s i h isOpSign l ∙ (rw (lt-ltb (getD s i 0) 0x80 l) at e) in
-      rw (o, no-comment s i c) (last b)
-    where
-      last : (b : Bool) → b && true ≡ b
-      last true = refl
-      last false = refl
+module _ (s : List ℕ) (i : ℕ) (h : i < length s) where
+  free-byte : getD s i 0 < 0x80 → (getD s i 0 ≡ 0x2F → ⊥) → freeSign (from s i) ≡ inRun (getD s i 0)
+  free-byte l c =
+      rw (ascii-head s i h isOpSign l, no-comment s i c, lt-ltb (getD s i 0) 0x80 l, ne-eqb (getD s i 0) 0x2F c)
 
-  pub run-more : ltb (getD s i 0) 0x80 && isOpSign (getD s i 0) ≡ true → afterRun freeSign (from s (i + 1)) ≡ afterRun freeSign (from s i)
-  run-more e = ap (λ j. afterRun freeSign (from s j)) (sym (ascii-next s i h l)) ∙ run-next freeSign s i h (free-byte true e)
+  pub run-more : inRun (getD s i 0) ≡ true → afterRun freeSign (from s (i + 1)) ≡ afterRun freeSign (from s i)
+  run-more e =
+      let k = run-byte (getD s i 0) e in
+      let l = ltb-true (getD s i 0) 0x80 (and-both (ltb (getD s i 0) 0x80) (isOpSign (getD s i 0)) (k .0) .0) in
+      ap (λ j. afterRun freeSign (from s j)) (sym (ascii-next s i h l)) ∙ run-next freeSign s i h (free-byte l (k .1) ∙ e)
 
-  pub run-over : ltb (getD s i 0) 0x80 && isOpSign (getD s i 0) ≡ false → afterRun freeSign (from s i) ≡ from s i
-  run-over e = run-stays freeSign (from s i) (free-byte false e)
-
--- where the first sign was passed it is no `/`
-pub first : (s : List ℕ) (a i : ℕ) → (i ≡ a) ⊎ (opensComment (from s a) ≡ false) → (getD s i 0 ≡ 0x2F → ⊥) → opensComment (from s a) ≡ false
-first s a i (inl e) c = no-comment s a (λ q. c (ap (λ j. getD s j 0) e ∙ q))
-first s a i (inr k) c = k
+  pub run-over : getD s i 0 < 0x80 → (getD s i 0 ≡ 0x2F → ⊥) → inRun (getD s i 0) ≡ false → afterRun freeSign (from s i) ≡ from s i
+  run-over l c e = run-stays freeSign (from s i) (free-byte l c ∙ e)
 
 -- ---- records
 

@@ -1,22 +1,24 @@
 -- The host's entry, branch by branch.
 use Prim.Native.Nat.{ℕ, _+_, _≤_, _<_}
 use mathlib.Core.Path.{_≡_, refl, sym, _∙_, ap}
-use mathlib.Core.Bool.{Bool, true, false, cond}
-use mathlib.Core.List.{List, [], _∷_, _++_}
-use lib.ListN.{length, drop}
-use lib.Seq.{sets}
-use lib.Dec.{eqb}
+use mathlib.Core.Bool.{Bool, true, false}
+use mathlib.Core.List.{List, _++_}
+use lib.ListN.{length, take, drop}
+use lib.Seq.{sets, take-at}
+use lib.Dec.{ltb}
 use native.Mathlib.Nat.{zero-add}
 use native.Mathlib.Omega.{arith}
-use borrow.Author.Tests.{eq-eqb, ne-eqb}
+use borrow.Author.Tests.{eq-eqb, ne-eqb, ltb-true, ltb-false}
 use Rattle.chars.specs.Utf8.{validPrefix}
 use Rattle.token.specs.Kinds.{Token}
 use Rattle.token.specs.Answer.{Answer, accepted, refused, answer}
 use Rattle.token.specs.Records.{records, recordBytes}
-use Rattle.token.specs.Measure.{measuredOf, judgedOf, tokensIn, Fits}
-use Rattle.token.specs.Host.{Seen, seen, seenOf, blockOf, Verdict, good, bad, short, verdict, mostBytes, hostOf}
+use Rattle.token.specs.Measure.{measuredOf, judgedOf, tokensIn, Fits, Holds}
+use Rattle.token.specs.Host.{seen, seenOf, blockOf, Verdict, good, bad, short, verdict, mostBytes, hostOf}
 use Rattle.token.specs.declared.records.Measured.the-variants as measured
+use Rattle.token.specs.declared.host.Judged.{Judged}
 use Rattle.token.specs.declared.host.Judged.the-variants as judged
+use Rattle.token.proofs.Base.{zero-one}
 use Rattle.token.proofs.Alone.{records-length}
 use Rattle.token.proofs.Stores.{sets-front}
 use Rattle.token.proofs.Verdicts.{verdict-17, verdict-18, verdict-rest, verdict-good, judge-good, judge-short, judge-bad}
@@ -29,12 +31,12 @@ was-total (accepted ts) n b e =
     let x : n ≡ 0 + length ts = cc in
     let y : b ≡ 0 + recordBytes ts = cc in
     (ts, refl, x ∙ zero-add (length ts), y ∙ zero-add (recordBytes ts))
-was-total (refused j a) n b e = absurd (let z : _≡_ {A = ℕ} 0 1 = cc in omega arith)
+was-total (refused j a) n b e = zero-one (cc)
 
 was-stopped : (v : Answer) (j a : ℕ) → measured.Stopped j a ≡ measuredOf 0 0 v → v ≡ refused j a
 unfolding measuredOf
 was-stopped (refused i b) j a e = cc
-was-stopped (accepted ts) j a e = absurd (let z : _≡_ {A = ℕ} 0 1 = cc in omega arith)
+was-stopped (accepted ts) j a e = zero-one (cc)
 
 -- ---- judging: 17, 18, 1 to 16, 19
 
@@ -68,25 +70,50 @@ module _ (s : List ℕ) (room : ℕ) where
           ap (λ k. judged.Fits k b) (w .2) ∙ ap (judged.Fits (length (w .0))) (w .3)
           ∙ sym (ap judgedOf (verdict-rest s room l (omega (arith, e)) ∙ judge-good room (answer s) (w .0) (w .1) (omega (arith, w .3))))
 
+-- ---- what a buffer holds that is lent for measuring
+
+pub holds-refused : (j a : ℕ) (s small : List ℕ) → Holds (judged.Refused j a) s small
+unfolding Holds
+holds-refused j a s small = tt
+
+pub holds-short : (n b : ℕ) (s small : List ℕ) → Holds (judged.Short n b) s small
+unfolding Holds
+holds-short n b s small = tt
+
+pub holds-fits : (s small next : List ℕ) (n b : ℕ) → measured.Total n b ≡ measuredOf 0 0 (answer s) → length next ≡ length small
+    → (Fits (answer s) (length small) → next ≡ sets small 0 (records (tokensIn (answer s)))) → Holds (judged.Fits n b) s next
+unfolding Holds
+holds-fits s small next n b q k f l =
+    let w = was-total (answer s) n b q in
+    let ts = w .0 in
+    let y = records-length ts in
+    let z : recordBytes ts ≤ length small = omega (arith, w .3) in
+    let o = f (rw (w .1) (record { accepts = refl; fits = z })) ∙ ap (λ v. sets small 0 (records (tokensIn v))) (w .1) ∙ sets-front small (records ts) (omega arith) in
+    ap (take b) o ∙ take-at (records ts) _ b (y ∙ sym (w .3)) ∙ sym (ap (λ v. records (tokensIn v)) (w .1))
+
+pub held : (r : Judged) (n b : ℕ) (s small : List ℕ) → r ≡ judged.Fits n b → Holds r s small → b ≤ length small → take b small ≡ records (tokensIn (answer s))
+unfolding Holds
+held r n b s small e h l = (rw e at h) l
+
 -- ---- back from judging
 
 was-refused : (v : Verdict) (j a : ℕ) → judged.Refused j a ≡ judgedOf v → v ≡ bad j a
 unfolding judgedOf
 was-refused (bad i b) j a e = cc
-was-refused (good ts) j a e = absurd (let z : _≡_ {A = ℕ} 0 1 = cc in omega arith)
-was-refused (short ts) j a e = absurd (let z : _≡_ {A = ℕ} 0 1 = cc in omega arith)
+was-refused (good ts) j a e = zero-one (cc)
+was-refused (short ts) j a e = zero-one (cc)
 
 was-short : (v : Verdict) (n b : ℕ) → judged.Short n b ≡ judgedOf v → (ts : List Token) × (v ≡ short ts) × (n ≡ length ts) × (b ≡ recordBytes ts)
 unfolding judgedOf
 was-short (short ts) n b e = (ts, refl, cc, cc)
-was-short (good ts) n b e = absurd (let z : _≡_ {A = ℕ} 0 1 = cc in omega arith)
-was-short (bad j a) n b e = absurd (let z : _≡_ {A = ℕ} 0 1 = cc in omega arith)
+was-short (good ts) n b e = zero-one (cc)
+was-short (bad j a) n b e = zero-one (cc)
 
 was-fits : (v : Verdict) (n b : ℕ) → judged.Fits n b ≡ judgedOf v → (ts : List Token) × (v ≡ good ts) × (n ≡ length ts) × (b ≡ recordBytes ts)
 unfolding judgedOf
 was-fits (good ts) n b e = (ts, refl, cc, cc)
-was-fits (short ts) n b e = absurd (let z : _≡_ {A = ℕ} 0 1 = cc in omega arith)
-was-fits (bad j a) n b e = absurd (let z : _≡_ {A = ℕ} 0 1 = cc in omega arith)
+was-fits (short ts) n b e = zero-one (cc)
+was-fits (bad j a) n b e = zero-one (cc)
 
 -- ---- what the host sees
 
@@ -127,8 +154,25 @@ module _ (s buf block : List ℕ) where
         ∙ ap (seen 0 (records ts ++ drop (recordBytes ts) buf)) (q ∙ ap (λ u. blockOf 0 0 u b) (w .2) ∙ ap (blockOf 0 0 (length ts)) (w .3))
         ∙ by-verdict (good ts) (w .1)
 
-pub entry-fits : (s : List ℕ) (room n b : ℕ) → judged.Fits n b ≡ judgedOf (verdict s room) → Fits (answer s) room
-entry-fits s room n b e =
-    let w = was-fits _ n b e in
-    let g = verdict-good s room (w .0) (w .1) in
-    rw (g .0) (record { accepts = refl; fits = g .1 })
+-- what writing asks for
+module _ (s : List ℕ) (room n b : ℕ) (e : judged.Fits n b ≡ judgedOf (verdict s room)) where
+  pub entry-fits : Fits (answer s) room
+  entry-fits =
+      let w = was-fits _ n b e in
+      let g = verdict-good s room (w .0) (w .1) in
+      rw (g .0) (record { accepts = refl; fits = g .1 })
+
+  pub entry-bytes : b ≡ recordBytes (tokensIn (answer s))
+  entry-bytes =
+      let w = was-fits _ n b e in
+      w .3 ∙ sym (ap (λ v. recordBytes (tokensIn v)) (verdict-good s room (w .0) (w .1) .0))
+
+  pub entry-length : length s ≤ mostBytes
+  entry-length = go (ltb mostBytes (length s)) refl
+    where
+      go : (x : Bool) → ltb mostBytes (length s) ≡ x → length s ≤ mostBytes
+      go false q = ltb-false mostBytes (length s) q
+      go true q =
+          let w = was-fits _ n b e in
+          let v = sym (verdict-17 s room (ltb-true mostBytes (length s) q)) ∙ w .1 in
+          zero-one (cc)

@@ -18,6 +18,7 @@ use Rattle.token.specs.Reading.{Piece, some, AfterComment, NoEndAfter, C
 use Rattle.token.specs.Flags.{GapKind, fresh, push, cutOf}
 use Rattle.token.specs.declared.gap.Gap.{Gap}
 use Rattle.token.specs.Answer.{Found, Start, scan, scanReturn}
+use Rattle.token.proofs.Base.{zero-one}
 use Rattle.token.proofs.Runs.{after-next, after-stop, run-after, run-suffix, after-least}
 use Rattle.token.proofs.Dispatch.{apart, clear-head, scan-by, starts-blank, starts-lf, starts-cr}
 use Rattle.token.proofs.Complete.{code-is}
@@ -236,7 +237,7 @@ is-no-end : (s : Text) → lineEnds s ≡ false → NoEndAfter s
 is-no-end s e = (afterRun blanks s, (run-after blanks s, λ q w. after-least blanks w), e)
 
 line-no-block : Kind.lineComment ≡ Kind.blockComment → ⊥
-line-no-block e = let z : _≡_ {A = ℕ} 0 1 = cc in omega arith
+line-no-block e = zero-one (cc)
 
 -- ---- the flags
 

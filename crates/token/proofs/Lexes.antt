@@ -35,6 +35,7 @@ use Rattle.token.specs.Answer.{Read, read, readDigits, numberOf, scanNum
 use Rattle.token.specs.declared.kinds.Kw.{Kw}
 use Rattle.token.specs.declared.kinds.TokenKind.the-variants as tk
 use Rattle.token.specs.declared.cursor.Cursor.{Cursor}
+use Rattle.token.proofs.Base.{zero-one}
 use Rattle.token.proofs.Comments.{Pair}
 use Rattle.token.proofs.Dispatch.{Fact, start-fact}
 use Rattle.token.proofs.Bytes.{any-byte}
@@ -256,22 +257,22 @@ comment-kind n s k r o e = go (opened n s o)
     go : Opened n s (scan n s) → (k ≡ GapKind.lineComment) ⊎ (k ≡ GapKind.blockComment)
     go (Opened.line q f) = inl (cc)
     go (Opened.block q f) = inr (cc)
-    go (Opened.unclosed f) = absurd (let z : _≡_ {A = ℕ} 0 1 = cc in omega arith)
+    go (Opened.unclosed f) = zero-one (cc)
 
 pub comment-token : (n : ℕ) (s : Text) (k : TokenKind) (r : Text) → opensComment s ≡ true → scan n s ≡ Found.token k r → ⊥
 comment-token n s k r o e = go (opened n s o)
   where
     go : Opened n s (scan n s) → ⊥
-    go (Opened.line q f) = absurd (let z : _≡_ {A = ℕ} 0 1 = cc in omega arith)
-    go (Opened.block q f) = absurd (let z : _≡_ {A = ℕ} 0 1 = cc in omega arith)
-    go (Opened.unclosed f) = absurd (let z : _≡_ {A = ℕ} 0 1 = cc in omega arith)
+    go (Opened.line q f) = zero-one (cc)
+    go (Opened.block q f) = zero-one (cc)
+    go (Opened.unclosed f) = zero-one (cc)
 
 pub comment-stuck : (n : ℕ) (s : Text) (j : ℕ) (r : Text) → opensComment s ≡ true → scan n s ≡ Found.stuck j r → (j ≡ 2) × (r ≡ s)
 comment-stuck n s j r o e = go (opened n s o)
   where
     go : Opened n s (scan n s) → (j ≡ 2) × (r ≡ s)
-    go (Opened.line q f) = absurd (let z : _≡_ {A = ℕ} 0 1 = cc in omega arith)
-    go (Opened.block q f) = absurd (let z : _≡_ {A = ℕ} 0 1 = cc in omega arith)
+    go (Opened.line q f) = zero-one (cc)
+    go (Opened.block q f) = zero-one (cc)
     go (Opened.unclosed f) = (cc, cc)
 
 comment-on : (n : ℕ) (g : Gap) (c : Char) (s r : Text) (k : GapKind) → (k ≡ GapKind.lineComment) ⊎ (k ≡ GapKind.blockComment) → scan n (c ∷ s) ≡ Found.gap k r → seek n 0 g (c ∷ s) ≡ seek n 0 (push k g) r
@@ -313,8 +314,8 @@ no-gap n c s k r z w e = go (startOf (c ∷ s)) refl (start-fact (c ∷ s))
 
     found : (x : Found) → scan n (c ∷ s) ≡ x → gapless x ≡ true → ⊥
     found (Found.gap j q) p y = clash y
-    found (Found.token j q) p y = absurd (let z : _≡_ {A = ℕ} 0 1 = cc in omega arith)
-    found (Found.stuck j q) p y = absurd (let z : _≡_ {A = ℕ} 0 1 = cc in omega arith)
+    found (Found.token j q) p y = zero-one (cc)
+    found (Found.stuck j q) p y = zero-one (cc)
 
     go : (x : Start) → startOf (c ∷ s) ≡ x → Fact (c ∷ s) x → ⊥
     go Start.line p (Fact.line q) = clash (sym (clear (c ∷ s) z .line) ∙ q)
@@ -364,8 +365,8 @@ module _ (s : List ℕ) (i : ℕ) (g : Gap) (h : i < length s) where
           let b : cursorAt (place m r) ≡ e = cc in
           let w = seek-token m g _ _ r x (ap (scan m) (sym t) ∙ p) in
           sym (ap (λ u. nextOf m (seek m 0 g u)) t ∙ ap (nextOf m) w ∙ ap (λ z. next.Token z i (cursorAt (place m r)) (cutOf g)) a ∙ ap (λ z. next.Token k i z (cutOf g)) b)
-      go (Found.stuck j r) p q = absurd (let z : _≡_ {A = ℕ} 0 1 = cc in omega arith)
-      go (Found.gap j r) p q = absurd (let z : _≡_ {A = ℕ} 0 1 = cc in omega arith)
+      go (Found.stuck j r) p q = zero-one (cc)
+      go (Found.gap j r) p q = zero-one (cc)
 
   -- a refusal
   pub next-refused : (j a : ℕ) → opensComment (from s i) ≡ false → isAny " \t\n\r" (from s i) ≡ false → piece.Refused j a ≡ pieceOf m (scan m (from s i))
@@ -380,7 +381,7 @@ module _ (s : List ℕ) (i : ℕ) (g : Gap) (h : i < length s) where
           let d : place m r ≡ a = cc in
           let w = seek-stuck m g _ _ r x (ap (scan m) (sym t) ∙ p) in
           sym (ap (λ u. nextOf m (seek m 0 g u)) t ∙ ap (nextOf m) w ∙ ap (λ z. next.Refused z (place m r)) b ∙ ap (next.Refused j) d)
-      go (Found.token x r) p q = absurd (let z : _≡_ {A = ℕ} 0 1 = cc in omega arith)
+      go (Found.token x r) p q = zero-one (cc)
       go (Found.gap x r) p q =
           let t = at-char s i h in
           absurd (no-gap m _ _ x r (sym (ap opensComment t) ∙ z) (sym (ap (isAny " \t\n\r") t) ∙ w) (ap (scan m) (sym t) ∙ p))
@@ -435,7 +436,7 @@ module _ (s : List ℕ) (i : ℕ) (g : Gap) (h : i < length s) where
   pass-block e f y o q = ap (passed.To e) y ∙ go (close 0 0 (drop 2 (from s i))) refl q
     where
       go : (x : Option Text) → close 0 0 (drop 2 (from s i)) ≡ x → shut.At e ≡ closedOf m x → passed.To e (push GapKind.blockComment g) ≡ passedOf m g (scan m (from s i))
-      go none p q = absurd (let z : _≡_ {A = ℕ} 0 1 = cc in omega arith)
+      go none p q = zero-one (cc)
       go (some r) p q =
           let b : cursorAt (place m r) ≡ e = cc in
           sym (ap (passedOf m g) (block-scan o ∙ ap (blockOr (from s i)) p) ∙ ap (λ z. passed.To z (push GapKind.blockComment g)) b)
@@ -446,7 +447,7 @@ module _ (s : List ℕ) (i : ℕ) (g : Gap) (h : i < length s) where
     where
       go : (x : Option Text) → close 0 0 (drop 2 (from s i)) ≡ x → shut.Open ≡ closedOf m x → passed.Open ≡ passedOf m g (scan m (from s i))
       go none p q = sym (ap (passedOf m g) (block-scan o ∙ ap (blockOr (from s i)) p))
-      go (some r) p q = absurd (let z : _≡_ {A = ℕ} 0 1 = cc in omega arith)
+      go (some r) p q = zero-one (cc)
 
   -- past a comment the search goes on from its end
   pub pass-on : (e : Cursor) (f : Gap) → opensComment (from s i) ≡ true → passed.To e f ≡ passedOf m g (scan m (from s i))
@@ -454,8 +455,8 @@ module _ (s : List ℕ) (i : ℕ) (g : Gap) (h : i < length s) where
   pass-on e f o q = go (scan m (from s i)) refl q
     where
       go : (x : Found) → scan m (from s i) ≡ x → passed.To e f ≡ passedOf m g x → (i < e .at) × (e .at ≤ length s) × (seek m 0 f (from s (e .at)) ≡ seek m 0 g (from s i))
-      go (Found.token k r) p q = absurd (let z : _≡_ {A = ℕ} 0 1 = cc in omega arith)
-      go (Found.stuck j r) p q = absurd (let z : _≡_ {A = ℕ} 0 1 = cc in omega arith)
+      go (Found.token k r) p q = zero-one (cc)
+      go (Found.stuck j r) p q = zero-one (cc)
       go (Found.gap k r) p q =
           let t = at-char s i h in
           let a : cursorAt (place m r) ≡ e = cc in
@@ -471,7 +472,7 @@ module _ (s : List ℕ) (i : ℕ) (g : Gap) (h : i < length s) where
   pass-none o q = go (scan m (from s i)) refl q
     where
       go : (x : Found) → scan m (from s i) ≡ x → passed.Open ≡ passedOf m g x → next.Refused 2 i ≡ nextOf m (seek m 0 g (from s i))
-      go (Found.gap k r) p q = absurd (let z : _≡_ {A = ℕ} 0 1 = cc in omega arith)
+      go (Found.gap k r) p q = zero-one (cc)
       go (Found.token k r) p q = absurd (comment-token m (from s i) k r o p)
       go (Found.stuck j r) p q =
           let t = at-char s i h in

@@ -31,7 +31,9 @@ pub mod Lexes
 pub mod Turns
 pub mod Stores
 pub mod DirectLaws
+pub mod ClassTable
 pub mod Measures
+pub mod Reach
 pub mod Verdicts
 pub mod Entries
 pub mod Theorems

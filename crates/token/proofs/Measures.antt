@@ -1,19 +1,18 @@
 -- Measuring and writing, turn by turn.
-use Prim.Native.Nat.{ℕ, suc, _+_, _*_, _≤_, _<_}
+use Prim.Native.Nat.{ℕ, suc, _+_, _≤_}
 use mathlib.Core.Path.{_≡_, refl, sym, _∙_, ap}
-use mathlib.Core.Bool.{Bool, true, false, cond}
-use mathlib.Core.List.{List, [], _∷_, _++_, append-nil}
+use mathlib.Core.Bool.{Bool}
+use mathlib.Core.List.{List, [], _∷_, append-nil}
 use lib.ListN.{length}
 use lib.Seq.{sets, length-sets}
 use native.Mathlib.Omega.{arith}
-use mathlib.Core.Logic.{_⊎_, inl, inr}
 use Rattle.chars.specs.Text.{from}
 use Rattle.chars.proofs.Bools.{clash}
 use Rattle.token.specs.Kinds.{Token}
 use Rattle.token.specs.Flags.{fresh}
 use Rattle.token.specs.Answer.{Answer, accepted, refused, before, walk, answer}
 use Rattle.token.specs.Records.{le4, le8, values, recordLength, recordOf, records, recordBytes}
-use Rattle.token.specs.Measure.{measuredOf, isAccepted, tokensIn, Fits}
+use Rattle.token.specs.Measure.{measuredOf, isAccepted, tokensIn, Fits, Writing}
 use Rattle.token.specs.declared.gap.Gap.{Gap}
 use Rattle.token.specs.declared.kinds.TokenKind.{TokenKind}
 use Rattle.token.specs.declared.kinds.TokenKind.the-variants as tk
@@ -49,6 +48,14 @@ pub newline-length : (mark : Bool) → recordLength (tk.Newline mark) ≡ 14
 unfolding recordLength values
 newline-length mark = refl
 
+pub int-length : (v : ℕ) → recordLength (tk.IntLit v) ≡ 17
+unfolding recordLength values le4
+int-length v = refl
+
+pub long-length : (v : ℕ) → recordLength (tk.LongLit v) ≡ 21
+unfolding recordLength values le4 le8
+long-length v = refl
+
 pub eof-length : recordLength tk.Eof ≡ 13
 unfolding recordLength values
 eof-length = refl
@@ -74,12 +81,6 @@ unfolding measuredOf
 measured-stop v j a c b e = sym (ap (measuredOf c b) e)
 
 -- ---- writing
-
--- what is still to be written fits, and brings the buffer to `all`
-pub record Writing (v : Answer) (all out : List ℕ) (w : ℕ) : Type 0 where
-  pub accepts : isAccepted v ≡ true
-  pub room : w + recordBytes (tokensIn v) ≤ length out
-  pub brings : sets out w (records (tokensIn v)) ≡ all
 
 pub writing-room : (v u : Answer) (t : Token) (all out : List ℕ) (w : ℕ) → v ≡ before t u → Writing v all out w → w + recordLength (t .kind) ≤ length out
 unfolding recordBytes
@@ -130,58 +131,3 @@ writing-start v w out e h = record { accepts = ap isAccepted e ∙ h .accepts; r
 pub turn-room : {s : List ℕ} {i : ℕ} {g : Gap} {t : Token} {e : ℕ} {h : Gap} {all out : List ℕ} {w : ℕ} → Turn s i g t e h → Writing (walk (length s) 0 g (from s i)) all out w
     → w + recordLength (t .kind) ≤ length out
 turn-room {s} {i} {g} {t} {e} {h} {all} {out} {w} u k = writing-room (walk (length s) 0 g (from s i)) (walk (length s) 0 h (from s e)) t all out w (u .walked) k
-
--- ---- both
-
-pub put-none : (x : Bool) (a b : List ℕ) → x ≡ false → a ≡ cond x b a
-put-none x a b e = rw e
-
-pub put-one : (x : Bool) (a b : List ℕ) → x ≡ true → b ≡ cond x b a
-put-one x a b e = rw e
-
--- Where records are stored, what is still to be written; where none are, the buffer is what it was, and the sum is bounded by the place i.
-pub data Lent (v : Answer) (all out : List ℕ) (b i n : ℕ) : Bool → Type 0 where
-  storing : Writing v all out b → Lent v all out b i n true
-  counting : out ≡ all → b ≤ 21 * i → n ≤ 16777216 → Lent v all out b i n false
-
-pub lent-start : (x : Bool) (v w : Answer) (out : List ℕ) (i n : ℕ) → v ≡ w → (x ≡ false → n ≤ 16777216) → (x ≡ true → Fits w (length out))
-    → Lent v (cond x (sets out 0 (records (tokensIn v))) out) out 0 i n x
-lent-start true v w out i n e l h = Lent.storing (writing-start v w out e (h refl))
-lent-start false v w out i n e l h = Lent.counting refl (omega arith) (l refl)
-
-module _ {s : List ℕ} {i : ℕ} {g : Gap} {t : Token} {e : ℕ} {h : Gap} (u : Turn s i g t e h) {all out : List ℕ} {b : ℕ} where
-  pub lent-room : {x : Bool} → Lent (walk (length s) 0 g (from s i)) all out b i (length s) x → x ≡ true → b + recordLength (t .kind) ≤ length out
-  lent-room (Lent.storing k) z = turn-room u k
-  lent-room (Lent.counting k l m) z = clash z
-
-  -- the sum stays within the buffer, or within 21 bytes for each of 16,777,216
-  pub lent-sum : {x : Bool} → Lent (walk (length s) 0 g (from s i)) all out b i (length s) x
-      → (b + recordLength (t .kind) ≤ length out) ⊎ (b + recordLength (t .kind) ≤ 352321536)
-  lent-sum (Lent.storing k) = inl (turn-room u k)
-  lent-sum (Lent.counting k l m) = let r = record-most (t .kind) in let a = u .on in let w = u .within in inr (omega arith)
-
-  pub lent-turn : {x : Bool} (next : List ℕ) (l : ℕ) → Lent (walk (length s) 0 g (from s i)) all out b i (length s) x
-      → next ≡ cond x (sets out b (recordOf t)) out → l ≡ recordLength (t .kind) → Lent (walk (length s) 0 h (from s e)) all next (b + l) e (length s) x
-  lent-turn next l (Lent.storing k) q p = Lent.storing (writing-turn _ _ _ _ _ next _ l (u .walked) k q p)
-  lent-turn next l (Lent.counting k j m) q p =
-      let r = record-most (t .kind) in
-      let a = u .on in
-      Lent.counting (q ∙ k) (omega arith) m
-
-module _ {v : Answer} {all out : List ℕ} {b i n : ℕ} where
-  pub lent-last : {x : Bool} (t : Token) → v ≡ accepted (t ∷ []) → Lent v all out b i n x → x ≡ true → b + recordLength (t .kind) ≤ length out
-  lent-last t e (Lent.storing k) z = writing-last v t all out b e k
-  lent-last t e (Lent.counting k l m) z = clash z
-
-  pub lent-end : {x : Bool} (t : Token) (next : List ℕ) → v ≡ accepted (t ∷ []) → Lent v all out b i n x → next ≡ cond x (sets out b (recordOf t)) out → next ≡ all
-  lent-end t next e (Lent.storing k) q = writing-end v t all out next b e k q
-  lent-end t next e (Lent.counting k l m) q = q ∙ k
-
-  pub lent-most : {x : Bool} (t : Token) → v ≡ accepted (t ∷ []) → i ≤ n → Lent v all out b i n x
-      → (b + recordLength (t .kind) ≤ length out) ⊎ (b ≤ 352321536)
-  lent-most t e l (Lent.storing k) = inl (writing-last v t all out b e k)
-  lent-most t e l (Lent.counting k j m) = inr (omega arith)
-
-  pub lent-stop : {x : Bool} (j a : ℕ) → v ≡ refused j a → Lent v all out b i n x → out ≡ all
-  lent-stop j a e (Lent.storing k) = absurd (writing-stop v j a all out b e k)
-  lent-stop j a e (Lent.counting k l m) = k

@@ -17,6 +17,7 @@ use Rattle.token.specs.Seek.{Sought, seek, nextOf}
 use Rattle.token.specs.declared.lexer.Next.the-variants as next
 use Rattle.token.specs.declared.gap.Gap.{Gap}
 use Rattle.token.specs.declared.kinds.TokenKind.{TokenKind}
+use Rattle.token.proofs.Base.{zero-one}
 use Rattle.token.proofs.Ticks.{Fell}
 use Rattle.token.proofs.Dispatch.{Hit, Scanned, scan-stands, scan-by, starts-blank, clear-head, Clear}
 use Rattle.token.proofs.Shorter.{Strict, stands-strict}
@@ -35,8 +36,8 @@ module _ (n : ℕ) (c : Char) (s : Text) where
       go (Scanned.hit {k} {r = q} h (Hit.lineEnd f)) = rw (sym (same _ q f)) (stands-strict k (c ∷ s) q h)
       go (Scanned.hit {k} {r = q} h (Hit.lineComment f)) = rw (sym (same _ q f)) (stands-strict k (c ∷ s) q h)
       go (Scanned.hit {k} {r = q} h (Hit.blockComment f)) = rw (sym (same _ q f)) (stands-strict k (c ∷ s) q h)
-      go (Scanned.hit {k} {r = q} h (Hit.token f v)) = absurd (let z : _≡_ {A = ℕ} 0 1 = cc in omega arith)
-      go (Scanned.fell h) = let f = h .found in absurd (let z : _≡_ {A = ℕ} 0 1 = cc in omega arith)
+      go (Scanned.hit {k} {r = q} h (Hit.token f v)) = zero-one (cc)
+      go (Scanned.fell h) = let f = h .found in zero-one (cc)
 
   pub token-strict : (k : TokenKind) (r : Text) → scan n (c ∷ s) ≡ Found.token k r → Strict r (c ∷ s)
   token-strict k r e = go (scan-stands n c s)
@@ -45,12 +46,12 @@ module _ (n : ℕ) (c : Char) (s : Text) where
       same x q f = cc
 
       go : Scanned n (c ∷ s) (scan n (c ∷ s)) → Strict r (c ∷ s)
-      go (Scanned.hit {k} {r = q} h (Hit.blank f)) = absurd (let z : _≡_ {A = ℕ} 0 1 = cc in omega arith)
-      go (Scanned.hit {k} {r = q} h (Hit.lineEnd f)) = absurd (let z : _≡_ {A = ℕ} 0 1 = cc in omega arith)
-      go (Scanned.hit {k} {r = q} h (Hit.lineComment f)) = absurd (let z : _≡_ {A = ℕ} 0 1 = cc in omega arith)
-      go (Scanned.hit {k} {r = q} h (Hit.blockComment f)) = absurd (let z : _≡_ {A = ℕ} 0 1 = cc in omega arith)
+      go (Scanned.hit {k} {r = q} h (Hit.blank f)) = zero-one (cc)
+      go (Scanned.hit {k} {r = q} h (Hit.lineEnd f)) = zero-one (cc)
+      go (Scanned.hit {k} {r = q} h (Hit.lineComment f)) = zero-one (cc)
+      go (Scanned.hit {k} {r = q} h (Hit.blockComment f)) = zero-one (cc)
       go (Scanned.hit {k} {r = q} h (Hit.token f v)) = rw (sym (same _ q f)) (stands-strict k (c ∷ s) q h)
-      go (Scanned.fell h) = let f = h .found in absurd (let z : _≡_ {A = ℕ} 0 1 = cc in omega arith)
+      go (Scanned.fell h) = let f = h .found in zero-one (cc)
 
 -- ---- one step
 
@@ -93,7 +94,7 @@ module _ (n : ℕ) (g : Gap) (c : Char) (s r : Text) where
 
 -- ---- blanks
 
-blank-scan : (n : ℕ) (c : Char) (s : Text) → isAny " \t" (c ∷ s) ≡ true → scan n (c ∷ s) ≡ Found.gap GapKind.blank s
+pub blank-scan : (n : ℕ) (c : Char) (s : Text) → isAny " \t" (c ∷ s) ≡ true → scan n (c ∷ s) ≡ Found.gap GapKind.blank s
 blank-scan n c s e = scan-by n (c ∷ s) Start.blank (starts-blank (c ∷ s) (clear-head (oneOf " \t") refl (c ∷ s) e) e)
 
 pub seek-blanks : (n : ℕ) (g : Gap) (s : Text) → seek n 0 g (afterRun (isAny " \t") s) ≡ seek n 0 g s

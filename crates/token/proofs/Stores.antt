@@ -1,17 +1,21 @@
 -- Stores that follow one another are one store; what each writer of src/store.rt stores is one list.
-use Prim.Native.Nat.{ℕ, suc, _≤_, _+_, _/_, _%_}
+use Prim.Native.Nat.{ℕ, suc, _≤_, _<_, _+_, _/_, _%_}
 use mathlib.Core.Path.{_≡_, refl, sym, _∙_, ap}
-use mathlib.Core.Bool.{Bool}
+use mathlib.Core.Bool.{Bool, true, false, cond}
 use mathlib.Core.List.{List, [], _∷_, _++_, append-nil}
-use lib.ListN.{length, set, drop, length-append}
-use lib.Seq.{sets, sets-eq, drop-length}
+use lib.ListN.{length, set, take, drop, getD, length-append}
+use lib.Seq.{sets, sets-eq, length-sets, length-take-le, take-suc, drop-length}
+use lib.Dec.{leb}
 use native.Mathlib.Nat.{add-zero, zero-add}
 use native.Mathlib.Numerals.{add-one, add-two, add-three}
 use native.Mathlib.Omega.{arith}
+use borrow.Author.Tests.{le-leb, lt-leb}
 use Rattle.token.specs.Kinds.{kindNumber, Token}
 use Rattle.token.specs.Records.{bit, le2, le4, le8, values, recordLength, fieldsOf, headOf, recordOf}
+use Rattle.token.specs.Measure.{storedIf}
 use Rattle.token.specs.Host.{blockOf}
 use Rattle.token.specs.declared.kinds.TokenKind.{TokenKind}
+use Rattle.token.specs.declared.kinds.TokenKind.the-variants as tk
 
 pub sets-append : (l : List ℕ) (i : ℕ) (a b : List ℕ) → sets l i (a ++ b) ≡ sets (sets l i a) (i + length a) b
 sets-append l i [] b = rw add-zero
@@ -20,6 +24,12 @@ sets-append l i (x ∷ a) b = let e : i + suc (length a) ≡ suc i + length a = 
 -- b stored right after a
 pub after : (a b l m : List ℕ) (i j : ℕ) → m ≡ sets l i a → j ≡ i + length a → sets m j b ≡ sets l i (a ++ b)
 after a b l m i j e f = rw (e, f) (sym (sets-append l i a b))
+
+-- one more byte of a list that is stored from its front on
+pub copy-more : (l m src : List ℕ) (i : ℕ) → i < length src → m ≡ sets l 0 (take i src) → set m i (getD src i 0) ≡ sets l 0 (take (i + 1) src)
+copy-more l m src i h e =
+    after (take i src) (getD src i 0 ∷ []) l m 0 i e (sym (zero-add _ ∙ length-take-le i src (omega arith)))
+    ∙ ap (sets l 0) (sym (ap (λ k. take k src) (add-one i) ∙ take-suc src i 0 h))
 
 -- a store from the front keeps what is past it
 pub sets-front : (l v : List ℕ) → length v ≤ length l → sets l 0 v ≡ v ++ drop (length v) l
@@ -39,9 +49,13 @@ pub length-four : (x : ℕ) → length (le4 x) ≡ 4
 unfolding le4
 length-four x = refl
 
+pub length-fields : (x k a e : ℕ) (b : Bool) → length (fieldsOf x k a e b) ≡ 13
+unfolding fieldsOf le2 le4
+length-fields x k a e b = refl
+
 pub length-head : (t : Token) → length (headOf t) ≡ 13
-unfolding headOf fieldsOf le2 le4
-length-head t = refl
+unfolding headOf
+length-head t = length-fields _ _ _ _ _
 
 pub length-record : (t : Token) → length (recordOf t) ≡ recordLength (t .kind)
 unfolding recordOf recordLength
@@ -104,6 +118,39 @@ put-known l m v w e f p = p ∙ ap (sets l w) (sym f ∙ ap values (sym e))
 pub put-both : (t : Token) (l m n : List ℕ) (w : ℕ) → m ≡ sets l w (headOf t) → n ≡ sets m (w + 13) (values (t .kind)) → n ≡ sets l w (recordOf t)
 unfolding recordOf
 put-both t l m n w p q = q ∙ after (headOf t) (values (t .kind)) l m w (w + 13) p (ap (λ k. w + k) (sym (length-head t)))
+
+-- ---- a line end's value and a number's
+
+pub put-mark : (l : List ℕ) (w c : ℕ) (mark : Bool) → c ≡ bit mark → set l w c ≡ sets l w (values (tk.Newline mark))
+unfolding values
+put-mark l w c mark e = ap (set l w) e
+
+pub int-values : (v : ℕ) → values (tk.IntLit v) ≡ le4 v
+unfolding values
+int-values v = append-nil (le4 v)
+
+pub long-values : (v : ℕ) → values (tk.LongLit v) ≡ le8 v
+unfolding values
+long-values v = append-nil (le8 v)
+
+-- ---- what fits is stored, and nothing else
+
+module _ (out : List ℕ) (w l : ℕ) (bytes : List ℕ) (e : length bytes ≡ l) where
+  pub stored-in : (m : List ℕ) → w + l ≤ length out → m ≡ sets out w bytes → m ≡ storedIf out w bytes
+  unfolding storedIf
+  stored-in m h q = q ∙ sym (rw (le-leb (w + length bytes) (length out) (omega arith)))
+
+  pub stored-out : length out < w + l → out ≡ storedIf out w bytes
+  unfolding storedIf
+  stored-out h = sym (rw (lt-leb (w + length bytes) (length out) (omega arith)))
+
+pub stored-length : (out : List ℕ) (w : ℕ) (bytes : List ℕ) → length (storedIf out w bytes) ≡ length out
+unfolding storedIf
+stored-length out w bytes = go (leb (w + length bytes) (length out))
+  where
+    go : (b : Bool) → length (cond b (sets out w bytes) out) ≡ length out
+    go true = length-sets out w bytes
+    go false = refl
 
 -- ---- the answer block
 

@@ -25,6 +25,7 @@ use Rattle.token.specs.declared.piece.Ended.the-variants as ended
 use Rattle.token.specs.declared.piece.Piece.the-variants as piece
 use Rattle.token.specs.declared.kinds.TokenKind.{TokenKind}
 use Rattle.token.specs.declared.kinds.TokenKind.the-variants as tk
+use Rattle.token.proofs.Base.{zero-one}
 use Rattle.token.proofs.Bytes.{inside, any-byte, past, starts-byte, two-bytes, one-byte}
 use Rattle.token.proofs.Runs.{after-next, after-stop}
 use Rattle.token.proofs.Cursors.{all-past}
@@ -429,7 +430,7 @@ module _ (p : Bool) (s : List ℕ) (i : ℕ) where
 -- ---- the token
 
 no-at : {A : Type 0} (e : Cursor) (j a : ℕ) → ended.Refused j a ≡ ended.At e → A
-no-at e j a q = absurd (let z : _≡_ {A = ℕ} 0 1 = cc in omega arith)
+no-at e j a q = zero-one (cc)
 
 module _ (n : ℕ) (t : Text) where
   pub plain-refused : (j a : ℕ) → ended.Refused j a ≡ endedOf n (inString false t) → piece.Refused j a ≡ pieceOf n (scanString n t)
@@ -482,7 +483,7 @@ plain-strict t r q c = ⊎-elim ends refused (strings.body-finds false t q)
         rw x (stands-strict (Kind.token TokenType.str) t (w .rest) (inl (w .body), quote-no-comment t q))
 
     refused : strings.Wrong false t → Strict r t
-    refused w = absurd (let e : wrong (w .number) (w .rest) ≡ closed r = sym (w .found) ∙ c in let z : _≡_ {A = ℕ} 0 1 = cc in omega arith)
+    refused w = absurd (let e : wrong (w .number) (w .rest) ≡ closed r = sym (w .found) ∙ c in zero-one (cc))
 
 pub plain-suffix : (t r : Text) → quote t ≡ true → inString false t ≡ closed r → Suffix r t
 plain-suffix t r q c = plain-strict t r q c .0

@@ -21,6 +21,7 @@ use Rattle.token.specs.declared.cursor.Cursor.{Cursor}
 use Rattle.token.specs.declared.kinds.TokenKind.the-variants as tk
 use Rattle.token.specs.declared.piece.Piece.the-variants as piece
 use Rattle.token.specs.declared.piece.Ended.the-variants as ended
+use Rattle.token.proofs.Base.{zero-one}
 use Rattle.token.proofs.Bytes.{any-byte, inside, past}
 use Rattle.token.proofs.Cursors.{Here}
 
@@ -75,14 +76,14 @@ module _ (s : List ℕ) (i : ℕ) where
           let z : end .at ≡ place (length s) (drop k (from s i)) = ap (λ d. d .at) y in
           let w = text-within s (drop k (from s i)) t in
           (omega arith, ap (λ j. tickNext (from s j)) z ∙ ap tickNext (text-place s (drop k (from s i)) t))
-      go (bad j q) e = absurd (let z : _≡_ {A = ℕ} 0 1 = cc in omega arith)
+      go (bad j q) e = zero-one (cc)
 
   pub escape-wrong : (j at : ℕ) → ended.Refused j at ≡ escapeOf (length s) (from s i) → piece.Refused j at ≡ pieceOf (length s) (escapedChar (from s i))
   unfolding escapeOf pieceOf
   escape-wrong j at e = go (afterSlash (from s i)) e
     where
       go : (a : Esc) → ended.Refused j at ≡ escEnd (length s) (from s i) a → piece.Refused j at ≡ pieceOf (length s) (escapedOf (from s i) a)
-      go (good k) e = absurd (let z : _≡_ {A = ℕ} 0 1 = cc in omega arith)
+      go (good k) e = zero-one (cc)
       go (bad k q) e = cc
 
 -- ---- a symbol, by the first character of its name

@@ -20,6 +20,7 @@ use Rattle.token.specs.declared.cursor.Cursor.{Cursor}
 use Rattle.token.specs.declared.kinds.TokenKind.{TokenKind}
 use Rattle.token.specs.declared.kinds.TokenKind.the-variants as tk
 use Rattle.token.specs.declared.lexer.Next.the-variants as next
+use Rattle.token.proofs.Base.{zero-one}
 use Rattle.token.proofs.Shorter.{Strict}
 use Rattle.token.proofs.Walks.{walk-gap, walk-token, walk-stuck, walk-end}
 use Rattle.token.proofs.Seeks.{gap-strict, token-strict, seek-blank, seek-line, seek-block, seek-end, seek-token, seek-stuck, left-at}
@@ -119,9 +120,9 @@ module _ (s : List ℕ) (i : ℕ) (g : Gap) where
             on = omega arith;
             within = omega arith;
           }
-      go (Sought.lineEnd p r m h) w q = absurd (let z : _≡_ {A = ℕ} 0 1 = cc in omega arith)
-      go (Sought.ends d) w q = absurd (let z : _≡_ {A = ℕ} 0 1 = cc in omega arith)
-      go (Sought.stuck j p) w q = absurd (let z : _≡_ {A = ℕ} 0 1 = cc in omega arith)
+      go (Sought.lineEnd p r m h) w q = zero-one (cc)
+      go (Sought.ends d) w q = zero-one (cc)
+      go (Sought.stuck j p) w q = zero-one (cc)
 
   pub turn-line : (a : ℕ) (e : Cursor) (mark : Bool) (h : Gap) → next.LineEnd a e mark h ≡ nextOf n (seek n 0 g (from s i))
       → Turn s i g (record { kind = tk.Newline mark; start = a; end = e .at; cut = false }) (e .at) h
@@ -146,9 +147,9 @@ module _ (s : List ℕ) (i : ℕ) (g : Gap) where
             on = omega arith;
             within = omega arith;
           }
-      go (Sought.token y p r d) w q = absurd (let z : _≡_ {A = ℕ} 0 1 = cc in omega arith)
-      go (Sought.ends d) w q = absurd (let z : _≡_ {A = ℕ} 0 1 = cc in omega arith)
-      go (Sought.stuck j p) w q = absurd (let z : _≡_ {A = ℕ} 0 1 = cc in omega arith)
+      go (Sought.token y p r d) w q = zero-one (cc)
+      go (Sought.ends d) w q = zero-one (cc)
+      go (Sought.stuck j p) w q = zero-one (cc)
 
   pub turn-end : (cut : Bool) → next.End cut ≡ nextOf n (seek n 0 g (from s i)) → walk n 0 g (from s i) ≡ accepted (record { kind = tk.Eof; start = n; end = n; cut = cut } ∷ [])
   unfolding nextOf
@@ -156,9 +157,9 @@ module _ (s : List ℕ) (i : ℕ) (g : Gap) where
     where
       go : (x : Sought) → Meets n g (from s i) x → next.End cut ≡ nextOf n x → walk n 0 g (from s i) ≡ accepted (record { kind = tk.Eof; start = n; end = n; cut = cut } ∷ [])
       go (Sought.ends d) (Meets.ends w) q = let b : d ≡ cut = cc in w ∙ ap (λ z. accepted (record { kind = tk.Eof; start = n; end = n; cut = z } ∷ [])) b
-      go (Sought.token y p r d) w q = absurd (let z : _≡_ {A = ℕ} 0 1 = cc in omega arith)
-      go (Sought.lineEnd p r m h) w q = absurd (let z : _≡_ {A = ℕ} 0 1 = cc in omega arith)
-      go (Sought.stuck j p) w q = absurd (let z : _≡_ {A = ℕ} 0 1 = cc in omega arith)
+      go (Sought.token y p r d) w q = zero-one (cc)
+      go (Sought.lineEnd p r m h) w q = zero-one (cc)
+      go (Sought.stuck j p) w q = zero-one (cc)
 
   pub turn-stop : (j a : ℕ) → next.Refused j a ≡ nextOf n (seek n 0 g (from s i)) → walk n 0 g (from s i) ≡ refused j a
   unfolding nextOf
@@ -166,6 +167,6 @@ module _ (s : List ℕ) (i : ℕ) (g : Gap) where
     where
       go : (x : Sought) → Meets n g (from s i) x → next.Refused j a ≡ nextOf n x → walk n 0 g (from s i) ≡ refused j a
       go (Sought.stuck y p) (Meets.stuck w) q = let b : y ≡ j = cc in let d : place n p ≡ a = cc in w ∙ ap (λ z. refused z (place n p)) b ∙ ap (refused j) d
-      go (Sought.token y p r d) w q = absurd (let z : _≡_ {A = ℕ} 0 1 = cc in omega arith)
-      go (Sought.lineEnd p r m h) w q = absurd (let z : _≡_ {A = ℕ} 0 1 = cc in omega arith)
-      go (Sought.ends d) w q = absurd (let z : _≡_ {A = ℕ} 0 1 = cc in omega arith)
+      go (Sought.token y p r d) w q = zero-one (cc)
+      go (Sought.lineEnd p r m h) w q = zero-one (cc)
+      go (Sought.ends d) w q = zero-one (cc)

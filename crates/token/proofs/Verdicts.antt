@@ -12,6 +12,7 @@ use Rattle.token.specs.Kinds.{Token}
 use Rattle.token.specs.Records.{recordBytes}
 use Rattle.token.specs.Answer.{Answer, accepted, refused, answer}
 use Rattle.token.specs.Host.{mostBytes, Verdict, good, bad, short, judge, verdict}
+use Rattle.token.proofs.Base.{zero-one}
 
 module _ (room : ℕ) (w : Answer) where
   pub judge-good : (ts : List Token) → w ≡ accepted ts → recordBytes ts ≤ room → judge room w ≡ good ts
@@ -44,17 +45,17 @@ module _ (script : List ℕ) (room : ℕ) where
 good-leb : (room : ℕ) (us ts : List Token) (b : Bool) → leb (recordBytes us) room ≡ b → cond b (good us) (short us) ≡ good ts
     → (accepted us ≡ accepted ts) × (recordBytes ts ≤ room)
 good-leb room us ts true h e = let q : us ≡ ts = cc in (ap accepted q, rw (← q) (leb-true (recordBytes us) room h))
-good-leb room us ts false h e = absurd (let z : _≡_ {A = ℕ} 0 1 = cc in omega arith)
+good-leb room us ts false h e = zero-one (cc)
 
 good-judge : (room : ℕ) (w : Answer) (ts : List Token) → judge room w ≡ good ts → (w ≡ accepted ts) × (recordBytes ts ≤ room)
 unfolding judge
 good-judge room (accepted us) ts e = good-leb room us ts (leb (recordBytes us) room) refl e
-good-judge room (refused j a) ts e = absurd (let z : _≡_ {A = ℕ} 0 1 = cc in omega arith)
+good-judge room (refused j a) ts e = zero-one (cc)
 
 good-order : (p q : Bool) (v room : ℕ) (w : Answer) (ts : List Token) → cond p (bad 17 0) (cond q (bad 18 v) (judge room w)) ≡ good ts
     → (w ≡ accepted ts) × (recordBytes ts ≤ room)
-good-order true q v room w ts e = absurd (let z : _≡_ {A = ℕ} 0 1 = cc in omega arith)
-good-order false true v room w ts e = absurd (let z : _≡_ {A = ℕ} 0 1 = cc in omega arith)
+good-order true q v room w ts e = zero-one (cc)
+good-order false true v room w ts e = zero-one (cc)
 good-order false false v room w ts e = good-judge room w ts e
 
 pub verdict-good : (script : List ℕ) (room : ℕ) (ts : List Token) → verdict script room ≡ good ts

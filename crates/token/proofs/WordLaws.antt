@@ -21,6 +21,7 @@ use Rattle.token.specs.Code.{LeftOf, standsAt, keywordAt, keywordOf}
 use Rattle.token.specs.declared.kinds.Kw.{Kw}
 use Rattle.token.specs.declared.kinds.Kw.the-variants as kw
 use Rattle.token.specs.declared.ident.Keyword.the-variants as key
+use Rattle.token.proofs.Base.{zero-one}
 use Rattle.token.proofs.Bytes.{plain}
 
 -- ---- codes between two places
@@ -276,10 +277,10 @@ module _ (s : List ℕ) (i : ℕ) where
 
 pub key-is : (o : Option Kw) (k : Kw) → key.Is k ≡ keywordOf o → o ≡ some k
 unfolding keywordOf
-key-is none k e = absurd (let z : _≡_ {A = ℕ} 0 1 = cc in omega arith)
+key-is none k e = zero-one (cc)
 key-is (some j) k e = cc
 
 pub key-not : (o : Option Kw) → key.Not ≡ keywordOf o → o ≡ none
 unfolding keywordOf
 key-not none e = refl
-key-not (some j) e = absurd (let z : _≡_ {A = ℕ} 0 1 = cc in omega arith)
+key-not (some j) e = zero-one (cc)

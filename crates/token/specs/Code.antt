@@ -1,19 +1,19 @@
 -- How the code's answers render the definitions: a text that is left becomes the place of its first character, in a script of n bytes.
-use Prim.Native.Nat.{ℕ, zero, suc, _+_, _-_, _≤_, _<_}
+use Prim.Native.Nat.{ℕ, zero, suc, _+_, _*_, _-_, _/_, _%_, _≤_, _<_}
 use mathlib.Core.Path.{_≡_}
-use mathlib.Core.Bool.{Bool, true, false, cond, not, _&&_}
+use mathlib.Core.Bool.{Bool, true, false, cond, not, _&&_, _||_}
 use mathlib.Core.List.{List, [], _∷_}
 use mathlib.Core.Logic.{_⊎_}
 use mathlib.Core.Option.{Option, none, some}
 use lib.ListN.{length, drop, getD}
 use lib.Dec.{eqb, leb, ltb}
 use Rattle.chars.specs.Quoted.{codes, oneOf}
-use Rattle.chars.specs.Classes.{isIdStart, isOpSign}
+use Rattle.chars.specs.Classes.{isIdStart, isIdChar, isOpSign}
 use Rattle.chars.specs.Text.{Char, Text, from, place, head, afterRun}
 use Rattle.chars.specs.Code.{eightIn}
 use Rattle.token.specs.Tests.{isDigit, isHexDigit, digitValue, isAny, dollarBrace, quote, opSign, freeSign, opensComment}
 use Rattle.token.specs.Kinds.{Word, word, kindNumber}
-use Rattle.token.specs.Answer.{Found, Esc, good, bad, hexes, afterSlash, Inside, closed, wrong, inPlain, inPrefixed, plainContent, afterIdent}
+use Rattle.token.specs.Answer.{Found, Read, read, Esc, good, bad, hexes, afterSlash, Inside, closed, wrong, inPlain, inPrefixed, plainContent, afterIdent}
 use Rattle.token.specs.Answer.{escapedOf, signOf}
 use Rattle.token.specs.declared.kinds.Kw.{Kw}
 use Rattle.token.specs.declared.kinds.TokenKind.{TokenKind}
@@ -27,6 +27,7 @@ use Rattle.token.specs.declared.piece.Piece.{Piece}
 use Rattle.token.specs.declared.piece.Piece.the-variants as piece
 use Rattle.token.specs.declared.piece.Ended.{Ended}
 use Rattle.token.specs.declared.piece.Ended.the-variants as ended
+use Rattle.token.specs.declared.number.Literal.{Literal}
 use Rattle.token.specs.declared.digits.Value.{Value}
 use Rattle.token.specs.declared.digits.Value.the-variants as value
 use Rattle.token.specs.declared.string.Span.{Span}
@@ -54,6 +55,13 @@ pieceOf n (Found.gap g r) = piece.Refused 3 (place n r)
 unfoldable pub closedOf : ℕ → Option Text → Closed
 closedOf n none = close.Open
 closedOf n (some r) = close.At (cursorAt (place n r))
+
+-- `/*` at the place i, its two bytes as one number; and four in a row
+abbrev pub opensAt : List ℕ → ℕ → Bool
+opensAt s i = eqb (getD s i 0 + 256 * getD s (i + 1) 0) 0x2A2F
+
+unfoldable pub fourOpen : List ℕ → ℕ → Bool
+fourOpen s i = leb (i + 8) (length s) && (opensAt s i && ((opensAt s (i + 2) && opensAt s (i + 4)) && opensAt s (i + 6)))
 
 -- a string's end
 unfoldable pub endedOf : ℕ → Inside → Ended
@@ -161,6 +169,30 @@ symbolOf m =
     (cond (freeSign m) run
     (cond (isAny ";" m && not (opSign (drop 1 m))) (Found.token tk.CharSym (drop 1 m))
     (Found.stuck 16 m)))
+
+-- ---- what a byte is, by a table
+
+-- What the table says of each byte: its weights of 32 to 512 are five classes, what lies below them is a hex digit's value, or 16.
+pub record ByteClasses (t : List ℕ) : Type 0 where
+  pub continues : (b : ℕ) → b < 256 → eqb (getD t b 0 / 32 % 2) 1 ≡ ltb b 0x80 && isIdChar b
+  pub begins : (b : ℕ) → b < 256 → eqb (getD t b 0 / 64 % 2) 1 ≡ ltb b 0x80 && isIdStart b
+  pub sign : (b : ℕ) → b < 256 → eqb (getD t b 0 / 128 % 2) 1 ≡ oneOf "()[]{},;." b
+  pub run : (b : ℕ) → b < 256 → eqb (getD t b 0 / 256 % 2) 1 ≡ (ltb b 0x80 && isOpSign b) && not (eqb b 0x2F)
+  pub more : (b : ℕ) → b < 256 → eqb (getD t b 0 / 512 % 2) 1 ≡ leb 0x80 b || oneOf "_\"" b
+  pub digit : (b : ℕ) → b < 256 → getD t b 0 % 32 ≡ digitOf b
+
+-- ---- numbers that their bytes tell
+
+-- digits that were read have this value and end there
+abbrev pub ReadTo : List ℕ → Read → ℕ → ℕ → Type 0
+ReadTo s q v e = (e ≤ length s) × (v ≤ 9223372036854775807) × (read v (from s e) ≡ q)
+
+abbrev pub literalKind : Literal → TokenKind
+literalKind r = cond (r .long) (tk.LongLit (r .value)) (tk.IntLit (r .value))
+
+-- a number that ends past its start is this piece
+abbrev pub LiteralAs : ℕ → Piece → Literal → Type 0
+LiteralAs start p r = start < r .end → piece.Token (literalKind r) (cursorAt (r .end)) ≡ p
 
 -- ---- tokens that their ASCII bytes tell
 

@@ -1,22 +1,36 @@
 -- What measuring and writing make of the answer.
-use Prim.Native.Nat.{ℕ, _+_, _≤_}
+use Prim.Native.Nat.{ℕ, _+_, _*_, _≤_}
 use mathlib.Core.Path.{_≡_}
-use mathlib.Core.Bool.{Bool, true, false}
+use mathlib.Core.Bool.{Bool, true, false, cond}
 use mathlib.Core.List.{List, []}
-use lib.ListN.{length}
+use lib.ListN.{length, take}
+use lib.Seq.{sets}
+use lib.Dec.{leb}
+use Rattle.chars.specs.Text.{from}
 use Rattle.token.specs.Kinds.{Token}
 use Rattle.token.specs.declared.kinds.TokenKind.the-variants as tk
-use Rattle.token.specs.Answer.{Answer, accepted, refused}
-use Rattle.token.specs.Records.{recordBytes}
+use Rattle.token.specs.Answer.{Answer, accepted, refused, walk, answer}
+use Rattle.token.specs.Records.{records, recordBytes}
+use Rattle.token.specs.declared.gap.Gap.{Gap}
 use Rattle.token.specs.declared.records.Measured.{Measured}
 use Rattle.token.specs.declared.records.Measured.the-variants as measured
 use Rattle.token.specs.Host.{Verdict, good, bad, short}
 use Rattle.token.specs.declared.host.Judged.{Judged}
 use Rattle.token.specs.declared.host.Judged.the-variants as judged
 
--- a line end's token, and the end's
+-- a buffer with these bytes stored at w, where they fit
+unfoldable pub storedIf : List ℕ → ℕ → List ℕ → List ℕ
+storedIf out w bytes = cond (leb (w + length bytes) (length out)) (sets out w bytes) out
+
+-- a line end's token, a number's, and the end's
 abbrev pub lineEndAt : ℕ → ℕ → Bool → Token
 lineEndAt start end mark = record { kind = tk.Newline mark; start = start; end = end; cut = false }
+
+abbrev pub intAt : ℕ → ℕ → ℕ → Bool → Token
+intAt v start end cut = record { kind = tk.IntLit v; start = start; end = end; cut = cut }
+
+abbrev pub longAt : ℕ → ℕ → ℕ → Bool → Token
+longAt v start end cut = record { kind = tk.LongLit v; start = start; end = end; cut = cut }
 
 abbrev pub eofAt : ℕ → Bool → Token
 eofAt last cut = record { kind = tk.Eof; start = last; end = last; cut = cut }
@@ -43,8 +57,31 @@ pub record Fits (w : Answer) (room : ℕ) : Type 0 where
   pub accepts : isAccepted w ≡ true
   pub fits : recordBytes (tokensIn w) ≤ room
 
+-- what is still to be written fits, and brings the buffer to `all`
+pub record Writing (v : Answer) (all out : List ℕ) (w : ℕ) : Type 0 where
+  pub accepts : isAccepted v ≡ true
+  pub room : w + recordBytes (tokensIn v) ≤ length out
+  pub brings : sets out w (records (tokensIn v)) ≡ all
+
+-- A walk over the script s that stands at i, in the gap g, after n tokens and b record bytes, with the buffer out, comes to j, in the gap h, after
+-- m tokens and d record bytes, with the buffer next: what is counted in the end stays the same, and so does what the buffer is brought to.
+pub record Reaches (s : List ℕ) (i : ℕ) (g : Gap) (n b : ℕ) (out : List ℕ) (j : ℕ) (h : Gap) (m d : ℕ) (next : List ℕ) : Type 0 where
+  pub on : i ≤ j
+  pub within : j ≤ length s
+  pub count : m ≤ j
+  pub size : d ≤ 21 * j
+  pub same : length next ≡ length out
+  pub counted : measuredOf m d (walk (length s) 0 h (from s j)) ≡ measuredOf n b (walk (length s) 0 g (from s i))
+  pub stored : (all : List ℕ) → Writing (walk (length s) 0 g (from s i)) all out b → Writing (walk (length s) 0 h (from s j)) all next d
+
 -- the verdict with the tokens counted
 unfoldable pub judgedOf : Verdict → Judged
 judgedOf (good ts) = judged.Fits (length ts) (recordBytes ts)
 judgedOf (short ts) = judged.Short (length ts) (recordBytes ts)
 judgedOf (bad j a) = judged.Refused j a
+
+-- where the records are to be written, a buffer that they fit into has them
+unfoldable pub Holds : Judged → List ℕ → List ℕ → Type 0
+Holds (judged.Fits n b) script small = b ≤ length small → take b small ≡ records (tokensIn (answer script))
+Holds (judged.Short n b) script small = Unit {0}
+Holds (judged.Refused j a) script small = Unit {0}

@@ -22,7 +22,7 @@ impl Value {
     pub const LONG_MOST: u64 = 9223372036854775807;
 
     // With one more digit, of base 10 or 16, still at most LONG_MOST.
-    const SAFE_MOST: u64 = 576460752303423487;
+    pub const SAFE_MOST: u64 = 576460752303423487;
 
     pub const INT_MOST: u64 = 2147483647;
 }
@@ -83,7 +83,7 @@ fn shifted(v: u64, d: u64, base: u64) -> Value
 }
 
 // Do `0x` and a hex digit stand there?
-fn hex_ahead(s: &[u8], c: Cursor) -> bool
+pub fn hex_ahead(s: &[u8], c: Cursor) -> bool
     requires { ⌜ c .at ≤ length (now s) ⌝ }
     ensures { λ r. ⌜ r ≡ hexAhead (from (now (s .entry)) (c .at)) ⌝ }
 {

@@ -1,5 +1,11 @@
 // Tokens that their ASCII bytes tell, which most tokens are: the nine signs, words of one run of ASCII id characters that prefix no string, and
-// runs of ASCII operator signs without `/`. They have no values, so that a kind's number makes the record. All others go by `lexer::advance`.
+// runs of ASCII operator signs without `/`. They have no values, so that a kind's number makes the record. Numbers are told in `number`; what bytes do not tell goes
+// by `lexer::advance`.
+use crate::class_table::asks_more;
+use crate::class_table::begins_word;
+use crate::class_table::continues_word;
+use crate::class_table::in_run;
+use crate::class_table::is_sign;
 use crate::cursor::byte_at;
 use crate::ident::Keyword;
 use crate::ident::run_keyword;
@@ -7,39 +13,41 @@ use crate::ident::word_keyword;
 use crate::kinds::TokenKind;
 use crate::store::put_fields;
 ghost use mathlib.Core.Path.{_≡_};
-ghost use mathlib.Core.Bool.{true, false, cond, _&&_};
-ghost use lib.Dec.{ltb};
+ghost use mathlib.Core.Bool.{true, false, not, _&&_};
+ghost use lib.Dec.{eqb, ltb};
 ghost use Prim.Native.Nat.{_+_, _≤_, _<_};
 ghost use lib.ListN.{length, getD};
-ghost use lib.Seq.{sets};
 ghost use Rattle.chars.specs.Quoted.{oneOf};
 ghost use Rattle.chars.specs.Classes.{isIdStart, isOpSign};
-ghost use Rattle.chars.specs.Text.{from};
+ghost use Rattle.chars.specs.Text.{from, place, afterRun};
+ghost use Rattle.chars.specs.Code.{asciiIdChar};
 ghost use Rattle.token.specs.Answer.{scan};
-ghost use Rattle.token.specs.Code.{Direct, DirectOr, pieceOf, pieceNumber, signNumber};
+ghost use Rattle.token.specs.Code.{ByteClasses, Direct, DirectOr, pieceOf, pieceNumber, signNumber};
 ghost use Rattle.token.specs.Records.{fieldsOf};
+ghost use Rattle.token.specs.Measure.{storedIf};
 
-// Whether the byte is one of the nine signs.
-fn is_sign(b: u8) -> bool
-    ensures { λ r. ⌜ r ≡ oneOf "()[]{},;." b ⌝ }
+// Where the ASCII id characters end that stand there.
+fn id_end(s: &[u8], t: &[u16; 256], at: usize) -> usize
+    requires { ⌜ ByteClasses (now t) ⌝ }
+    ensures { λ r. ⌜ r ≡ place (length (now (s .entry))) (afterRun asciiIdChar (from (now (s .entry)) at)) ⌝ }
 {
-    chars::classes::has_bit(b, 0x0800530000000000, 0x2800000028000000)
+    let mut i = at;
+    while i < s.len() {
+        if !continues_word(t, s[i]) {
+            return i;
+        }
+        i += 1;
+    }
+    s.len()
 }
 
 // Where the word ends that begins there; the place itself, where more than ASCII id characters must be looked at.
-fn word_end(s: &[u8], at: usize) -> usize
-    requires { ⌜ (at < length (now s)) × (ltb (getD (now s) at 0) 0x80 && isIdStart (getD (now s) at 0) ≡ true) ⌝ }
+fn word_end(s: &[u8], t: &[u16; 256], at: usize) -> usize
+    requires { ⌜ (at < length (now s)) × (ltb (getD (now s) at 0) 0x80 && isIdStart (getD (now s) at 0) ≡ true) × ByteClasses (now t) ⌝ }
     ensures { λ r. ⌜ DirectOr (now (s .entry)) at r ⌝ }
 {
-    let end = chars::classes::ascii_run_end(s, at + 1);
-    let b = byte_at(s, end);
-    if 0x80 <= b {
-        return at;
-    }
-    if b == 0x5F {
-        return at;
-    }
-    if b == 0x22 {
+    let end = id_end(s, t, at + 1);
+    if asks_more(t, byte_at(s, end)) {
         return at;
     }
     end
@@ -47,20 +55,20 @@ fn word_end(s: &[u8], at: usize) -> usize
 
 // Where the run of operator signs ends that begins there; the place itself, where a `/` or a character past ASCII stands in it. At the script's
 // end too, which is rare and left to the others.
-fn run_end(s: &[u8], at: usize) -> usize
-    requires { ⌜ (at < length (now s)) × (ltb (getD (now s) at 0) 0x80 && isOpSign (getD (now s) at 0) ≡ true) ⌝ }
+fn run_end(s: &[u8], t: &[u16; 256], at: usize) -> usize
+    requires { ⌜ (at < length (now s)) × ((ltb (getD (now s) at 0) 0x80 && isOpSign (getD (now s) at 0)) && not (eqb (getD (now s) at 0) 0x2F) ≡ true) × ByteClasses (now t) ⌝ }
     ensures { λ r. ⌜ DirectOr (now (s .entry)) at r ⌝ }
 {
-    let mut i = at;
+    let mut i = at + 1;
     while i < s.len() {
         let b = s[i];
-        if b == 0x2F {
-            return at;
-        }
-        if 0x80 <= b {
-            return at;
-        }
-        if !chars::classes::is_op_byte(b) {
+        if !in_run(t, b) {
+            if b == 0x2F {
+                return at;
+            }
+            if 0x80 <= b {
+                return at;
+            }
             return i;
         }
         i += 1;
@@ -69,21 +77,22 @@ fn run_end(s: &[u8], at: usize) -> usize
 }
 
 // Where the token ends that begins there, if its ASCII bytes tell it; else the place itself.
-pub fn direct_end(s: &[u8], at: usize) -> usize
+pub fn direct_end(s: &[u8], t: &[u16; 256], at: usize) -> usize
+    requires { ⌜ ByteClasses (now t) ⌝ }
     ensures { λ r. ⌜ DirectOr (now (s .entry)) at r ⌝ }
 {
     if s.len() <= at {
         return at;
     }
     let b = s[at];
-    if chars::classes::is_ascii_start(b) {
-        return word_end(s, at);
+    if begins_word(t, b) {
+        return word_end(s, t, at);
     }
-    if is_sign(b) {
+    if is_sign(t, b) {
         return at + 1;
     }
-    if chars::classes::is_op_byte(b) {
-        return run_end(s, at);
+    if in_run(t, b) {
+        return run_end(s, t, at);
     }
     at
 }
@@ -156,20 +165,12 @@ fn direct_number(s: &[u8], at: usize, end: usize) -> u16
     run_number(s, at, end)
 }
 
-// Stores the record of such a token, where records are to be stored.
-pub fn put_direct_if(
-    out: &mut [u8],
-    s: &[u8],
-    w: usize,
-    start: usize,
-    end: usize,
-    cut: bool,
-    stores: bool,
-)
-    requires { ⌜ (start < length (now s)) × Direct (now s) start end × (stores ≡ true → w + 13 ≤ length (now out)) ⌝ }
-    ensures { λ r. ⌜ now (out .exit) ≡ cond stores (sets (now (out .entry)) w (fieldsOf 13 (pieceNumber (pieceOf (length (now (s .entry))) (scan (length (now (s .entry))) (from (now (s .entry)) start)))) start end cut)) (now (out .entry)) ⌝ }
+// Stores the record of such a token, where it fits.
+pub fn put_direct_if(out: &mut [u8], s: &[u8], w: usize, start: usize, end: usize, cut: bool)
+    requires { ⌜ (start < length (now s)) × Direct (now s) start end × (w + 13 ≤ 18446744073709551615) ⌝ }
+    ensures { λ r. ⌜ now (out .exit) ≡ storedIf (now (out .entry)) w (fieldsOf 13 (pieceNumber (pieceOf (length (now (s .entry))) (scan (length (now (s .entry))) (from (now (s .entry)) start)))) start end cut) ⌝ }
 {
-    if stores {
+    if w + TokenKind::HEAD_LENGTH as usize <= out.len() {
         let number = direct_number(s, start, end);
         put_fields(out, w, TokenKind::HEAD_LENGTH, number, start, end, cut);
         return;

@@ -10,7 +10,7 @@ ghost use Rattle.chars.specs.Text.{from, afterRun};
 ghost use Rattle.token.specs.Tests.{endOfLine, endsLine, opensLine, opensBlock};
 ghost use Rattle.token.specs.Flags.{GapKind, fresh, push, cutOf};
 ghost use Rattle.token.specs.Answer.{close};
-ghost use Rattle.token.specs.Code.{closedOf};
+ghost use Rattle.token.specs.Code.{closedOf, fourOpen};
 
 pub struct Gap {
     pub newline: bool, // a line end of the gap came
@@ -109,6 +109,72 @@ fn pair_at(s: &[u8], at: usize) -> u32
     s[at] as u32 + 256 * (s[at + 1] as u32)
 }
 
+// A place inside nested comments, and how many are open there besides the outermost.
+pub struct Nest {
+    pub at: usize,
+    pub depth: usize,
+}
+
+// Do four `/*` in a row stand at a place? Most comments do not begin with even one more.
+fn four_open(s: &[u8], at: usize) -> bool
+    ensures { λ r. ⌜ r ≡ fourOpen (now (s .entry)) at ⌝ }
+{
+    if s.len() < 8 {
+        return false;
+    }
+    if s.len() - 8 < at {
+        return false;
+    }
+    if pair_at(s, at) != 0x2A2F {
+        return false;
+    }
+    (pair_at(s, at + 2) == 0x2A2F) & (pair_at(s, at + 4) == 0x2A2F) & (pair_at(s, at + 6) == 0x2A2F)
+}
+
+// Past the `/*` that stand there, four at a time.
+fn pass_openings(s: &[u8], at: usize) -> Nest
+    requires { ⌜ at ≤ length (now s) ⌝ }
+    ensures { λ r. ⌜ (r .at ≤ length (now (s .entry))) × (r .depth ≤ r .at) × (close (r .depth) 0 (from (now (s .entry)) (r .at)) ≡ close 0 0 (from (now (s .entry)) at)) ⌝ }
+{
+    let mut i = at;
+    let mut depth: usize = 0;
+    while four_open(s, i) {
+        i += 8;
+        depth += 4;
+    }
+    Nest {
+        at: i,
+        depth: depth,
+    }
+}
+
+// From inside a comment, with so many more open: past the outermost's end. What is neither `*` nor `/` is passed by eights first, since most
+// comments have no other mark inside.
+fn close_block(s: &[u8], at: usize, inner: usize) -> Closed
+    requires { ⌜ (1 ≤ length (now s)) × (at ≤ length (now s)) × (inner ≤ at) ⌝ }
+    ensures { λ r. ⌜ r ≡ closedOf (length (now (s .entry))) (close inner 0 (from (now (s .entry)) at)) ⌝ }
+{
+    let mut i = chars::eights::skip_neither(s, at, 0x2A, 0x2F);
+    let mut depth = inner;
+    let last = s.len() - 1;
+    while i < last {
+        let pair = pair_at(s, i);
+        if pair == 0x2A2F {
+            i += 2;
+            depth += 1;
+        } else if pair == 0x2F2A {
+            i += 2;
+            if depth == 0 {
+                return Closed::At(Cursor { at: i });
+            }
+            depth -= 1;
+        } else {
+            i += 1;
+        }
+    }
+    Closed::Open
+}
+
 impl Cursor {
     // Past the line comment that begins there, up to the line end or the end of script. What is above both line-end bytes is passed by eights.
     pub fn consume_line_comment(self, s: &[u8]) -> Cursor
@@ -130,25 +196,7 @@ impl Cursor {
         requires { ⌜ (self .at ≤ length (now s)) × (opensBlock (from (now s) (self .at)) ≡ true) ⌝ }
         ensures { λ r. ⌜ r ≡ closedOf (length (now (s .entry))) (close 0 0 (drop 2 (from (now (s .entry)) (self .at)))) ⌝ }
     {
-        // Most comments have no other mark inside: what is neither `*` nor `/` is passed by eights at the start.
-        let mut i = chars::eights::skip_others(s, self.at + 2, 0x2A, 0x2F, 0x2A, 0x2F);
-        let mut depth: usize = 0;
-        let last = s.len() - 1;
-        while i < last {
-            let pair = pair_at(s, i);
-            if pair == 0x2A2F {
-                i += 2;
-                depth += 1;
-            } else if pair == 0x2F2A {
-                i += 2;
-                if depth == 0 {
-                    return Closed::At(Cursor { at: i });
-                }
-                depth -= 1;
-            } else {
-                i += 1;
-            }
-        }
-        Closed::Open
+        let nest = pass_openings(s, self.at + 2);
+        close_block(s, nest.at, nest.depth)
     }
 }

@@ -5,10 +5,13 @@ use crate::records::write;
 use crate::store::put_block;
 ghost use mathlib.Core.Path.{_≡_};
 ghost use Rattle.token.specs.Host.{seen, hostOf, verdict};
-ghost use Rattle.token.specs.Measure.{judgedOf};
+ghost use Rattle.token.specs.Measure.{judgedOf, Holds};
 ghost use Rattle.token.specs.Theorems.{HostTheorems};
 
 pub const MOST_BYTES: usize = 16777216;
+
+// On the stack, for records that are stored before the script is known to be accepted: some 600 tokens.
+pub const SMALL_BYTES: usize = 8192;
 
 // A refusal's number and place; or token count and record bytes, which are more than is lent, or are not.
 pub enum Judged {
@@ -17,9 +20,10 @@ pub enum Judged {
     Fits(usize, usize),
 }
 
-// The refusals but 20, in their order: 17, 18, 1 to 16, 19.
-fn judge(script: &[u8], room: usize) -> Judged
+// The refusals but 20, in their order: 17, 18, 1 to 16, 19. Where it answers `Fits`, and the records fit into `small`, it has them then.
+fn judge(small: &mut [u8], script: &[u8], room: usize) -> Judged
     ensures { λ r. ⌜ r ≡ judgedOf (verdict (now (script .entry)) room) ⌝ }
+    ensures { λ r. ⌜ Holds r (now (script .entry)) (now (small .exit)) ⌝ }
 {
     if MOST_BYTES < script.len() {
         return Judged::Refused(17, 0);
@@ -28,7 +32,7 @@ fn judge(script: &[u8], room: usize) -> Judged
     if valid < script.len() {
         return Judged::Refused(18, valid);
     }
-    let found = measure(script);
+    let found = measure(small, script);
     match found {
         Measured::Stopped(number, place) => {
             return Judged::Refused(number, place);
@@ -52,7 +56,9 @@ pub extern "C" fn ergo_tokenize(script: &[u8], records: &mut [u8], answer: &mut 
     if answer.len() != 16 {
         return 20;
     }
-    let judged = judge(script, records.len());
+    // A script whose records fit in here is walked once.
+    let mut small = [0u8; SMALL_BYTES];
+    let judged = judge(&mut small, script, records.len());
     match judged {
         Judged::Refused(number, place) => {
             put_block(answer, number as usize, place, 0, 0);
@@ -63,7 +69,7 @@ pub extern "C" fn ergo_tokenize(script: &[u8], records: &mut [u8], answer: &mut 
             return 19;
         }
         Judged::Fits(count, bytes) => {
-            write(script, records);
+            write(records, script, &small, bytes);
             put_block(answer, 0, 0, count, bytes);
             return 0;
         }

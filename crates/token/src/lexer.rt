@@ -1,7 +1,6 @@
 // One step over a script: the gap, then one token. Document 01, "Piece table".
 use crate::cursor::Cursor;
 use crate::cursor::Peeked;
-use crate::cursor::byte_at;
 use crate::cursor::two_at;
 use crate::gap::Closed;
 use crate::gap::Gap;
@@ -168,18 +167,21 @@ pub fn advance(s: &[u8], c: Cursor, g: Gap) -> Next
     requires { ⌜ c .at ≤ length (now s) ⌝ }
     ensures { λ r. ⌜ r ≡ nextOf (length (now (s .entry))) (seek (length (now (s .entry))) 0 g (from (now (s .entry)) (c .at))) ⌝ }
 {
-    let mut d = c.skip_blanks(s);
+    let mut d = c;
     let mut f = g;
-    while d.at < s.len() {
-        if !crate::ident::opens_comment(s, d) {
-            return stop_at(s, d, f);
+    loop {
+        let e = d.skip_blanks(s);
+        if s.len() <= e.at {
+            return Next::End(f.cut_of());
         }
-        let passed = pass_comment(s, d, f);
+        if !crate::ident::opens_comment(s, e) {
+            return stop_at(s, e, f);
+        }
+        let passed = pass_comment(s, e, f);
         let Passed::To(end, h) = passed else {
-            return Next::Refused(2, d.at);
+            return Next::Refused(2, e.at);
         };
-        d = end.skip_blanks(s);
+        d = end;
         f = h;
     }
-    Next::End(f.cut_of())
 }

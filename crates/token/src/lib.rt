@@ -9,7 +9,9 @@ mod ident; // identifiers, operators and backticks
 mod charsym; // characters and symbols
 mod lexer; // one step over a script: the gap, then one token
 mod store; // stores into lent bytes
-mod direct; // tokens that their ASCII bytes tell
-mod records; // the records, measured first and then written
+mod class_table; // what a byte is, by a table
+mod direct; // signs, words and operators that their ASCII bytes tell
+mod number; // numbers that their bytes tell
+mod records; // the records, counted, and stored where they fit
 pub mod host; // the host's entry
 pub mod text; // token text

@@ -1,4 +1,5 @@
-// The records of a script: measured first, then written. Document 01, "Records".
+// The records of a script: counted, and stored where they fit. Document 01, "Records".
+use crate::class_table::CLASSES;
 use crate::cursor::Cursor;
 use crate::cursor::byte_at;
 use crate::direct::direct_end;
@@ -7,15 +8,22 @@ use crate::gap::Gap;
 use crate::kinds::TokenKind;
 use crate::lexer::Next;
 use crate::lexer::advance;
+use crate::number::Literal;
+use crate::number::literal_at;
+use crate::store::copy;
+use crate::store::put_int;
+use crate::store::put_line;
+use crate::store::put_long;
 use crate::store::put_record;
 ghost use mathlib.Core.Path.{_≡_};
-ghost use mathlib.Core.Bool.{true, false, cond};
-ghost use Prim.Native.Nat.{_≤_, _+_};
-ghost use lib.ListN.{length};
+ghost use mathlib.Core.Bool.{cond};
+ghost use Prim.Native.Nat.{_≤_, _+_, _*_};
+ghost use lib.ListN.{length, take};
 ghost use lib.Seq.{sets};
 ghost use Rattle.token.specs.Answer.{answer};
-ghost use Rattle.token.specs.Records.{recordLength, recordOf, records};
-ghost use Rattle.token.specs.Measure.{measuredOf, total, Fits, tokensIn, lineEndAt, eofAt};
+ghost use Rattle.token.specs.Records.{recordLength, recordOf, records, recordBytes};
+ghost use Rattle.token.specs.Code.{ByteClasses, literalKind};
+ghost use Rattle.token.specs.Measure.{storedIf, measuredOf, total, Fits, Reaches, tokensIn, lineEndAt, eofAt, intAt, longAt};
 
 // What measuring finds: how many tokens and record bytes, or a refusal's number and place.
 pub enum Measured {
@@ -23,107 +31,204 @@ pub enum Measured {
     Stopped(u32, usize),
 }
 
-// Stores a record, where records are to be stored.
-fn put_if(
-    out: &mut [u8],
-    w: usize,
-    kind: TokenKind,
-    start: usize,
-    end: usize,
-    cut: bool,
-    stores: bool,
-)
-    requires { ⌜ (stores ≡ true → w + recordLength kind ≤ length (now out)) ⌝ }
-    ensures { λ r. ⌜ now (out .exit) ≡ cond stores (sets (now (out .entry)) w (recordOf (record { kind = kind; start = start; end = end; cut = cut }))) (now (out .entry)) ⌝ }
+// Where a walk stands: its place, the gap there, and the tokens and record bytes before it.
+pub struct Walked {
+    pub at: usize,
+    pub gap: Gap,
+    pub count: usize,
+    pub bytes: usize,
+}
+
+// Stores a record, where it fits.
+fn put_if(out: &mut [u8], w: usize, kind: TokenKind, start: usize, end: usize, cut: bool)
+    requires { ⌜ w + recordLength kind ≤ 18446744073709551615 ⌝ }
+    ensures { λ r. ⌜ now (out .exit) ≡ storedIf (now (out .entry)) w (recordOf (record { kind = kind; start = start; end = end; cut = cut })) ⌝ }
 {
-    if stores {
+    if w + kind.length() as usize <= out.len() {
         put_record(out, w, kind, start, end, cut);
         return;
     }
 }
 
-// The same for a line end. With two callers `put_record` is compiled once, by itself, and `put_if` into the walk.
-fn put_line_if(out: &mut [u8], w: usize, start: usize, end: usize, mark: bool, stores: bool)
-    requires { ⌜ (stores ≡ true → w + 14 ≤ length (now out)) ⌝ }
-    ensures { λ r. ⌜ now (out .exit) ≡ cond stores (sets (now (out .entry)) w (recordOf (lineEndAt start end mark))) (now (out .entry)) ⌝ }
+// The same for a line end.
+fn put_line_if(out: &mut [u8], w: usize, start: usize, end: usize, mark: bool)
+    requires { ⌜ w + 14 ≤ 18446744073709551615 ⌝ }
+    ensures { λ r. ⌜ now (out .exit) ≡ storedIf (now (out .entry)) w (recordOf (lineEndAt start end mark)) ⌝ }
 {
-    if stores {
-        put_record(out, w, TokenKind::Newline(mark), start, end, false);
+    if w + TokenKind::NEWLINE_LENGTH as usize <= out.len() {
+        put_line(out, w, start, end, mark);
         return;
     }
 }
 
-// The end of script, the n-th token: stores its record, and says what was counted.
-fn finish(out: &mut [u8], w: usize, n: usize, last: usize, cut: bool, stores: bool) -> Measured
-    requires { ⌜ (stores ≡ true → w + 13 ≤ length (now out)) × (w + 13 ≤ 18446744073709551615) ⌝ }
-    ensures { λ r. ⌜ r ≡ total n (w + 13) ⌝ }
-    ensures { λ r. ⌜ now (out .exit) ≡ cond stores (sets (now (out .entry)) w (recordOf (eofAt last cut))) (now (out .entry)) ⌝ }
+fn put_int_if(out: &mut [u8], w: usize, start: usize, end: usize, v: u64, cut: bool)
+    requires { ⌜ w + 17 ≤ 18446744073709551615 ⌝ }
+    ensures { λ r. ⌜ now (out .exit) ≡ storedIf (now (out .entry)) w (recordOf (intAt v start end cut)) ⌝ }
 {
-    put_if(out, w, TokenKind::Eof, last, last, cut, stores);
+    if w + TokenKind::INT_LIT_LENGTH as usize <= out.len() {
+        put_int(out, w, start, end, v, cut);
+        return;
+    }
+}
+
+fn put_long_if(out: &mut [u8], w: usize, start: usize, end: usize, v: u64, cut: bool)
+    requires { ⌜ w + 21 ≤ 18446744073709551615 ⌝ }
+    ensures { λ r. ⌜ now (out .exit) ≡ storedIf (now (out .entry)) w (recordOf (longAt v start end cut)) ⌝ }
+{
+    if w + TokenKind::LONG_LIT_LENGTH as usize <= out.len() {
+        put_long(out, w, start, end, v, cut);
+        return;
+    }
+}
+
+// The same for a number.
+fn put_number_if(out: &mut [u8], w: usize, start: usize, number: Literal, cut: bool)
+    requires { ⌜ w + 21 ≤ 18446744073709551615 ⌝ }
+    ensures { λ r. ⌜ now (out .exit) ≡ storedIf (now (out .entry)) w (recordOf (record { kind = literalKind number; start = start; end = number .end; cut = cut })) ⌝ }
+{
+    if number.long {
+        put_long_if(out, w, start, number.end, number.value, cut);
+        return;
+    }
+    put_int_if(out, w, start, number.end, number.value, cut);
+}
+
+// The length of a number's record.
+fn number_length(long: bool) -> u16
+    ensures { λ r. ⌜ r ≡ cond long 21 17 ⌝ }
+{
+    if long {
+        TokenKind::LONG_LIT_LENGTH
+    } else {
+        TokenKind::INT_LIT_LENGTH
+    }
+}
+
+// The end of script, the n-th token: stores its record where it fits, and says what was counted.
+fn finish(out: &mut [u8], w: usize, n: usize, last: usize, cut: bool) -> Measured
+    requires { ⌜ w + 13 ≤ 18446744073709551615 ⌝ }
+    ensures { λ r. ⌜ r ≡ total n (w + 13) ⌝ }
+    ensures { λ r. ⌜ now (out .exit) ≡ storedIf (now (out .entry)) w (recordOf (eofAt last cut)) ⌝ }
+{
+    put_if(out, w, TokenKind::Eof, last, last, cut);
     Measured::Total(n, w + TokenKind::HEAD_LENGTH as usize)
 }
 
-// One walk over the script: it counts tokens and record bytes, and stores the records where it is told to. Measuring and writing are both
-// this walk, so that a step is called from one place and compiled into the loop. Most tokens are told by their bytes, and so is an LF, which
-// each line has; the others, comments and the end go by `advance`.
-fn walk_script(s: &[u8], out: &mut [u8], stores: bool) -> Measured
-    requires { ⌜ (stores ≡ false → length (now s) ≤ 16777216) × (stores ≡ true → Fits (answer (now s)) (length (now out))) ⌝ }
+// As far as tokens are told by their bytes, which most are: signs, words, operators, an LF, numbers. What else stands there, or the end, is left
+// to `advance`.
+fn walk_direct(out: &mut [u8], s: &[u8], t: &[u16; 256], start: Walked) -> Walked
+    requires { ⌜ ByteClasses (now t) × (length (now s) ≤ 16777216) × (start .at ≤ length (now s)) × (start .count ≤ start .at) × (start .bytes ≤ 21 * start .at) ⌝ }
+    ensures { λ r. ⌜ Reaches (now (s .entry)) (start .at) (start .gap) (start .count) (start .bytes) (now (out .entry)) (r .at) (r .gap) (r .count) (r .bytes) (now (out .exit)) ⌝ }
+{
+    let mut c = Cursor { at: start.at };
+    let mut g = start.gap;
+    let mut n = start.count;
+    let mut b = start.bytes;
+    loop {
+        let d = c.skip_blanks(s);
+        let e = direct_end(s, t, d.at);
+        if d.at < e {
+            put_direct_if(out, s, b, d.at, e, g.cut_of());
+            n += 1;
+            b += TokenKind::HEAD_LENGTH as usize;
+            c = Cursor { at: e };
+            g = Gap::new();
+        } else if byte_at(s, d.at) == 0x0A {
+            put_line_if(out, b, d.at, d.at + 1, g.comment);
+            n += 1;
+            b += TokenKind::NEWLINE_LENGTH as usize;
+            c = Cursor { at: d.at + 1 };
+            g = g.line_end();
+        } else {
+            let number = literal_at(s, t, d.at);
+            if number.end <= d.at {
+                return Walked {
+                    at: d.at,
+                    gap: g,
+                    count: n,
+                    bytes: b,
+                };
+            }
+            put_number_if(out, b, d.at, number, g.cut_of());
+            n += 1;
+            b += number_length(number.long) as usize;
+            c = Cursor { at: number.end };
+            g = Gap::new();
+        }
+    }
+}
+
+// One walk over the script: it counts tokens and record bytes, and stores each record that fits. Where all fit, the buffer has them; where they
+// do not, or the script is refused, what it holds is not told.
+fn walk_script(out: &mut [u8], s: &[u8], t: &[u16; 256]) -> Measured
+    requires { ⌜ (length (now s) ≤ 16777216) × ByteClasses (now t) ⌝ }
     ensures { λ r. ⌜ r ≡ measuredOf 0 0 (answer (now (s .entry))) ⌝ }
-    ensures { λ r. ⌜ now (out .exit) ≡ cond stores (sets (now (out .entry)) 0 (records (tokensIn (answer (now (s .entry)))))) (now (out .entry)) ⌝ }
+    ensures { λ r. ⌜ (Fits (answer (now (s .entry))) (length (now (out .entry))) → now (out .exit) ≡ sets (now (out .entry)) 0 (records (tokensIn (answer (now (s .entry)))))) ⌝ }
 {
     let mut c = Cursor::new();
     let mut g = Gap::new();
     let mut n: usize = 0;
     let mut b: usize = 0;
     loop {
-        let d = c.skip_blanks(s);
-        let e = direct_end(s, d.at);
-        n += 1;
-        if d.at < e {
-            put_direct_if(out, s, b, d.at, e, g.cut_of(), stores);
-            b += TokenKind::HEAD_LENGTH as usize;
-            c = Cursor { at: e };
-            g = Gap::new();
-        } else if byte_at(s, d.at) == 0x0A {
-            put_line_if(out, b, d.at, d.at + 1, g.comment, stores);
-            b += TokenKind::NEWLINE_LENGTH as usize;
-            c = Cursor { at: d.at + 1 };
-            g = g.line_end();
-        } else {
-            let step = advance(s, d, g);
-            match step {
-                Next::Token(kind, start, end, cut) => {
-                    put_if(out, b, kind, start, end.at, cut, stores);
-                    b += kind.length() as usize;
-                    c = end;
-                    g = Gap::new();
-                }
-                Next::LineEnd(start, end, mark, h) => {
-                    put_line_if(out, b, start, end.at, mark, stores);
-                    b += TokenKind::NEWLINE_LENGTH as usize;
-                    c = end;
-                    g = h;
-                }
-                Next::End(cut) => return finish(out, b, n, s.len(), cut, stores),
-                Next::Refused(number, place) => return Measured::Stopped(number, place),
+        let w = walk_direct(
+            out,
+            s,
+            t,
+            Walked {
+                at: c.at,
+                gap: g,
+                count: n,
+                bytes: b,
+            },
+        );
+        let gap = w.gap;
+        let step = advance(s, Cursor { at: w.at }, gap);
+        n = w.count + 1;
+        match step {
+            Next::Token(kind, start, end, cut) => {
+                put_if(out, w.bytes, kind, start, end.at, cut);
+                b = w.bytes + kind.length() as usize;
+                c = end;
+                g = Gap::new();
             }
+            Next::LineEnd(start, end, mark, h) => {
+                put_line_if(out, w.bytes, start, end.at, mark);
+                b = w.bytes + TokenKind::NEWLINE_LENGTH as usize;
+                c = end;
+                g = h;
+            }
+            Next::End(cut) => return finish(out, w.bytes, n, s.len(), cut),
+            Next::Refused(number, place) => return Measured::Stopped(number, place),
         }
     }
 }
 
-// The tokens and record bytes of a script.
-pub fn measure(s: &[u8]) -> Measured
+// The tokens and record bytes of a script. Where the records fit into `small`, it has them then.
+pub fn measure(small: &mut [u8], s: &[u8]) -> Measured
     requires { ⌜ length (now s) ≤ 16777216 ⌝ }
     ensures { λ r. ⌜ r ≡ measuredOf 0 0 (answer (now (s .entry))) ⌝ }
+    ensures { λ r. ⌜ (Fits (answer (now (s .entry))) (length (now (small .entry))) → now (small .exit) ≡ sets (now (small .entry)) 0 (records (tokensIn (answer (now (s .entry)))))) ⌝ }
 {
-    let mut none = [0u8; 1];
-    walk_script(s, &mut none, false)
+    walk_script(small, s, &CLASSES)
 }
 
-// The records of a script that is accepted, from the buffer's start on.
-pub fn write(s: &[u8], out: &mut [u8])
-    requires { ⌜ Fits (answer (now s)) (length (now out)) ⌝ }
+// The records of a script that is accepted, from the buffer's start on: copied, where `small` has them, else by another walk.
+pub fn write(out: &mut [u8], s: &[u8], small: &[u8], bytes: usize)
+    requires { ⌜ (length (now s) ≤ 16777216) × Fits (answer (now s)) (length (now out)) × (bytes ≡ recordBytes (tokensIn (answer (now s)))) ⌝ }
+    requires { ⌜ (bytes ≤ length (now small) → take bytes (now small) ≡ records (tokensIn (answer (now s)))) ⌝ }
     ensures { λ r. ⌜ now (out .exit) ≡ sets (now (out .entry)) 0 (records (tokensIn (answer (now (s .entry))))) ⌝ }
 {
-    walk_script(s, out, true);
+    if bytes <= small.len() {
+        copy(out, small, bytes);
+        return;
+    }
+    write_walk(out, s);
+}
+
+// The same by another walk. The table is lent here, so that it is not written to the stack where records are copied.
+fn write_walk(out: &mut [u8], s: &[u8])
+    requires { ⌜ (length (now s) ≤ 16777216) × Fits (answer (now s)) (length (now out)) ⌝ }
+    ensures { λ r. ⌜ now (out .exit) ≡ sets (now (out .entry)) 0 (records (tokensIn (answer (now (s .entry))))) ⌝ }
+{
+    walk_script(out, s, &CLASSES);
 }

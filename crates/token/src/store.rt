@@ -3,9 +3,10 @@ use crate::kinds::TokenKind;
 ghost use mathlib.Core.Path.{_≡_};
 ghost use Prim.Native.Nat.{_+_, _≤_};
 ghost use mathlib.Core.List.{_++_};
-ghost use lib.ListN.{length};
+ghost use lib.ListN.{length, take};
 ghost use lib.Seq.{sets};
 ghost use Rattle.token.specs.Records.{bit, le2, le4, le8, values, recordLength, fieldsOf, headOf, recordOf};
+ghost use Rattle.token.specs.Measure.{lineEndAt, intAt, longAt};
 ghost use Rattle.token.specs.Host.{blockOf};
 
 fn bit_of(b: bool) -> u8
@@ -110,6 +111,68 @@ pub fn put_record(out: &mut [u8], w: usize, kind: TokenKind, start: usize, end: 
 {
     put_head(out, w, kind, start, end, cut);
     put_values(out, w + 13, kind);
+}
+
+// A line end's record.
+pub fn put_line(out: &mut [u8], w: usize, start: usize, end: usize, mark: bool)
+    requires { ⌜ w + 14 ≤ length (now out) ⌝ }
+    ensures { λ r. ⌜ now (out .exit) ≡ sets (now (out .entry)) w (recordOf (lineEndAt start end mark)) ⌝ }
+{
+    put_fields(
+        out,
+        w,
+        TokenKind::NEWLINE_LENGTH,
+        TokenKind::NEWLINE,
+        start,
+        end,
+        false,
+    );
+    out[w + 13] = bit_of(mark);
+}
+
+// A number's record.
+pub fn put_int(out: &mut [u8], w: usize, start: usize, end: usize, v: u64, cut: bool)
+    requires { ⌜ w + 17 ≤ length (now out) ⌝ }
+    ensures { λ r. ⌜ now (out .exit) ≡ sets (now (out .entry)) w (recordOf (intAt v start end cut)) ⌝ }
+{
+    put_fields(
+        out,
+        w,
+        TokenKind::INT_LIT_LENGTH,
+        TokenKind::INT_LIT,
+        start,
+        end,
+        cut,
+    );
+    put4(out, w + 13, v as usize);
+}
+
+pub fn put_long(out: &mut [u8], w: usize, start: usize, end: usize, v: u64, cut: bool)
+    requires { ⌜ w + 21 ≤ length (now out) ⌝ }
+    ensures { λ r. ⌜ now (out .exit) ≡ sets (now (out .entry)) w (recordOf (longAt v start end cut)) ⌝ }
+{
+    put_fields(
+        out,
+        w,
+        TokenKind::LONG_LIT_LENGTH,
+        TokenKind::LONG_LIT,
+        start,
+        end,
+        cut,
+    );
+    put8(out, w + 13, v);
+}
+
+// The first n bytes of a buffer into another.
+pub fn copy(out: &mut [u8], src: &[u8], n: usize)
+    requires { ⌜ (n ≤ length (now out)) × (n ≤ length (now src)) ⌝ }
+    ensures { λ r. ⌜ now (out .exit) ≡ sets (now (out .entry)) 0 (take n (now (src .entry))) ⌝ }
+{
+    let mut i = 0;
+    while i < n {
+        out[i] = src[i];
+        i += 1;
+    }
 }
 
 pub fn put_block(out: &mut [u8], number: usize, place: usize, count: usize, bytes: usize)

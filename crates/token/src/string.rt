@@ -7,7 +7,7 @@ use crate::kinds::TokenKind;
 use crate::piece::Ended;
 use crate::piece::Piece;
 ghost use mathlib.Core.Path.{_≡_};
-ghost use mathlib.Core.Bool.{Bool, true, false};
+ghost use mathlib.Core.Bool.{true, false};
 ghost use Prim.Native.Nat.{_+_, _≤_, _<_};
 ghost use lib.ListN.{length, drop};
 ghost use Rattle.chars.specs.Text.{from, head, afterRun};
@@ -66,12 +66,17 @@ fn is_ordinary(b: u8) -> bool
     }
 }
 
-// Past the ordinary characters that stand there, eights of bytes first. A byte of 0x80 or more is never one of the four, so no character is decoded.
+// Past the ordinary characters that stand there, eights of bytes first: but where an escape or a quote follows at once, as it often does behind an
+// escape, one byte tells it. A byte of 0x80 or more is never one of the four, so no character is decoded.
 fn skip_ordinary(s: &[u8], c: Cursor) -> Cursor
     requires { ⌜ c .at ≤ length (now s) ⌝ }
     ensures { λ r. ⌜ (c .at ≤ r .at) × (r .at ≤ length (now (s .entry))) × (from (now (s .entry)) (r .at) ≡ afterRun (head isOrdinary) (from (now (s .entry)) (c .at))) ⌝ }
 {
-    let mut i = chars::eights::skip_others(s, c.at, 0x0A, 0x22, 0x24, 0x5C);
+    let at = c.at;
+    if !is_ordinary(byte_at(s, at)) {
+        return c;
+    }
+    let mut i = chars::eights::skip_others(s, at, 0x0A, 0x22, 0x24, 0x5C);
     while i < s.len() {
         if !is_ordinary(s[i]) {
             return Cursor { at: i };

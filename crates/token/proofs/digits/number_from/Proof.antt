@@ -7,7 +7,7 @@ use lib.ListN.{length, getD}
 use Rattle.chars.specs.Text.{from}
 use Rattle.token.specs.Answer.{readDigits, numberOf}
 use Rattle.token.specs.Code.{pieceOf, digitIn, digitOf}
-use Rattle.token.proofs.DigitRuns.{digits-ascii, class-at, digit-value, digit-taken, digit-stops, base-lies, read-next, read-stop, base-some, fitted, overs, over-read}
+use Rattle.token.proofs.DigitRuns.{digits-ascii, class-at, digit-value, digit-taken, digit-stops, digit-inside, base-lies, read-next, read-stop, base-some, fitted, overs, over-read}
 use Rattle.token.proofs.digits.number_from.Statement.{statement}
 use Rattle.token.proofs.digits.number_from.Tie as tie
 
@@ -70,21 +70,17 @@ add-i : tie.Need-add-i Inv-loop μ-loop
 add-i c =
     let a = c .before .before .before .before .before .before .before .before .before .args in
     let l = c .before .before .before .before .before .before .before .loop in
-    let s = a .s .now in
-    let b = a .base in
     let d = c .before .before .before .before .before .digit-of .ensures ∙ ap digitOf (c .before .before .before .before .before .before .byte-at .ensures) in
-    let e = digit-taken b (getD s (l .i) 0) (c .before .before .before .before .before .before .before .before .before .pre .2) (omega (arith, c .before .before .before .before .if1 .left)) in
-    omega (arith, class-at (digitIn b) (digits-ascii b) s (l .i) e .0)
+    let h = c .before .before .before .before .before .before .before .before .before .pre .2 in
+    omega (arith, digit-inside (a .base) h (a .s .now) (l .i) _ d (c .before .before .before .before .if1 .left))
 
 loop-less : tie.Need-loop-less Inv-loop μ-loop
 loop-less c =
     let a = c .before .before .before .before .before .before .before .before .before .args in
     let l = c .before .before .before .before .before .before .before .loop in
-    let s = a .s .now in
-    let b = a .base in
     let d = c .before .before .before .before .before .digit-of .ensures ∙ ap digitOf (c .before .before .before .before .before .before .byte-at .ensures) in
-    let e = digit-taken b (getD s (l .i) 0) (c .before .before .before .before .before .before .before .before .before .pre .2) (omega (arith, c .before .before .before .before .if1 .left)) in
-    omega (arith, class-at (digitIn b) (digits-ascii b) s (l .i) e .0)
+    let h = c .before .before .before .before .before .before .before .before .before .pre .2 in
+    omega (arith, digit-inside (a .base) h (a .s .now) (l .i) _ d (c .before .before .before .before .if1 .left))
 
 loop-again : tie.Need-loop-again Inv-loop μ-loop
 loop-again c =

@@ -13,21 +13,16 @@ returns c = inl refl
 shared-slice-read-b : tie.Need-shared-slice-read-b
 shared-slice-read-b c = search needs
 
-is-ascii-start-requires : tie.Need-is-ascii-start-requires
-is-ascii-start-requires c κs = search needs
+begins-word-requires : tie.Need-begins-word-requires
+begins-word-requires c κs = search needs
 
 word-end-requires : tie.Need-word-end-requires
 word-end-requires c κs =
-    let if1′ = c .before .before .before .if1 in
-    let is-ascii-start′ = c .before .is-ascii-start in
-    let if2′ = c .if2 in
-    let l = if1′ .left in
-    (omega arith, sym (is-ascii-start′ .ensures) ∙ if2′ .taken)
+    let l = c .before .before .before .if1 .left in
+    (omega arith, sym (c .before .begins-word .ensures) ∙ c .if2 .taken, c .before .before .before .before .before .pre)
 
 returns-2 : tie.Need-returns-2
-returns-2 c =
-    let word-end′ = c .word-end in
-    word-end′ .ensures
+returns-2 c = c .word-end .ensures
 
 is-sign-requires : tie.Need-is-sign-requires
 is-sign-requires c κs = search needs
@@ -36,26 +31,18 @@ add-result : tie.Need-add-result
 add-result c = search needs
 
 returns-3 : tie.Need-returns-3
-returns-3 c =
-    let is-sign′ = c .before .is-sign in
-    let if3′ = c .if3 in
-    inr (Direct.single (sym (is-sign′ .ensures) ∙ if3′ .taken) refl)
+returns-3 c = inr (Direct.single (sym (c .before .is-sign .ensures) ∙ c .if3 .taken) refl)
 
-is-op-byte-requires : tie.Need-is-op-byte-requires
-is-op-byte-requires c κs = search needs
+in-run-requires : tie.Need-in-run-requires
+in-run-requires c κs = search needs
 
 run-end-requires : tie.Need-run-end-requires
 run-end-requires c κs =
-    let if1′ = c .before .before .before .before .before .before .before .if1 in
-    let is-op-byte′ = c .before .is-op-byte in
-    let if4′ = c .if4 in
-    let l = if1′ .left in
-    (omega arith, sym (is-op-byte′ .ensures) ∙ if4′ .taken)
+    let l = c .before .before .before .before .before .before .before .if1 .left in
+    (omega arith, sym (c .before .in-run .ensures) ∙ c .if4 .taken, c .before .before .before .before .before .before .before .before .before .pre)
 
 returns-4 : tie.Need-returns-4
-returns-4 c =
-    let run-end′ = c .run-end in
-    run-end′ .ensures
+returns-4 c = c .run-end .ensures
 
 returns-5 : tie.Need-returns-5
 returns-5 c = inl refl
@@ -66,13 +53,13 @@ direct-end-spec =
     (tie.spec
     returns
     shared-slice-read-b
-    is-ascii-start-requires
+    begins-word-requires
     word-end-requires
     returns-2
     is-sign-requires
     add-result
     returns-3
-    is-op-byte-requires
+    in-run-requires
     run-end-requires
     returns-4
     returns-5)

@@ -8,13 +8,13 @@ use Rattle.token.proofs.records.finish.Tie as tie
 put-if-requires : tie.Need-put-if-requires
 put-if-requires c κs =
     let pre′ = c .before .before .pre in
-    λ e. let k = pre′ .0 e in omega (arith, eof-length)
+    omega (arith, pre′, eof-length)
 
-cast-t11 : tie.Need-cast-t11
-cast-t11 c = search needs
+cast-t10 : tie.Need-cast-t10
+cast-t10 c = search needs
 
-add-t12 : tie.Need-add-t12
-add-t12 c = search needs
+add-t11 : tie.Need-add-t11
+add-t11 c = search needs
 
 same-length : tie.Need-same-length
 same-length c = search needs
@@ -23,4 +23,4 @@ returns : tie.Need-returns
 returns c = search needs
 
 pub finish-spec : {M : Type 1} → statement M
-finish-spec = tie.close (tie.spec put-if-requires cast-t11 add-t12 same-length returns)
+finish-spec = tie.close (tie.spec put-if-requires cast-t10 add-t11 same-length returns)

@@ -1,36 +1,37 @@
+-- The loop keeps what follows the run from its place on.
 use Prim.Native.Nat.{_-_}
 use mathlib.Core.Path.{_≡_, refl, sym, _∙_}
 use native.Mathlib.Omega.{arith}
 use borrow.Author.Needs.{needs}
 use borrow.Author.Tests.{not-true, not-false}
 use lib.ListN.{length}
 use Rattle.chars.specs.Text.{from, afterRun}
 use Rattle.chars.specs.Code.{asciiIdChar}
 use Rattle.chars.proofs.IdRuns.{ascii-on, ascii-out, ascii-end}
-use Rattle.chars.proofs.classes.ascii_run_end.Statement.{statement}
-use Rattle.chars.proofs.classes.ascii_run_end.Tie as tie
+use Rattle.token.proofs.direct.id_end.Statement.{statement}
+use Rattle.token.proofs.direct.id_end.Tie as tie
 
 abbrev Inv-loop : tie.InvT-loop
-Inv-loop s at i₀ i = afterRun asciiIdChar (from s i) ≡ afterRun asciiIdChar (from s at)
+Inv-loop s t at i₀ i = afterRun asciiIdChar (from s i) ≡ afterRun asciiIdChar (from s at)
 
 abbrev μ-loop : tie.MeasureT-loop
-μ-loop s at i₀ i = length s - i
+μ-loop s t at i₀ i = length s - i
 
 loop-holds : tie.Need-loop-holds Inv-loop μ-loop
 loop-holds c = refl
 
-shared-slice-read-is-id-byte : tie.Need-shared-slice-read-is-id-byte Inv-loop μ-loop
-shared-slice-read-is-id-byte c = search needs
+shared-slice-read-continues-word : tie.Need-shared-slice-read-continues-word Inv-loop μ-loop
+shared-slice-read-continues-word c = search needs
 
-is-id-byte-requires : tie.Need-is-id-byte-requires Inv-loop μ-loop
-is-id-byte-requires c κs = search needs
+continues-word-requires : tie.Need-continues-word-requires Inv-loop μ-loop
+continues-word-requires c κs = search needs
 
 returns : tie.Need-returns Inv-loop μ-loop
 returns c =
     let s = c .before .before .before .before .before .before .args .s .now in
     let loop = c .before .before .before .before .loop in
     let h = c .before .before .before .loop-test .taken in
-    ascii-out s (loop .i) _ h (sym (c .before .is-id-byte .ensures) ∙ not-true _ (c .if1 .taken)) (loop .inv)
+    ascii-out s (loop .i) _ h (sym (c .before .continues-word .ensures) ∙ not-true _ (c .if1 .taken)) (loop .inv)
 
 add-i : tie.Need-add-i Inv-loop μ-loop
 add-i c = omega arith
@@ -43,20 +44,20 @@ loop-again c =
     let s = c .before .before .before .before .before .before .args .s .now in
     let loop = c .before .before .before .before .loop in
     let h = c .before .before .before .loop-test .taken in
-    ascii-on s (loop .i) _ h (sym (c .before .is-id-byte .ensures) ∙ not-false _ (c .if1 .left)) (loop .inv)
+    ascii-on s (loop .i) _ h (sym (c .before .continues-word .ensures) ∙ not-false _ (c .if1 .left)) (loop .inv)
 
 returns-2 : tie.Need-returns-2 Inv-loop μ-loop
 returns-2 c = ascii-end (c .before .before .before .args .s .now) (c .before .loop .i) _ (c .loop-test .left) (c .before .loop .inv)
 
-pub ascii-run-end-spec : {M : Type 1} → statement M
-ascii-run-end-spec =
+pub id-end-spec : {M : Type 1} → statement M
+id-end-spec =
     tie.close
     (tie.spec
     Inv-loop
     μ-loop
     loop-holds
-    shared-slice-read-is-id-byte
-    is-id-byte-requires
+    shared-slice-read-continues-word
+    continues-word-requires
     returns
     add-i
     loop-less
