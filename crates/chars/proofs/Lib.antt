@@ -14,3 +14,4 @@ pub mod Places
 pub mod Russian
 pub mod IdRuns
 pub mod Spans
+pub mod Encodes

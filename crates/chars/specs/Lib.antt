@@ -3,6 +3,7 @@ pub mod Ranges
 pub mod Tables
 pub mod Utf8
 pub mod Classes
+pub mod Encoded
 pub mod Text
 pub mod Code
 pub mod Promises
