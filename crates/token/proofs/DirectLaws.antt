@@ -3,7 +3,7 @@ use Prim.Native.Nat.{ℕ, _+_, _≤_, _<_}
 use mathlib.Core.Path.{_≡_, refl, sym, _∙_, ap}
 use mathlib.Core.Bool.{Bool, true, false, cond, not, _&&_, _||_}
 use mathlib.Core.Logic.{inl, inr}
-use mathlib.Core.List.{List, [], _∷_, append-nil}
+use mathlib.Core.List.{List, [], _∷_, _++_}
 use mathlib.Core.Option.{Option, none, some}
 use lib.ListN.{length, drop, getD}
 use lib.Dec.{eqb, leb, ltb}
@@ -20,7 +20,8 @@ use Rattle.chars.proofs.IdRuns.{run-stays, ascii-whole}
 use Rattle.chars.proofs.Places.{ascii-next, place-from, run-next}
 use Rattle.token.specs.Tests.{isAny, begins, quote, freeSign, opensComment}
 use Rattle.token.specs.Kinds.{Token, kindNumber, wordOf, runOf}
-use Rattle.token.specs.Records.{values, recordLength, fieldsOf, headOf, recordOf}
+use Rattle.token.specs.Records.{values, headLength, recordLength, fieldsOf, headOf, recordOf}
+use Rattle.token.specs.Forms.{plainForm, byForm}
 use Rattle.token.specs.Flags.{GapKind, fresh, push, cutOf}
 use Rattle.token.specs.Answer.{Found, signOf, scan, afterIdent, codesTo, wordOr, runOr}
 use Rattle.token.specs.Seek.{seek, nextOf}
@@ -36,7 +37,6 @@ use Rattle.token.proofs.Bytes.{inside, two-bytes}
 use Rattle.token.proofs.IdentLaws.{left-to, run-left, ident-left, pass-all, quote-byte, scan-word, scan-run, run-alone, not-prefixed, token-at}
 use Rattle.token.proofs.Lexes.{sign-at, word-at, operator-at, ascii-head, ascii-start, next-token, next-lf}
 use Rattle.token.proofs.Seeks.{seek-blanks}
-use Rattle.token.proofs.Stores.{head-fields}
 use Rattle.token.proofs.Turns.{Turn, turn-token, turn-line}
 
 -- ---- bytes
@@ -249,14 +249,13 @@ module _ (s : List ℕ) (i : ℕ) (h : i < length s) where
 
 -- ---- records
 
-bare-length : (k : TokenKind) → values k ≡ [] → 13 ≡ recordLength k
+bare-length : (k : TokenKind) → values k ≡ [] → headLength ≡ recordLength k
 unfolding recordLength
 bare-length k e = rw e
 
-bare-record : (t : Token) → values (t .kind) ≡ [] → recordOf t ≡ fieldsOf 13 (kindNumber (t .kind)) (t .start) (t .end) (t .cut)
-unfolding recordOf
-bare-record t e =
-    rw e (append-nil (headOf t) ∙ sym (head-fields t) ∙ ap (λ z. fieldsOf z (kindNumber (t .kind)) (t .start) (t .end) (t .cut)) (sym (bare-length (t .kind) e)))
+bare-record : (t : Token) → values (t .kind) ≡ [] → recordOf t ≡ byForm (plainForm (kindNumber (t .kind))) (t .start) (t .end) (t .cut)
+unfolding recordOf headOf byForm
+bare-record t e = rw e (ap (λ z. fieldsOf z (kindNumber (t .kind)) (t .start) (t .end) (t .cut) ++ []) (sym (bare-length (t .kind) e)))
 
 -- ---- a turn
 
@@ -269,8 +268,8 @@ module _ (s : List ℕ) (i d e : ℕ) (g : Gap) (cut : Bool) where
   pub record DirectTurn : Type 0 where
     pub token : Token
     pub turn : Turn s i g token e fresh
-    pub size : 13 ≡ recordLength (token .kind)
-    pub bytes : recordOf token ≡ fieldsOf 13 (pieceNumber (pieceOf (length s) (scan (length s) (from s d)))) d e cut
+    pub size : headLength ≡ recordLength (token .kind)
+    pub bytes : recordOf token ≡ byForm (plainForm (pieceNumber (pieceOf (length s) (scan (length s) (from s d))))) d e cut
 
   pub direct-turn : from s d ≡ afterRun (isAny " \t") (from s i) → cut ≡ cutOf g → DirectOr s d e → d < e → DirectTurn
   direct-turn b c o l =
@@ -283,7 +282,7 @@ module _ (s : List ℕ) (i d e : ℕ) (g : Gap) (cut : Bool) where
         token = record { kind = k; start = d; end = e; cut = cut };
         turn = turn-token s i g k d (cursorAt e) cut q;
         size = bare-length k (t .bare);
-        bytes = bare-record _ (t .bare) ∙ ap (λ z. fieldsOf 13 (pieceNumber z) d e cut) (t .found);
+        bytes = bare-record _ (t .bare) ∙ ap (λ z. byForm (plainForm (pieceNumber z)) d e cut) (t .found);
       }
 
 -- a line end at once

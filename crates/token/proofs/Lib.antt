@@ -30,14 +30,11 @@ pub mod Seeks
 pub mod Lexes
 pub mod Turns
 pub mod Stores
+pub mod FormLaws
 pub mod DirectLaws
 pub mod ClassTable
 pub mod Measures
 pub mod Reach
-pub mod Verdicts
-pub mod Entries
 pub mod Theorems
 pub mod Mets
 pub mod Alone
-pub mod Hosts
-pub mod TextLaws

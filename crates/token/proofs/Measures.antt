@@ -11,18 +11,18 @@ use Rattle.chars.proofs.Bools.{clash}
 use Rattle.token.specs.Kinds.{Token}
 use Rattle.token.specs.Flags.{fresh}
 use Rattle.token.specs.Answer.{Answer, accepted, refused, before, walk, answer}
-use Rattle.token.specs.Records.{le4, le8, values, recordLength, recordOf, records, recordBytes}
+use Rattle.token.specs.Records.{values, headLength, intLength, longLength, lineLength, mostLength, recordLength, recordOf, records, recordBytes}
+use Rattle.words.specs.Words.{le4, le8}
 use Rattle.token.specs.Measure.{measuredOf, isAccepted, tokensIn, Fits, Writing}
 use Rattle.token.specs.declared.gap.Gap.{Gap}
 use Rattle.token.specs.declared.kinds.TokenKind.{TokenKind}
 use Rattle.token.specs.declared.kinds.TokenKind.the-variants as tk
 use Rattle.token.specs.declared.records.Measured.the-variants as measured
 use Rattle.token.proofs.Stores.{length-record}
-use Rattle.token.proofs.Stores.{sets-append}
+use Rattle.words.proofs.Stores.{sets-append}
 use Rattle.token.proofs.Turns.{Turn}
 
--- no record is longer than 21 bytes
-pub record-most : (k : TokenKind) → recordLength k ≤ 21
+pub record-most : (k : TokenKind) → recordLength k ≤ mostLength
 unfolding recordLength values le4 le8
 record-most tk.Ident = omega arith
 record-most tk.OpId = omega arith
@@ -44,19 +44,19 @@ record-most (tk.Newline mark) = omega arith
 record-most tk.Eof = omega arith
 record-most (tk.Kw k) = omega arith
 
-pub newline-length : (mark : Bool) → recordLength (tk.Newline mark) ≡ 14
+pub newline-length : (mark : Bool) → recordLength (tk.Newline mark) ≡ lineLength
 unfolding recordLength values
 newline-length mark = refl
 
-pub int-length : (v : ℕ) → recordLength (tk.IntLit v) ≡ 17
+pub int-length : (v : ℕ) → recordLength (tk.IntLit v) ≡ intLength
 unfolding recordLength values le4
 int-length v = refl
 
-pub long-length : (v : ℕ) → recordLength (tk.LongLit v) ≡ 21
+pub long-length : (v : ℕ) → recordLength (tk.LongLit v) ≡ longLength
 unfolding recordLength values le4 le8
 long-length v = refl
 
-pub eof-length : recordLength tk.Eof ≡ 13
+pub eof-length : recordLength tk.Eof ≡ headLength
 unfolding recordLength values
 eof-length = refl
 

@@ -11,7 +11,7 @@ use Rattle.token.specs.Tests.{isAny}
 use Rattle.token.specs.Kinds.{Token}
 use Rattle.token.specs.Flags.{GapKind, fresh, cutOf}
 use Rattle.token.specs.Answer.{accepted, refused, walk, scan}
-use Rattle.token.specs.Records.{recordLength, recordOf}
+use Rattle.token.specs.Records.{intLength, longLength, mostLength, recordLength, recordOf}
 use Rattle.token.specs.Measure.{storedIf, measuredOf, Writing, Reaches}
 use Rattle.token.specs.Code.{cursorAt, pieceOf, literalKind}
 use Rattle.token.specs.declared.gap.Gap.{Gap}
@@ -48,7 +48,7 @@ walk-blanks n g (c ∷ s) = go (isAny " \t" (c ∷ s)) refl (walk-blanks n g s)
 -- ---- turns joined
 
 module _ {s : List ℕ} {i : ℕ} {g : Gap} {n b : ℕ} {out : List ℕ} where
-  pub reach-start : i ≤ length s → n ≤ i → b ≤ 21 * i → Reaches s i g n b out i g n b out
+  pub reach-start : i ≤ length s → n ≤ i → b ≤ mostLength * i → Reaches s i g n b out i g n b out
   reach-start l m k = record { on = omega arith; within = l; count = m; size = k; same = refl; counted = refl; stored = λ all h. h }
 
   module _ {j : ℕ} {h : Gap} {m d : ℕ} {mid : List ℕ} (r : Reaches s i g n b out j h m d mid) where
@@ -123,10 +123,10 @@ module _ {s : List ℕ} {i : ℕ} {g : Gap} {n b : ℕ} {out : List ℕ} where
 
 -- ---- numbers
 
-pub literal-length : (r : Literal) → cond (r .long) 21 17 ≡ recordLength (literalKind r)
+pub literal-length : (r : Literal) → cond (r .long) longLength intLength ≡ recordLength (literalKind r)
 literal-length r = go (r .long)
   where
-    go : (x : Bool) → cond x 21 17 ≡ recordLength (cond x (tk.LongLit (r .value)) (tk.IntLit (r .value)))
+    go : (x : Bool) → cond x longLength intLength ≡ recordLength (cond x (tk.LongLit (r .value)) (tk.IntLit (r .value)))
     go true = sym (long-length (r .value))
     go false = sym (int-length (r .value))
 

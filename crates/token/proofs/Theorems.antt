@@ -12,11 +12,10 @@ use Rattle.chars.proofs.Valid.{valid}
 use Rattle.chars.proofs.Texts.{from-length}
 use Rattle.token.specs.Kinds.{Kind, Token}
 use Rattle.token.specs.Shapes.{Stands}
-use Rattle.token.specs.Reading.{Piece, Pieces, Reading, Tokens}
+use Rattle.token.specs.Reading.{Piece, Pieces, Reading, Tokens, TokensOf}
 use Rattle.token.specs.Refusals.{Met, First, Refused}
 use Rattle.token.specs.Answer.{Answer, accepted, refused, answer}
-use Rattle.token.specs.Records.{recordBytes}
-use Rattle.token.specs.Host.{TokensOf}
+use Rattle.token.specs.Records.{mostNeed, recordBytes}
 use Rattle.token.specs.Theorems.{Theorems}
 use Rattle.token.proofs.Unique.{one-kind, none-end, one-reading}
 use Rattle.token.proofs.Alone.{tokens-one, records-length}
@@ -107,10 +106,10 @@ module _ (script : List ℕ) where
           ∙ ap (refused j) (h .place-is)
 
   -- a script of n bytes needs at most 17 times n plus 13 bytes
-  pub need : (ts : List Token) → answer script ≡ accepted ts → recordBytes ts ≤ 17 * length script + 13
+  pub need : (ts : List Token) → answer script ≡ accepted ts → recordBytes ts ≤ mostNeed (length script)
   need ts e = go (answer-finds script)
     where
-      go : Walked script [] (from script 0) (answer script) → recordBytes ts ≤ 17 * length script + 13
+      go : Walked script [] (from script 0) (answer script) → recordBytes ts ≤ mostNeed (length script)
       go (Walked.reads ps us f x y b) = let q : us ≡ ts = ap tokensIn (sym f ∙ e) in let l = from-length script in rw (← q) (omega arith)
       go (Walked.stops ps c t z f x y) = clash (ap isAccepted (sym f ∙ e))
 

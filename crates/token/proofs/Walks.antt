@@ -11,7 +11,8 @@ use Rattle.chars.proofs.Texts.{TextOf, text-suffix, text-place}
 use Rattle.token.specs.Kinds.{Kind, TokenType, isComment, Token}
 use Rattle.token.specs.Shapes.{Stands}
 use Rattle.token.specs.Reading.{Piece, Pieces, Valued, Tokens, AfterComment, Cut}
-use Rattle.token.specs.Records.{le4, le8, values, recordLength, recordBytes}
+use Rattle.token.specs.Records.{values, recordLength, perByte, mostNeed, recordBytes}
+use Rattle.words.specs.Words.{le4, le8}
 use Rattle.token.specs.Flags.{GapKind, fresh, push, cutOf}
 use Rattle.token.specs.declared.gap.Gap.{Gap}
 use Rattle.token.specs.Answer.{Found, scan, Answer, accepted, refused, before, gapBefore, walk, answer}
@@ -61,29 +62,29 @@ walk-end n f = refl
 -- the rest is read, and its tokens are the answer; or it is refused where nothing stands
 pub data Walked (script : List ℕ) (gap : List Piece) (s : Text) (w : Answer) : Type 0 where
   reads : (ps : List Piece) (ts : List Token) → w ≡ accepted ts → Pieces (length script) s ps [] → Tokens script gap ps ts
-      → recordBytes ts ≤ 17 * length s + 13 → Walked script gap s w
+      → recordBytes ts ≤ mostNeed (length s) → Walked script gap s w
   stops : (ps : List Piece) (c : Char) (t : Text) (h : Fell (c ∷ t) (scan (length script) (c ∷ t)))
       → w ≡ refused (h .number) (place (length script) (h .rest))
       → Pieces (length script) s ps (c ∷ t) → ((k : Kind) (r : Text) → Stands k (c ∷ t) r → ⊥) → Walked script gap s w
 
--- ---- record bytes: at most 17 for each character, and 13
+-- ---- record bytes: at most so many for each character, and the head of Eof
 
-eof-bytes : (n : ℕ) (cut : Bool) → recordBytes (record { kind = tk.Eof; start = n; end = n; cut = cut } ∷ []) ≤ 17 * 0 + 13
+eof-bytes : (n : ℕ) (cut : Bool) → recordBytes (record { kind = tk.Eof; start = n; end = n; cut = cut } ∷ []) ≤ mostNeed 0
 unfolding recordBytes recordLength values
 eof-bytes n cut = omega arith
 
-before-bytes : (t : TokenKind) (a e : ℕ) (cut : Bool) (ts : List Token) (m k : ℕ) → recordBytes ts ≤ 17 * k + 13 → recordLength t + 17 * k ≤ 17 * m
-    → recordBytes (record { kind = t; start = a; end = e; cut = cut } ∷ ts) ≤ 17 * m + 13
+before-bytes : (t : TokenKind) (a e : ℕ) (cut : Bool) (ts : List Token) (m k : ℕ) → recordBytes ts ≤ mostNeed k → recordLength t + perByte * k ≤ perByte * m
+    → recordBytes (record { kind = t; start = a; end = e; cut = cut } ∷ ts) ≤ mostNeed m
 unfolding recordBytes
 before-bytes t a e cut ts m k b l = omega arith
 
-newline-bytes : (mark : Bool) (a e : ℕ) (ts : List Token) (m k : ℕ) → recordBytes ts ≤ 17 * k + 13 → k < m
-    → recordBytes (record { kind = tk.Newline mark; start = a; end = e; cut = false } ∷ ts) ≤ 17 * m + 13
+newline-bytes : (mark : Bool) (a e : ℕ) (ts : List Token) (m k : ℕ) → recordBytes ts ≤ mostNeed k → k < m
+    → recordBytes (record { kind = tk.Newline mark; start = a; end = e; cut = false } ∷ ts) ≤ mostNeed m
 unfolding recordBytes recordLength values
 newline-bytes mark a e ts m k b l = omega arith
 
 token-bytes : (k : TokenType) (t : TokenKind) (s r : Text) (n : ℕ) (x y : Text) → Stands (Kind.token k) s r → Valued n x y k t
-    → recordLength t + 17 * length r ≤ 17 * length s
+    → recordLength t + perByte * length r ≤ perByte * length s
 unfolding recordLength values le4 le8
 token-bytes k t s r n x y h Valued.longLit = let a = two-long s r h in omega arith
 token-bytes k t s r n x y h (Valued.prefixed e) = let a = two-str s r h in omega arith

@@ -6,7 +6,7 @@ pub mod Refusals
 pub mod Flags
 pub mod Answer
 pub mod Records
-pub mod Host
+pub mod Forms
 pub mod Listing
 pub mod Examples
 pub mod Theorems

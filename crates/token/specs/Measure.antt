@@ -3,20 +3,17 @@ use Prim.Native.Nat.{ℕ, _+_, _*_, _≤_}
 use mathlib.Core.Path.{_≡_}
 use mathlib.Core.Bool.{Bool, true, false, cond}
 use mathlib.Core.List.{List, []}
-use lib.ListN.{length, take}
+use lib.ListN.{length}
 use lib.Seq.{sets}
 use lib.Dec.{leb}
 use Rattle.chars.specs.Text.{from}
 use Rattle.token.specs.Kinds.{Token}
 use Rattle.token.specs.declared.kinds.TokenKind.the-variants as tk
-use Rattle.token.specs.Answer.{Answer, accepted, refused, walk, answer}
-use Rattle.token.specs.Records.{records, recordBytes}
+use Rattle.token.specs.Answer.{Answer, accepted, refused, walk}
+use Rattle.token.specs.Records.{mostLength, records, recordBytes}
 use Rattle.token.specs.declared.gap.Gap.{Gap}
 use Rattle.token.specs.declared.records.Measured.{Measured}
 use Rattle.token.specs.declared.records.Measured.the-variants as measured
-use Rattle.token.specs.Host.{Verdict, good, bad, short}
-use Rattle.token.specs.declared.host.Judged.{Judged}
-use Rattle.token.specs.declared.host.Judged.the-variants as judged
 
 -- a buffer with these bytes stored at w, where they fit
 unfoldable pub storedIf : List ℕ → ℕ → List ℕ → List ℕ
@@ -69,19 +66,7 @@ pub record Reaches (s : List ℕ) (i : ℕ) (g : Gap) (n b : ℕ) (out : List �
   pub on : i ≤ j
   pub within : j ≤ length s
   pub count : m ≤ j
-  pub size : d ≤ 21 * j
+  pub size : d ≤ mostLength * j
   pub same : length next ≡ length out
   pub counted : measuredOf m d (walk (length s) 0 h (from s j)) ≡ measuredOf n b (walk (length s) 0 g (from s i))
   pub stored : (all : List ℕ) → Writing (walk (length s) 0 g (from s i)) all out b → Writing (walk (length s) 0 h (from s j)) all next d
-
--- the verdict with the tokens counted
-unfoldable pub judgedOf : Verdict → Judged
-judgedOf (good ts) = judged.Fits (length ts) (recordBytes ts)
-judgedOf (short ts) = judged.Short (length ts) (recordBytes ts)
-judgedOf (bad j a) = judged.Refused j a
-
--- where the records are to be written, a buffer that they fit into has them
-unfoldable pub Holds : Judged → List ℕ → List ℕ → Type 0
-Holds (judged.Fits n b) script small = b ≤ length small → take b small ≡ records (tokensIn (answer script))
-Holds (judged.Short n b) script small = Unit {0}
-Holds (judged.Refused j a) script small = Unit {0}

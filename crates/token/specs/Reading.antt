@@ -115,3 +115,9 @@ pub data Tokens (script : List ℕ) : List Piece → List Piece → List Token �
   token : {gap ps : List Piece} {ts : List Token} {p : Piece} {t : TokenType} {k : TokenKind} {cut : Bool} → p .kind ≡ Kind.token t
       → Valued (length script) (from script (p .start)) (from script (p .end)) t k → cut ≡ true ↔ Cut script gap → Tokens script [] ps ts
       → Tokens script gap (p ∷ ps) (record { kind = k; start = p .start; end = p .end; cut = cut } ∷ ts)
+
+-- the tokens of the script's readings
+pub record TokensOf (script : List ℕ) (ts : List Token) : Type 0 where
+  pub pieces : List Piece
+  pub reading : Reading script pieces
+  pub tokens : Tokens script [] pieces ts

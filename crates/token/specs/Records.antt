@@ -1,21 +1,12 @@
 -- Document 01, "Records": a token's record as bytes, the records of a list of tokens, the token count and the record bytes.
-use Prim.Native.Nat.{ℕ, _+_, _/_, _%_}
+use Prim.Native.Nat.{ℕ, _+_, _*_}
 use mathlib.Core.Bool.{Bool, true, false}
 use mathlib.Core.List.{List, [], _∷_, _++_}
 use lib.ListN.{length}
+use Rattle.words.specs.Words.{le2, le4, le8}
 use Rattle.token.specs.Kinds.{kindNumber, Token}
 use Rattle.token.specs.declared.kinds.TokenKind.{TokenKind}
 use Rattle.token.specs.declared.kinds.TokenKind.the-variants as tk
-
--- Little-endian
-unfoldable pub le2 : ℕ → List ℕ
-le2 x = x % 256 ∷ x / 256 % 256 ∷ []
-
-unfoldable pub le4 : ℕ → List ℕ
-le4 x = x % 256 ∷ x / 256 % 256 ∷ x / 65536 % 256 ∷ x / 16777216 % 256 ∷ []
-
-unfoldable pub le8 : ℕ → List ℕ
-le8 x = le4 (x % 4294967296) ++ le4 (x / 4294967296)
 
 abbrev pub bit : Bool → ℕ
 bit true = 1
@@ -57,8 +48,40 @@ unfoldable pub values : TokenKind → List ℕ
 values k = valueBytes (valuesOf k)
 
 -- 13 bytes without values
+abbrev pub headLength : ℕ
+headLength = 13
+
+-- with them: IntLit (+4), LongLit (+8), Str (+8), Newline (+1)
+abbrev pub intLength : ℕ
+intLength = headLength + 4
+
+abbrev pub longLength : ℕ
+longLength = headLength + 8
+
+abbrev pub strLength : ℕ
+strLength = headLength + 8
+
+abbrev pub lineLength : ℕ
+lineLength = headLength + 1
+
+-- no record is longer
+abbrev pub mostLength : ℕ
+mostLength = longLength
+
+-- length (2 bytes, whole record)
 unfoldable pub recordLength : TokenKind → ℕ
-recordLength k = 13 + length (values k)
+recordLength k = headLength + length (values k)
+
+-- 17: over 16,777,216 bytes. The tokenizer is given none that is longer.
+abbrev pub mostBytes : ℕ
+mostBytes = 16777216
+
+-- A script of n bytes needs at most 17 times n plus 13 bytes: no byte of it needs more than a digit's IntLit, and Eof is without values.
+abbrev pub perByte : ℕ
+perByte = intLength
+
+abbrev pub mostNeed : ℕ → ℕ
+mostNeed n = perByte * n + headLength
 
 -- length (2 bytes, whole record), kind (2), start (4), end (4), cut (1)
 unfoldable pub fieldsOf : ℕ → ℕ → ℕ → ℕ → Bool → List ℕ

@@ -1,4 +1,4 @@
--- What is proved for every script: the computed answer is what document 01 declares. Proved: proofs/Theorems, proofs/Hosts.
+-- What is proved for every script: the computed answer is what document 01 declares. Proved: proofs/Theorems.
 use Prim.Native.Nat.{ℕ, _≤_, _+_, _*_}
 use mathlib.Core.Path.{_≡_}
 use mathlib.Core.Logic.{_⊎_, _↔_}
@@ -6,11 +6,10 @@ use mathlib.Core.List.{List, [], _++_}
 use lib.ListN.{length, drop}
 use Rattle.chars.specs.Utf8.{WellFormed, LongestValid, validPrefix}
 use Rattle.token.specs.Kinds.{Token}
-use Rattle.token.specs.Reading.{Piece, Reading, Tokens}
+use Rattle.token.specs.Reading.{Piece, Reading, Tokens, TokensOf}
 use Rattle.token.specs.Refusals.{Refused}
-use Rattle.token.specs.Records.{records, tokenCount, recordBytes}
+use Rattle.token.specs.Records.{mostNeed, records, recordBytes}
 use Rattle.token.specs.Answer.{answer, accepted, refused}
-use Rattle.token.specs.Host.{Seen, seen, numberSeen, bufferSeen, blockOf, mostBytes, TokensOf, Sees, hostOf}
 
 -- Of a script.
 pub record Theorems (script : List ℕ) : Type 0 where
@@ -32,28 +31,4 @@ pub record Theorems (script : List ℕ) : Type 0 where
   -- Its record bytes are the sum of the records' lengths.
   pub bytes : (ts : List Token) → length (records ts) ≡ recordBytes ts
   -- A script of n bytes needs at most 17 times n plus 13 bytes.
-  pub need : (ts : List Token) → TokensOf script ts → recordBytes ts ≤ 17 * length script + 13
-
--- What a host that lends enough passes: UTF-8 of at most 16,777,216 bytes, 17 times as many bytes and 13 for the records, 16 for the answer.
-pub record Lends (script buffer block : List ℕ) : Type 0 where
-  pub utf8 : WellFormed script
-  pub short : length script ≤ mostBytes
-  pub room : 17 * length script + 13 ≤ length buffer
-  pub sixteen : length block ≡ 16
-
--- Then the number is 0 exactly when a reading exists; and then the buffer holds the records of its tokens, every byte past them as before, and
--- the block their count and their bytes.
-pub record Accepts (script buffer block : List ℕ) : Type 0 where
-  pub exactly : (numberSeen (hostOf script buffer block) ≡ 0) ↔ ((ps : List Piece) × Reading script ps)
-  pub writes : (ps : List Piece) (ts : List Token) → Reading script ps → Tokens script [] ps ts
-      → hostOf script buffer block ≡ seen 0 (records ts ++ drop (recordBytes ts) buffer) (blockOf 0 0 (tokenCount ts) (recordBytes ts))
-
--- Of what the host sees.
-pub record HostTheorems (script buffer block : List ℕ) : Type 0 where
-  -- It is what the refusal table and its order declare, and nothing else.
-  pub sees : (x : Seen) → (hostOf script buffer block ≡ x) ↔ Sees script buffer block x
-  -- Every refusal leaves the records buffer unchanged; the number is 0 or one of the table's 1 to 20.
-  pub unchanged : (numberSeen (hostOf script buffer block) ≡ 0 → ⊥) → bufferSeen (hostOf script buffer block) ≡ buffer
-  pub numbers : numberSeen (hostOf script buffer block) ≤ 20
-  -- To a host that lends enough the tokens of every reading are handed, and nothing else is accepted.
-  pub accepts : Lends script buffer block → Accepts script buffer block
+  pub need : (ts : List Token) → TokensOf script ts → recordBytes ts ≤ mostNeed (length script)

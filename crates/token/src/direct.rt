@@ -7,11 +7,12 @@ use crate::class_table::continues_word;
 use crate::class_table::in_run;
 use crate::class_table::is_sign;
 use crate::cursor::byte_at;
+use crate::form::put_record;
 use crate::ident::Keyword;
 use crate::ident::run_keyword;
 use crate::ident::word_keyword;
+use crate::kinds::Form;
 use crate::kinds::TokenKind;
-use crate::store::put_fields;
 ghost use mathlib.Core.Path.{_≡_};
 ghost use mathlib.Core.Bool.{true, false, not, _&&_};
 ghost use lib.Dec.{eqb, ltb};
@@ -23,7 +24,8 @@ ghost use Rattle.chars.specs.Text.{from, place, afterRun};
 ghost use Rattle.chars.specs.Code.{asciiIdChar};
 ghost use Rattle.token.specs.Answer.{scan};
 ghost use Rattle.token.specs.Code.{ByteClasses, Direct, DirectOr, pieceOf, pieceNumber, signNumber};
-ghost use Rattle.token.specs.Records.{fieldsOf};
+ghost use Rattle.token.specs.Records.{headLength};
+ghost use Rattle.token.specs.Forms.{plainForm, byForm};
 ghost use Rattle.token.specs.Measure.{storedIf};
 
 // Where the ASCII id characters end that stand there.
@@ -167,12 +169,12 @@ fn direct_number(s: &[u8], at: usize, end: usize) -> u16
 
 // Stores the record of such a token, where it fits.
 pub fn put_direct_if(out: &mut [u8], s: &[u8], w: usize, start: usize, end: usize, cut: bool)
-    requires { ⌜ (start < length (now s)) × Direct (now s) start end × (w + 13 ≤ 18446744073709551615) ⌝ }
-    ensures { λ r. ⌜ now (out .exit) ≡ storedIf (now (out .entry)) w (fieldsOf 13 (pieceNumber (pieceOf (length (now (s .entry))) (scan (length (now (s .entry))) (from (now (s .entry)) start)))) start end cut) ⌝ }
+    requires { ⌜ (start < length (now s)) × Direct (now s) start end × (w + headLength ≤ 18446744073709551615) ⌝ }
+    ensures { λ r. ⌜ now (out .exit) ≡ storedIf (now (out .entry)) w (byForm (plainForm (pieceNumber (pieceOf (length (now (s .entry))) (scan (length (now (s .entry))) (from (now (s .entry)) start))))) start end cut) ⌝ }
 {
     if w + TokenKind::HEAD_LENGTH as usize <= out.len() {
         let number = direct_number(s, start, end);
-        put_fields(out, w, TokenKind::HEAD_LENGTH, number, start, end, cut);
+        put_record(out, w, Form::plain(number), start, end, cut);
         return;
     }
 }

@@ -1,7 +1,9 @@
 // Keywords and token kinds, with the record kind numbers and record lengths of document 01, "Records".
 ghost use mathlib.Core.Path.{_≡_};
-ghost use Rattle.token.specs.Kinds.{kwNumber, kindNumber};
-ghost use Rattle.token.specs.Records.{recordLength};
+ghost use Rattle.token.specs.Kinds.{kwNumber};
+ghost use Rattle.token.specs.Records.{bit};
+ghost use Rattle.token.specs.Forms.{formOf, plainForm};
+ghost use Rattle.token.specs.declared.kinds.TokenKind.the-variants as tk;
 
 pub enum Kw {
     Case,
@@ -141,55 +143,96 @@ impl TokenKind {
 
     pub const NEWLINE_LENGTH: u16 = 14;
 
-    pub fn number(self) -> u16
-        ensures { λ r. ⌜ r ≡ kindNumber self ⌝ }
+    pub fn form(self) -> Form
+        ensures { λ r. ⌜ r ≡ formOf self ⌝ }
     {
         match self {
-            TokenKind::Ident => TokenKind::IDENT,
-            TokenKind::OpId => TokenKind::OP_ID,
-            TokenKind::BacktickId => TokenKind::BACKTICK_ID,
-            TokenKind::IntLit(_) => TokenKind::INT_LIT,
-            TokenKind::LongLit(_) => TokenKind::LONG_LIT,
-            TokenKind::Str { from: _, to: _ } => TokenKind::STR,
-            TokenKind::CharSym => TokenKind::CHAR_SYM,
-            TokenKind::LParen => TokenKind::L_PAREN,
-            TokenKind::RParen => TokenKind::R_PAREN,
-            TokenKind::LBracket => TokenKind::L_BRACKET,
-            TokenKind::RBracket => TokenKind::R_BRACKET,
-            TokenKind::LBrace => TokenKind::L_BRACE,
-            TokenKind::RBrace => TokenKind::R_BRACE,
-            TokenKind::Comma => TokenKind::COMMA,
-            TokenKind::Semi => TokenKind::SEMI,
-            TokenKind::Dot => TokenKind::DOT,
-            TokenKind::Newline(_) => TokenKind::NEWLINE,
-            TokenKind::Eof => TokenKind::EOF,
-            TokenKind::Kw(k) => k.number(),
+            TokenKind::IntLit(v) => Form::int(v as u64),
+            TokenKind::LongLit(v) => Form::long(v),
+            TokenKind::Str { from, to } => Form::span(from, to),
+            TokenKind::Newline(mark) => Form::line(mark),
+            TokenKind::Ident => Form::plain(TokenKind::IDENT),
+            TokenKind::OpId => Form::plain(TokenKind::OP_ID),
+            TokenKind::BacktickId => Form::plain(TokenKind::BACKTICK_ID),
+            TokenKind::CharSym => Form::plain(TokenKind::CHAR_SYM),
+            TokenKind::LParen => Form::plain(TokenKind::L_PAREN),
+            TokenKind::RParen => Form::plain(TokenKind::R_PAREN),
+            TokenKind::LBracket => Form::plain(TokenKind::L_BRACKET),
+            TokenKind::RBracket => Form::plain(TokenKind::R_BRACKET),
+            TokenKind::LBrace => Form::plain(TokenKind::L_BRACE),
+            TokenKind::RBrace => Form::plain(TokenKind::R_BRACE),
+            TokenKind::Comma => Form::plain(TokenKind::COMMA),
+            TokenKind::Semi => Form::plain(TokenKind::SEMI),
+            TokenKind::Dot => Form::plain(TokenKind::DOT),
+            TokenKind::Eof => Form::plain(TokenKind::EOF),
+            TokenKind::Kw(k) => Form::plain(k.number()),
+        }
+    }
+}
+
+// What a record has of its kind: the kind's number, the length of the whole record, and the values as one number, the first in the lowest bytes.
+pub struct Form {
+    pub number: u16,
+    pub length: u16,
+    pub values: u64,
+}
+
+impl Form {
+    // A kind without values.
+    pub fn plain(number: u16) -> Form
+        ensures { λ r. ⌜ r ≡ plainForm number ⌝ }
+    {
+        Form {
+            number: number,
+            length: TokenKind::HEAD_LENGTH,
+            values: 0,
         }
     }
 
-    pub fn length(self) -> u16
-        ensures { λ r. ⌜ r ≡ recordLength self ⌝ }
+    pub fn int(v: u64) -> Form
+        ensures { λ r. ⌜ r ≡ formOf (tk.IntLit v) ⌝ }
     {
-        match self {
-            TokenKind::Ident => TokenKind::HEAD_LENGTH,
-            TokenKind::OpId => TokenKind::HEAD_LENGTH,
-            TokenKind::BacktickId => TokenKind::HEAD_LENGTH,
-            TokenKind::IntLit(_) => TokenKind::INT_LIT_LENGTH,
-            TokenKind::LongLit(_) => TokenKind::LONG_LIT_LENGTH,
-            TokenKind::Str { from: _, to: _ } => TokenKind::STR_LENGTH,
-            TokenKind::CharSym => TokenKind::HEAD_LENGTH,
-            TokenKind::LParen => TokenKind::HEAD_LENGTH,
-            TokenKind::RParen => TokenKind::HEAD_LENGTH,
-            TokenKind::LBracket => TokenKind::HEAD_LENGTH,
-            TokenKind::RBracket => TokenKind::HEAD_LENGTH,
-            TokenKind::LBrace => TokenKind::HEAD_LENGTH,
-            TokenKind::RBrace => TokenKind::HEAD_LENGTH,
-            TokenKind::Comma => TokenKind::HEAD_LENGTH,
-            TokenKind::Semi => TokenKind::HEAD_LENGTH,
-            TokenKind::Dot => TokenKind::HEAD_LENGTH,
-            TokenKind::Newline(_) => TokenKind::NEWLINE_LENGTH,
-            TokenKind::Eof => TokenKind::HEAD_LENGTH,
-            TokenKind::Kw(_) => TokenKind::HEAD_LENGTH,
+        Form {
+            number: TokenKind::INT_LIT,
+            length: TokenKind::INT_LIT_LENGTH,
+            values: v,
         }
     }
+
+    pub fn long(v: u64) -> Form
+        ensures { λ r. ⌜ r ≡ formOf (tk.LongLit v) ⌝ }
+    {
+        Form {
+            number: TokenKind::LONG_LIT,
+            length: TokenKind::LONG_LIT_LENGTH,
+            values: v,
+        }
+    }
+
+    // A string, by its content's start and end.
+    pub fn span(from: usize, to: usize) -> Form
+        ensures { λ r. ⌜ r ≡ formOf (tk.Str from to) ⌝ }
+    {
+        Form {
+            number: TokenKind::STR,
+            length: TokenKind::STR_LENGTH,
+            values: (from % 4294967296) as u64 + (to % 4294967296) as u64 * 4294967296,
+        }
+    }
+
+    pub fn line(mark: bool) -> Form
+        ensures { λ r. ⌜ r ≡ formOf (tk.Newline mark) ⌝ }
+    {
+        Form {
+            number: TokenKind::NEWLINE,
+            length: TokenKind::NEWLINE_LENGTH,
+            values: bit_of(mark) as u64,
+        }
+    }
+}
+
+pub fn bit_of(b: bool) -> u8
+    ensures { λ r. ⌜ r ≡ bit b ⌝ }
+{
+    if b { 1 } else { 0 }
 }

@@ -1,4 +1,4 @@
-// From script bytes to token records: document 01, "Piece table" to "Host entry and text".
+// From script bytes to token records: document 01, "Piece table" to "Records".
 pub mod kinds; // keywords and token kinds, their record numbers and lengths
 mod cursor; // a place in a script, and what stands there
 mod piece; // what reading one piece answers
@@ -8,10 +8,8 @@ mod string; // strings and escapes
 mod ident; // identifiers, operators and backticks
 mod charsym; // characters and symbols
 mod lexer; // one step over a script: the gap, then one token
-mod store; // stores into lent bytes
+mod form; // one record, stored and read back
 mod class_table; // what a byte is, by a table
 mod direct; // signs, words and operators that their ASCII bytes tell
 mod number; // numbers that their bytes tell
-mod records; // the records, counted, and stored where they fit
-pub mod host; // the host's entry
-pub mod text; // token text
+pub mod records; // the records, counted, and stored where they fit

@@ -4,26 +4,24 @@ use crate::cursor::Cursor;
 use crate::cursor::byte_at;
 use crate::direct::direct_end;
 use crate::direct::put_direct_if;
+use crate::form::put_if;
 use crate::gap::Gap;
+use crate::kinds::Form;
 use crate::kinds::TokenKind;
 use crate::lexer::Next;
 use crate::lexer::advance;
 use crate::number::Literal;
 use crate::number::literal_at;
-use crate::store::copy;
-use crate::store::put_int;
-use crate::store::put_line;
-use crate::store::put_long;
-use crate::store::put_record;
+use words::write::copy;
 ghost use mathlib.Core.Path.{_≡_};
 ghost use mathlib.Core.Bool.{cond};
 ghost use Prim.Native.Nat.{_≤_, _+_, _*_};
 ghost use lib.ListN.{length, take};
 ghost use lib.Seq.{sets};
 ghost use Rattle.token.specs.Answer.{answer};
-ghost use Rattle.token.specs.Records.{recordLength, recordOf, records, recordBytes};
+ghost use Rattle.token.specs.Records.{mostBytes, headLength, intLength, longLength, mostLength, recordOf, records, recordBytes};
 ghost use Rattle.token.specs.Code.{ByteClasses, literalKind};
-ghost use Rattle.token.specs.Measure.{storedIf, measuredOf, total, Fits, Reaches, tokensIn, lineEndAt, eofAt, intAt, longAt};
+ghost use Rattle.token.specs.Measure.{storedIf, measuredOf, total, Fits, Reaches, tokensIn, eofAt};
 
 // What measuring finds: how many tokens and record bytes, or a refusal's number and place.
 pub enum Measured {
@@ -39,63 +37,21 @@ pub struct Walked {
     pub bytes: usize,
 }
 
-// Stores a record, where it fits.
-fn put_if(out: &mut [u8], w: usize, kind: TokenKind, start: usize, end: usize, cut: bool)
-    requires { ⌜ w + recordLength kind ≤ 18446744073709551615 ⌝ }
-    ensures { λ r. ⌜ now (out .exit) ≡ storedIf (now (out .entry)) w (recordOf (record { kind = kind; start = start; end = end; cut = cut })) ⌝ }
-{
-    if w + kind.length() as usize <= out.len() {
-        put_record(out, w, kind, start, end, cut);
-        return;
-    }
-}
-
-// The same for a line end.
-fn put_line_if(out: &mut [u8], w: usize, start: usize, end: usize, mark: bool)
-    requires { ⌜ w + 14 ≤ 18446744073709551615 ⌝ }
-    ensures { λ r. ⌜ now (out .exit) ≡ storedIf (now (out .entry)) w (recordOf (lineEndAt start end mark)) ⌝ }
-{
-    if w + TokenKind::NEWLINE_LENGTH as usize <= out.len() {
-        put_line(out, w, start, end, mark);
-        return;
-    }
-}
-
-fn put_int_if(out: &mut [u8], w: usize, start: usize, end: usize, v: u64, cut: bool)
-    requires { ⌜ w + 17 ≤ 18446744073709551615 ⌝ }
-    ensures { λ r. ⌜ now (out .exit) ≡ storedIf (now (out .entry)) w (recordOf (intAt v start end cut)) ⌝ }
-{
-    if w + TokenKind::INT_LIT_LENGTH as usize <= out.len() {
-        put_int(out, w, start, end, v, cut);
-        return;
-    }
-}
-
-fn put_long_if(out: &mut [u8], w: usize, start: usize, end: usize, v: u64, cut: bool)
-    requires { ⌜ w + 21 ≤ 18446744073709551615 ⌝ }
-    ensures { λ r. ⌜ now (out .exit) ≡ storedIf (now (out .entry)) w (recordOf (longAt v start end cut)) ⌝ }
-{
-    if w + TokenKind::LONG_LIT_LENGTH as usize <= out.len() {
-        put_long(out, w, start, end, v, cut);
-        return;
-    }
-}
-
-// The same for a number.
+// Stores a number's record, where it fits.
 fn put_number_if(out: &mut [u8], w: usize, start: usize, number: Literal, cut: bool)
-    requires { ⌜ w + 21 ≤ 18446744073709551615 ⌝ }
+    requires { ⌜ w + mostLength ≤ 18446744073709551615 ⌝ }
     ensures { λ r. ⌜ now (out .exit) ≡ storedIf (now (out .entry)) w (recordOf (record { kind = literalKind number; start = start; end = number .end; cut = cut })) ⌝ }
 {
     if number.long {
-        put_long_if(out, w, start, number.end, number.value, cut);
+        put_if(out, w, Form::long(number.value), start, number.end, cut);
         return;
     }
-    put_int_if(out, w, start, number.end, number.value, cut);
+    put_if(out, w, Form::int(number.value), start, number.end, cut);
 }
 
 // The length of a number's record.
 fn number_length(long: bool) -> u16
-    ensures { λ r. ⌜ r ≡ cond long 21 17 ⌝ }
+    ensures { λ r. ⌜ r ≡ cond long longLength intLength ⌝ }
 {
     if long {
         TokenKind::LONG_LIT_LENGTH
@@ -106,18 +62,18 @@ fn number_length(long: bool) -> u16
 
 // The end of script, the n-th token: stores its record where it fits, and says what was counted.
 fn finish(out: &mut [u8], w: usize, n: usize, last: usize, cut: bool) -> Measured
-    requires { ⌜ w + 13 ≤ 18446744073709551615 ⌝ }
-    ensures { λ r. ⌜ r ≡ total n (w + 13) ⌝ }
+    requires { ⌜ w + headLength ≤ 18446744073709551615 ⌝ }
+    ensures { λ r. ⌜ r ≡ total n (w + headLength) ⌝ }
     ensures { λ r. ⌜ now (out .exit) ≡ storedIf (now (out .entry)) w (recordOf (eofAt last cut)) ⌝ }
 {
-    put_if(out, w, TokenKind::Eof, last, last, cut);
+    put_if(out, w, Form::plain(TokenKind::EOF), last, last, cut);
     Measured::Total(n, w + TokenKind::HEAD_LENGTH as usize)
 }
 
 // As far as tokens are told by their bytes, which most are: signs, words, operators, an LF, numbers. What else stands there, or the end, is left
 // to `advance`.
 fn walk_direct(out: &mut [u8], s: &[u8], t: &[u16; 256], start: Walked) -> Walked
-    requires { ⌜ ByteClasses (now t) × (length (now s) ≤ 16777216) × (start .at ≤ length (now s)) × (start .count ≤ start .at) × (start .bytes ≤ 21 * start .at) ⌝ }
+    requires { ⌜ ByteClasses (now t) × (length (now s) ≤ mostBytes) × (start .at ≤ length (now s)) × (start .count ≤ start .at) × (start .bytes ≤ mostLength * start .at) ⌝ }
     ensures { λ r. ⌜ Reaches (now (s .entry)) (start .at) (start .gap) (start .count) (start .bytes) (now (out .entry)) (r .at) (r .gap) (r .count) (r .bytes) (now (out .exit)) ⌝ }
 {
     let mut c = Cursor { at: start.at };
@@ -134,7 +90,7 @@ fn walk_direct(out: &mut [u8], s: &[u8], t: &[u16; 256], start: Walked) -> Walke
             c = Cursor { at: e };
             g = Gap::new();
         } else if byte_at(s, d.at) == 0x0A {
-            put_line_if(out, b, d.at, d.at + 1, g.comment);
+            put_if(out, b, Form::line(g.comment), d.at, d.at + 1, false);
             n += 1;
             b += TokenKind::NEWLINE_LENGTH as usize;
             c = Cursor { at: d.at + 1 };
@@ -161,7 +117,7 @@ fn walk_direct(out: &mut [u8], s: &[u8], t: &[u16; 256], start: Walked) -> Walke
 // One walk over the script: it counts tokens and record bytes, and stores each record that fits. Where all fit, the buffer has them; where they
 // do not, or the script is refused, what it holds is not told.
 fn walk_script(out: &mut [u8], s: &[u8], t: &[u16; 256]) -> Measured
-    requires { ⌜ (length (now s) ≤ 16777216) × ByteClasses (now t) ⌝ }
+    requires { ⌜ (length (now s) ≤ mostBytes) × ByteClasses (now t) ⌝ }
     ensures { λ r. ⌜ r ≡ measuredOf 0 0 (answer (now (s .entry))) ⌝ }
     ensures { λ r. ⌜ (Fits (answer (now (s .entry))) (length (now (out .entry))) → now (out .exit) ≡ sets (now (out .entry)) 0 (records (tokensIn (answer (now (s .entry)))))) ⌝ }
 {
@@ -186,13 +142,14 @@ fn walk_script(out: &mut [u8], s: &[u8], t: &[u16; 256]) -> Measured
         n = w.count + 1;
         match step {
             Next::Token(kind, start, end, cut) => {
-                put_if(out, w.bytes, kind, start, end.at, cut);
-                b = w.bytes + kind.length() as usize;
+                let form = kind.form();
+                put_if(out, w.bytes, form, start, end.at, cut);
+                b = w.bytes + form.length as usize;
                 c = end;
                 g = Gap::new();
             }
             Next::LineEnd(start, end, mark, h) => {
-                put_line_if(out, w.bytes, start, end.at, mark);
+                put_if(out, w.bytes, Form::line(mark), start, end.at, false);
                 b = w.bytes + TokenKind::NEWLINE_LENGTH as usize;
                 c = end;
                 g = h;
@@ -205,7 +162,7 @@ fn walk_script(out: &mut [u8], s: &[u8], t: &[u16; 256]) -> Measured
 
 // The tokens and record bytes of a script. Where the records fit into `small`, it has them then.
 pub fn measure(small: &mut [u8], s: &[u8]) -> Measured
-    requires { ⌜ length (now s) ≤ 16777216 ⌝ }
+    requires { ⌜ length (now s) ≤ mostBytes ⌝ }
     ensures { λ r. ⌜ r ≡ measuredOf 0 0 (answer (now (s .entry))) ⌝ }
     ensures { λ r. ⌜ (Fits (answer (now (s .entry))) (length (now (small .entry))) → now (small .exit) ≡ sets (now (small .entry)) 0 (records (tokensIn (answer (now (s .entry)))))) ⌝ }
 {
@@ -214,7 +171,7 @@ pub fn measure(small: &mut [u8], s: &[u8]) -> Measured
 
 // The records of a script that is accepted, from the buffer's start on: copied, where `small` has them, else by another walk.
 pub fn write(out: &mut [u8], s: &[u8], small: &[u8], bytes: usize)
-    requires { ⌜ (length (now s) ≤ 16777216) × Fits (answer (now s)) (length (now out)) × (bytes ≡ recordBytes (tokensIn (answer (now s)))) ⌝ }
+    requires { ⌜ (length (now s) ≤ mostBytes) × Fits (answer (now s)) (length (now out)) × (bytes ≡ recordBytes (tokensIn (answer (now s)))) ⌝ }
     requires { ⌜ (bytes ≤ length (now small) → take bytes (now small) ≡ records (tokensIn (answer (now s)))) ⌝ }
     ensures { λ r. ⌜ now (out .exit) ≡ sets (now (out .entry)) 0 (records (tokensIn (answer (now (s .entry))))) ⌝ }
 {
@@ -227,7 +184,7 @@ pub fn write(out: &mut [u8], s: &[u8], small: &[u8], bytes: usize)
 
 // The same by another walk. The table is lent here, so that it is not written to the stack where records are copied.
 fn write_walk(out: &mut [u8], s: &[u8])
-    requires { ⌜ (length (now s) ≤ 16777216) × Fits (answer (now s)) (length (now out)) ⌝ }
+    requires { ⌜ (length (now s) ≤ mostBytes) × Fits (answer (now s)) (length (now out)) ⌝ }
     ensures { λ r. ⌜ now (out .exit) ≡ sets (now (out .entry)) 0 (records (tokensIn (answer (now (s .entry))))) ⌝ }
 {
     walk_script(out, s, &CLASSES);

@@ -1,8 +1,11 @@
--- One record, or nothing.
-use mathlib.Core.Path.{ap, _∙_}
+-- Where it fits, the record is stored by the kind's number.
+use mathlib.Core.Path.{_∙_, ap, sym}
 use lib.Seq.{sets}
-use Rattle.token.specs.Records.{fieldsOf}
-use Rattle.token.proofs.Stores.{length-fields, stored-in, stored-out}
+use native.Mathlib.Omega.{arith}
+use Rattle.token.specs.Records.{headLength}
+use Rattle.token.specs.Forms.{Known, plainForm, byForm}
+use Rattle.token.proofs.Stores.{stored-in, stored-out}
+use Rattle.token.proofs.FormLaws.{length-form, plain-known, plain-length}
 use borrow.Author.Needs.{needs}
 use Rattle.token.proofs.direct.put_direct_if.Statement.{statement}
 use Rattle.token.proofs.direct.put_direct_if.Tie as tie
@@ -16,27 +19,34 @@ add-if1 c = search needs
 direct-number-requires : tie.Need-direct-number-requires
 direct-number-requires c κs = search needs
 
-put-fields-requires : tie.Need-put-fields-requires
-put-fields-requires c κs = search needs
+plain-requires : tie.Need-plain-requires
+plain-requires c κs = search needs
+
+put-record-requires : tie.Need-put-record-requires
+put-record-requires c κs =
+    let e = c .plain .ensures in
+    (plain-known _ _ e, omega (arith, plain-length _ _ e, c .before .before .before .if1 .taken))
 
 same-length : tie.Need-same-length
 same-length c = search needs
 
 returns : tie.Need-returns
 returns c =
-    let args′ = c .before .before .before .before .before .before .before .before .args in
-    let direct-number′ = c .before .before .before .before .direct-number in
-    let if1′ = c .before .before .before .before .before .if1 in
-    let put-fields′ = c .before .before .put-fields in
+    let args′ = c .before .before .before .before .before .before .before .before .before .args in
+    let direct-number′ = c .before .before .before .before .before .direct-number in
+    let plain′ = c .before .before .before .plain in
+    let put-record′ = c .before .before .put-record in
+    let if1′ = c .before .before .before .before .before .before .if1 in
     let out = args′ .out .now in
-    stored-in out (args′ .w) 13 _ (length-fields 13 _ (args′ .start) (args′ .end) (args′ .cut)) _ (if1′ .taken)
-    (put-fields′ .ensures ∙ ap (λ z. sets out (args′ .w) (fieldsOf 13 z (args′ .start) (args′ .end) (args′ .cut))) (direct-number′ .ensures))
+    let f = plain′ .ensures ∙ ap plainForm (direct-number′ .ensures) in
+    stored-in out (args′ .w) headLength _ (length-form (plainForm _) (args′ .start) (args′ .end) (args′ .cut) Known.head) _ (if1′ .taken)
+    (put-record′ .ensures ∙ ap (λ z. sets out (args′ .w) (byForm z (args′ .start) (args′ .end) (args′ .cut))) f)
 
 returns-2 : tie.Need-returns-2
 returns-2 c =
     let args′ = c .before .before .before .args in
     let if1′ = c .if1 in
-    stored-out (args′ .out .now) (args′ .w) 13 _ (length-fields 13 _ (args′ .start) (args′ .end) (args′ .cut)) (if1′ .left)
+    stored-out (args′ .out .now) (args′ .w) headLength _ (length-form (plainForm _) (args′ .start) (args′ .end) (args′ .cut) Known.head) (if1′ .left)
 
 pub put-direct-if-spec : {M : Type 1} → statement M
 put-direct-if-spec =
@@ -45,7 +55,8 @@ put-direct-if-spec =
     cast-if1
     add-if1
     direct-number-requires
-    put-fields-requires
+    plain-requires
+    put-record-requires
     same-length
     returns
     returns-2)

@@ -1,12 +1,14 @@
 -- The loop keeps that the walk comes from its start to its place; each token is one turn more.
-use Prim.Native.Nat.{_-_, _<_}
+use Prim.Native.Nat.{_+_, _-_, _<_}
 use mathlib.Core.Path.{sym, ap, _∙_}
 use native.Mathlib.Omega.{arith}
 use lib.ListN.{length}
 use borrow.Author.Needs.{needs}
-use Rattle.token.specs.Measure.{storedIf, Reaches}
+use Rattle.token.specs.Records.{headLength, lineLength}
+use Rattle.token.specs.Measure.{storedIf, lineEndAt, Reaches}
 use Rattle.token.specs.Code.{literalKind}
 use Rattle.token.proofs.DirectLaws.{direct-of, direct-inside, direct-turn, line-turn}
+use Rattle.token.proofs.FormLaws.{length-by, record-by, known-by}
 use Rattle.token.proofs.Measures.{newline-length, record-most}
 use Rattle.token.proofs.Reach.{reach-start, reach-blanks, reach-turn, literal-length, found-turn}
 use Rattle.token.proofs.records.walk_direct.Statement.{statement}
@@ -92,26 +94,31 @@ loop-again c =
     let put-direct-if′ = c .before .before .before .put-direct-if in
     let s = args′ .s .now in
     let t = direct-turn s (loop′ .c .at) (skip-blanks′ .result .at) (direct-end′ .result) (loop′ .g) (cut-of′ .result) (skip-blanks′ .ensures .2) (cut-of′ .ensures) (direct-end′ .ensures) (if1′ .taken) in
-    reach-turn (loop′ .inv) (t .turn) _ (new′ .ensures) 13 (t .size) _ (put-direct-if′ .ensures ∙ ap (storedIf (loop′ .out) (loop′ .b)) (sym (t .bytes)))
+    reach-turn (loop′ .inv) (t .turn) _ (new′ .ensures) headLength (t .size) _ (put-direct-if′ .ensures ∙ ap (storedIf (loop′ .out) (loop′ .b)) (sym (t .bytes)))
 
 byte-at-requires : tie.Need-byte-at-requires Inv-loop μ-loop
 byte-at-requires c κs = search needs
 
-add-put-line-if : tie.Need-add-put-line-if Inv-loop μ-loop
-add-put-line-if c =
-    let skip-blanks′ = c .before .before .before .before .before .before .before .skip-blanks in
+add-put-if : tie.Need-add-put-if Inv-loop μ-loop
+add-put-if c =
+    let skip-blanks′ = c .before .before .before .before .before .before .before .before .skip-blanks in
     omega (arith, skip-blanks′ .ensures .0)
 
-put-line-if-requires : tie.Need-put-line-if-requires Inv-loop μ-loop
-put-line-if-requires c κs =
-    let loop′ = c .before .before .before .before .before .before .before .before .loop in
+line-requires : tie.Need-line-requires Inv-loop μ-loop
+line-requires c κs = search needs
+
+put-if-requires : tie.Need-put-if-requires Inv-loop μ-loop
+put-if-requires c κs =
+    let loop′ = c .before .before .before .before .before .before .before .before .before .loop in
+    let line′ = c .before .line in
     let z = loop′ .inv .size in
     let w = loop′ .inv .within in
-    omega arith
+    let n = length-by _ _ (line′ .ensures) ∙ newline-length (loop′ .g .comment) in
+    (known-by _ _ (line′ .ensures), omega arith)
 
 add-n-2 : tie.Need-add-n-2 Inv-loop μ-loop
 add-n-2 c =
-    let loop′ = c .before .before .before .before .before .before .before .before .before .before .before .loop in
+    let loop′ = c .before .before .before .before .before .before .before .before .before .before .before .before .loop in
     let z = loop′ .inv .count in
     let w = loop′ .inv .within in
     omega arith
@@ -121,14 +128,14 @@ cast-b-2 c = search needs
 
 add-b-2 : tie.Need-add-b-2 Inv-loop μ-loop
 add-b-2 c =
-    let loop′ = c .before .before .before .before .before .before .before .before .before .before .before .loop in
+    let loop′ = c .before .before .before .before .before .before .before .before .before .before .before .before .loop in
     let z = loop′ .inv .size in
     let w = loop′ .inv .within in
     omega arith
 
-add-t23 : tie.Need-add-t23 Inv-loop μ-loop
-add-t23 c =
-    let skip-blanks′ = c .before .before .before .before .before .before .before .before .before .before .before .skip-blanks in
+add-t24 : tie.Need-add-t24 Inv-loop μ-loop
+add-t24 c =
+    let skip-blanks′ = c .before .before .before .before .before .before .before .before .before .before .before .before .skip-blanks in
     omega (arith, skip-blanks′ .ensures .0)
 
 line-end-requires : tie.Need-line-end-requires Inv-loop μ-loop
@@ -136,25 +143,28 @@ line-end-requires c κs = search needs
 
 loop-less-2 : tie.Need-loop-less-2 Inv-loop μ-loop
 loop-less-2 c =
-    let args′ = c .before .before .before .before .before .before .before .before .before .before .before .before .before .before .before .before .before .args in
-    let loop′ = c .before .before .before .before .before .before .before .before .before .before .before .before .before .loop in
-    let skip-blanks′ = c .before .before .before .before .before .before .before .before .before .before .before .before .skip-blanks in
-    let byte-at′ = c .before .before .before .before .before .before .before .before .byte-at in
-    let if2′ = c .before .before .before .before .before .before .before .if2 in
+    let args′ = c .before .before .before .before .before .before .before .before .before .before .before .before .before .before .before .before .before .before .args in
+    let loop′ = c .before .before .before .before .before .before .before .before .before .before .before .before .before .before .loop in
+    let skip-blanks′ = c .before .before .before .before .before .before .before .before .before .before .before .before .before .skip-blanks in
+    let byte-at′ = c .before .before .before .before .before .before .before .before .before .byte-at in
+    let if2′ = c .before .before .before .before .before .before .before .before .if2 in
     let u = line-turn (args′ .s .now) (loop′ .c .at) (skip-blanks′ .result .at) (loop′ .g) (skip-blanks′ .ensures .2) (sym (byte-at′ .ensures) ∙ if2′ .taken) in
     omega (arith, u .on, u .within)
 
 loop-again-2 : tie.Need-loop-again-2 Inv-loop μ-loop
 loop-again-2 c =
-    let args′ = c .before .before .before .before .before .before .before .before .before .before .before .before .before .before .before .before .before .args in
-    let loop′ = c .before .before .before .before .before .before .before .before .before .before .before .before .before .loop in
-    let skip-blanks′ = c .before .before .before .before .before .before .before .before .before .before .before .before .skip-blanks in
-    let byte-at′ = c .before .before .before .before .before .before .before .before .byte-at in
-    let if2′ = c .before .before .before .before .before .before .before .if2 in
+    let args′ = c .before .before .before .before .before .before .before .before .before .before .before .before .before .before .before .before .before .before .args in
+    let loop′ = c .before .before .before .before .before .before .before .before .before .before .before .before .before .before .loop in
+    let skip-blanks′ = c .before .before .before .before .before .before .before .before .before .before .before .before .before .skip-blanks in
+    let byte-at′ = c .before .before .before .before .before .before .before .before .before .byte-at in
+    let if2′ = c .before .before .before .before .before .before .before .before .if2 in
     let line-end′ = c .line-end in
-    let put-line-if′ = c .before .before .before .before .put-line-if in
+    let line′ = c .before .before .before .before .before .before .line in
+    let put-if′ = c .before .before .before .before .put-if in
+    let d = skip-blanks′ .result .at in
+    let t = lineEndAt d (d + 1) (loop′ .g .comment) in
     let u = line-turn (args′ .s .now) (loop′ .c .at) (skip-blanks′ .result .at) (loop′ .g) (skip-blanks′ .ensures .2) (sym (byte-at′ .ensures) ∙ if2′ .taken) in
-    reach-turn (loop′ .inv) u _ (line-end′ .ensures) 14 (sym (newline-length _)) _ (put-line-if′ .ensures)
+    reach-turn (loop′ .inv) u _ (line-end′ .ensures) lineLength (sym (newline-length _)) _ (put-if′ .ensures ∙ ap (storedIf (loop′ .out) (loop′ .b)) (record-by _ t (line′ .ensures)))
 
 literal-at-requires : tie.Need-literal-at-requires Inv-loop μ-loop
 literal-at-requires c κs =
@@ -261,12 +271,13 @@ walk-direct-spec =
     loop-less
     loop-again
     byte-at-requires
-    add-put-line-if
-    put-line-if-requires
+    line-requires
+    add-put-if
+    put-if-requires
     add-n-2
     cast-b-2
     add-b-2
-    add-t23
+    add-t24
     line-end-requires
     loop-less-2
     loop-again-2

@@ -5,8 +5,9 @@ use native.Mathlib.Omega.{arith}
 use lib.ListN.{length}
 use lib.Seq.{sets}
 use borrow.Author.Needs.{needs}
-use Rattle.token.specs.Records.{records}
-use Rattle.token.specs.Measure.{measuredOf, tokensIn, Reaches}
+use Rattle.token.specs.Records.{headLength, lineLength, records}
+use Rattle.token.specs.Measure.{storedIf, measuredOf, tokensIn, Reaches}
+use Rattle.token.proofs.FormLaws.{length-by, record-by, known-by}
 use Rattle.token.proofs.Turns.{turn-token, turn-line, turn-end, turn-stop}
 use Rattle.token.proofs.Measures.{record-most, newline-length, eof-length, starts-answer, writing-start}
 use Rattle.token.proofs.Reach.{reach-start, reach-trans, reach-turn, reach-end, reach-stored, reach-stop, reach-refused}
@@ -54,98 +55,107 @@ enum-known-step c = search needs
 
 put-if-requires : tie.Need-put-if-requires Inv-loop μ-loop
 put-if-requires c κs =
-    let walk-direct′ = c .before .before .before .before .before .before .before .before .before .walk-direct in
-    let pre′ = c .before .before .before .before .before .before .before .before .before .before .before .before .before .before .before .before .pre in
-    let step′ = c .before .before .step in
+    let walk-direct′ = c .before .before .before .before .before .before .before .before .before .before .walk-direct in
+    let pre′ = c .before .before .before .before .before .before .before .before .before .before .before .before .before .before .before .before .before .pre in
+    let step′ = c .before .before .before .step in
+    let form′ = c .before .form in
     let z = walk-direct′ .ensures .size in
     let w = walk-direct′ .ensures .within in
-    omega (arith, pre′ .0, record-most (step′ .given .0 .0))
+    (known-by _ _ (form′ .ensures), omega (arith, pre′ .0, length-by _ _ (form′ .ensures), record-most (step′ .given .0 .0)))
 
-length-requires : tie.Need-length-requires Inv-loop μ-loop
-length-requires c κs = search needs
+form-requires : tie.Need-form-requires Inv-loop μ-loop
+form-requires c κs = search needs
 
 cast-b : tie.Need-cast-b Inv-loop μ-loop
 cast-b c =
-    let length′ = c .length in
-    let step′ = c .before .before .before .before .before .before .step in
-    omega (arith, length′ .ensures, record-most (step′ .given .0 .0))
+    let form′ = c .before .before .before .before .before .form in
+    let step′ = c .before .before .before .before .before .before .before .step in
+    omega (arith, length-by _ _ (form′ .ensures), record-most (step′ .given .0 .0))
 
 add-b : tie.Need-add-b Inv-loop μ-loop
 add-b c =
-    let walk-direct′ = c .before .before .before .before .before .before .before .before .before .before .before .before .before .before .walk-direct in
-    let pre′ = c .before .before .before .before .before .before .before .before .before .before .before .before .before .before .before .before .before .before .before .before .before .pre in
-    let length′ = c .before .length in
-    let step′ = c .before .before .before .before .before .before .before .step in
+    let walk-direct′ = c .before .before .before .before .before .before .before .before .before .before .before .before .before .before .before .walk-direct in
+    let pre′ = c .before .before .before .before .before .before .before .before .before .before .before .before .before .before .before .before .before .before .before .before .before .before .pre in
+    let form′ = c .before .before .before .before .before .before .form in
+    let step′ = c .before .before .before .before .before .before .before .before .step in
     let z = walk-direct′ .ensures .size in
     let w = walk-direct′ .ensures .within in
-    omega (arith, pre′ .0, length′ .ensures, record-most (step′ .given .0 .0))
+    omega (arith, pre′ .0, length-by _ _ (form′ .ensures), record-most (step′ .given .0 .0))
 
 new-requires-3 : tie.Need-new-requires-3 Inv-loop μ-loop
 new-requires-3 c κs = search needs
 
 loop-less : tie.Need-loop-less Inv-loop μ-loop
 loop-less c =
-    let args′ = c .before .before .before .before .before .before .before .before .before .before .before .before .before .before .before .before .before .before .before .before .before .before .args in
-    let walk-direct′ = c .before .before .before .before .before .before .before .before .before .before .before .before .before .before .before .walk-direct in
-    let step′ = c .before .before .before .before .before .before .before .before .step in
-    let advance′ = c .before .before .before .before .before .before .before .before .before .before .before .advance in
+    let args′ = c .before .before .before .before .before .before .before .before .before .before .before .before .before .before .before .before .before .before .before .before .before .before .before .args in
+    let walk-direct′ = c .before .before .before .before .before .before .before .before .before .before .before .before .before .before .before .before .walk-direct in
+    let step′ = c .before .before .before .before .before .before .before .before .before .step in
+    let advance′ = c .before .before .before .before .before .before .before .before .before .before .before .before .advance in
     let u = turn-token (args′ .s .now) (walk-direct′ .result .at) _ _ _ _ _ (sym (step′ .given .1) ∙ advance′ .ensures) in
     omega (arith, u .on, u .within, walk-direct′ .ensures .on)
 
 loop-again : tie.Need-loop-again Inv-loop μ-loop
 loop-again c =
-    let args′ = c .before .before .before .before .before .before .before .before .before .before .before .before .before .before .before .before .before .before .before .before .before .before .args in
-    let walk-direct′ = c .before .before .before .before .before .before .before .before .before .before .before .before .before .before .before .walk-direct in
-    let step′ = c .before .before .before .before .before .before .before .before .step in
-    let advance′ = c .before .before .before .before .before .before .before .before .before .before .before .advance in
-    let loop′ = c .before .before .before .before .before .before .before .before .before .before .before .before .before .before .before .before .before .loop in
+    let args′ = c .before .before .before .before .before .before .before .before .before .before .before .before .before .before .before .before .before .before .before .before .before .before .before .args in
+    let walk-direct′ = c .before .before .before .before .before .before .before .before .before .before .before .before .before .before .before .before .walk-direct in
+    let step′ = c .before .before .before .before .before .before .before .before .before .step in
+    let advance′ = c .before .before .before .before .before .before .before .before .before .before .before .before .advance in
+    let loop′ = c .before .before .before .before .before .before .before .before .before .before .before .before .before .before .before .before .before .before .loop in
     let new3′ = c .new3 in
-    let length′ = c .before .before .length in
+    let form′ = c .before .before .before .before .before .before .before .form in
     let put-if′ = c .before .before .before .before .before .put-if in
     let u = turn-token (args′ .s .now) (walk-direct′ .result .at) _ _ _ _ _ (sym (step′ .given .1) ∙ advance′ .ensures) in
-    reach-turn (reach-trans (loop′ .inv) (walk-direct′ .ensures)) u _ (new3′ .ensures) _ (length′ .ensures) _ (put-if′ .ensures)
+    reach-turn (reach-trans (loop′ .inv) (walk-direct′ .ensures)) u _ (new3′ .ensures) _ (length-by _ _ (form′ .ensures)) _
+    (put-if′ .ensures ∙ ap (storedIf _ _) (record-by _ _ (form′ .ensures)))
 
 enum-known-step-2 : tie.Need-enum-known-step-2 Inv-loop μ-loop
 enum-known-step-2 c = search needs
 
-put-line-if-requires : tie.Need-put-line-if-requires Inv-loop μ-loop
-put-line-if-requires c κs =
-    let walk-direct′ = c .before .before .before .before .before .before .before .before .before .walk-direct in
-    let pre′ = c .before .before .before .before .before .before .before .before .before .before .before .before .before .before .before .before .pre in
+line-requires : tie.Need-line-requires Inv-loop μ-loop
+line-requires c κs = search needs
+
+put-if-requires-2 : tie.Need-put-if-requires-2 Inv-loop μ-loop
+put-if-requires-2 c κs =
+    let walk-direct′ = c .before .before .before .before .before .before .before .before .before .before .walk-direct in
+    let pre′ = c .before .before .before .before .before .before .before .before .before .before .before .before .before .before .before .before .before .pre in
+    let line′ = c .line in
     let z = walk-direct′ .ensures .size in
     let w = walk-direct′ .ensures .within in
-    omega (arith, pre′ .0)
+    let n = length-by _ _ (line′ .ensures) ∙ newline-length _ in
+    (known-by _ _ (line′ .ensures), omega (arith, pre′ .0))
 
 cast-b-2 : tie.Need-cast-b-2 Inv-loop μ-loop
 cast-b-2 c = search needs
 
 add-b-2 : tie.Need-add-b-2 Inv-loop μ-loop
 add-b-2 c =
-    let walk-direct′ = c .before .before .before .before .before .before .before .before .before .before .before .before .before .walk-direct in
-    let pre′ = c .before .before .before .before .before .before .before .before .before .before .before .before .before .before .before .before .before .before .before .before .pre in
+    let walk-direct′ = c .before .before .before .before .before .before .before .before .before .before .before .before .before .before .walk-direct in
+    let pre′ = c .before .before .before .before .before .before .before .before .before .before .before .before .before .before .before .before .before .before .before .before .before .pre in
     let z = walk-direct′ .ensures .size in
     let w = walk-direct′ .ensures .within in
     omega (arith, pre′ .0)
 
 loop-less-2 : tie.Need-loop-less-2 Inv-loop μ-loop
 loop-less-2 c =
-    let args′ = c .before .before .before .before .before .before .before .before .before .before .before .before .before .before .before .before .before .before .before .before .args in
-    let walk-direct′ = c .before .before .before .before .before .before .before .before .before .before .before .before .before .walk-direct in
-    let step2′ = c .before .before .before .before .before .before .step2 in
-    let advance′ = c .before .before .before .before .before .before .before .before .before .advance in
+    let args′ = c .before .before .before .before .before .before .before .before .before .before .before .before .before .before .before .before .before .before .before .before .before .args in
+    let walk-direct′ = c .before .before .before .before .before .before .before .before .before .before .before .before .before .before .walk-direct in
+    let step2′ = c .before .before .before .before .before .before .before .step2 in
+    let advance′ = c .before .before .before .before .before .before .before .before .before .before .advance in
     let u = turn-line (args′ .s .now) (walk-direct′ .result .at) _ _ _ _ _ (sym (step2′ .given .1) ∙ advance′ .ensures) in
     omega (arith, u .on, u .within, walk-direct′ .ensures .on)
 
 loop-again-2 : tie.Need-loop-again-2 Inv-loop μ-loop
 loop-again-2 c =
-    let args′ = c .before .before .before .before .before .before .before .before .before .before .before .before .before .before .before .before .before .before .before .before .args in
-    let walk-direct′ = c .before .before .before .before .before .before .before .before .before .before .before .before .before .walk-direct in
-    let step2′ = c .before .before .before .before .before .before .step2 in
-    let advance′ = c .before .before .before .before .before .before .before .before .before .advance in
-    let loop′ = c .before .before .before .before .before .before .before .before .before .before .before .before .before .before .before .loop in
-    let put-line-if′ = c .before .before .before .put-line-if in
+    let args′ = c .before .before .before .before .before .before .before .before .before .before .before .before .before .before .before .before .before .before .before .before .before .args in
+    let walk-direct′ = c .before .before .before .before .before .before .before .before .before .before .before .before .before .before .walk-direct in
+    let step2′ = c .before .before .before .before .before .before .before .step2 in
+    let advance′ = c .before .before .before .before .before .before .before .before .before .before .advance in
+    let loop′ = c .before .before .before .before .before .before .before .before .before .before .before .before .before .before .before .before .loop in
+    let line′ = c .before .before .before .before .line in
+    let put-if2′ = c .before .before .before .put-if2 in
     let u = turn-line (args′ .s .now) (walk-direct′ .result .at) _ _ _ _ _ (sym (step2′ .given .1) ∙ advance′ .ensures) in
-    reach-turn (reach-trans (loop′ .inv) (walk-direct′ .ensures)) u _ refl 14 (sym (newline-length _)) _ (put-line-if′ .ensures)
+    reach-turn (reach-trans (loop′ .inv) (walk-direct′ .ensures)) u _ refl lineLength (sym (newline-length _)) _
+    (put-if2′ .ensures ∙ ap (storedIf _ _) (record-by _ _ (line′ .ensures)))
 
 enum-known-step-3 : tie.Need-enum-known-step-3 Inv-loop μ-loop
 enum-known-step-3 c = search needs
@@ -180,7 +190,7 @@ returns c =
     let r = reach-trans (loop′ .inv) (walk-direct′ .ensures) in
     let e = turn-end s (walk-direct′ .result .at) _ _ (sym (step3′ .given .1) ∙ advance′ .ensures) in
     let a = starts-answer s (new2′ .result) (new′ .result .at) (new2′ .ensures) (new′ .ensures) in (
-      finish′ .ensures .0 ∙ reach-end r _ e 13 (sym eof-length) ∙ ap (measuredOf 0 0) a,
+      finish′ .ensures .0 ∙ reach-end r _ e headLength (sym eof-length) ∙ ap (measuredOf 0 0) a,
       λ f. reach-stored r _ e _ (finish′ .ensures .1) _ (writing-start _ _ out a f) ∙ ap (λ v. sets out 0 (records (tokensIn v))) a,
     )
 
@@ -223,15 +233,16 @@ walk-script-spec =
     advance-requires
     add-n
     enum-known-step
+    form-requires
     put-if-requires
-    length-requires
     cast-b
     add-b
     new-requires-3
     loop-less
     loop-again
     enum-known-step-2
-    put-line-if-requires
+    line-requires
+    put-if-requires-2
     cast-b-2
     add-b-2
     loop-less-2

@@ -1,0 +1,4 @@
+pub mod Verdicts
+pub mod Entries
+pub mod Hosts
+pub mod TextLaws

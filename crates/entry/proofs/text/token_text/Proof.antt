@@ -1,0 +1,51 @@
+use mathlib.Core.Path.{sym, _∙_}
+use borrow.Author.Needs.{needs}
+use Rattle.entry.specs.Host.{textOf}
+use Rattle.entry.proofs.TextLaws.{text-within}
+use Rattle.entry.proofs.text.token_text.Statement.{statement}
+use Rattle.entry.proofs.text.token_text.Tie as tie
+
+has-text-requires : tie.Need-has-text-requires
+has-text-requires c κs = search needs
+
+sub-result : tie.Need-sub-result
+sub-result c =
+    let args = c .before .before .before .args in
+    text-within (args .script .now) (args .start) (args .end) (sym (c .before .has-text .ensures) ∙ c .if1 .taken) .0
+
+part-result-start : tie.Need-part-result-start
+part-result-start c =
+    let args = c .before .before .before .args in
+    text-within (args .script .now) (args .start) (args .end) (sym (c .before .has-text .ensures) ∙ c .if1 .taken) .0
+
+part-result-end : tie.Need-part-result-end
+part-result-end c =
+    let args = c .before .before .before .args in
+    text-within (args .script .now) (args .start) (args .end) (sym (c .before .has-text .ensures) ∙ c .if1 .taken) .1
+
+returns : tie.Need-returns
+unfolding textOf
+returns c =
+    let has-text = c .before .before .has-text in
+    simp (← has-text .ensures, c .before .if1 .taken)
+
+slice-aggregate-result : tie.Need-slice-aggregate-result
+slice-aggregate-result c = search needs
+
+returns-2 : tie.Need-returns-2
+unfolding textOf
+returns-2 c =
+    let has-text = c .before .before .has-text in
+    simp (← has-text .ensures, c .before .if1 .left)
+
+pub token-text-spec : {M : Type 1} → statement M
+token-text-spec =
+    tie.close
+    (tie.spec
+    has-text-requires
+    sub-result
+    part-result-start
+    part-result-end
+    returns
+    slice-aggregate-result
+    returns-2)

@@ -1,0 +1,20 @@
+// Every function that hosts call, for C and Rust to link, and nothing else: each is one call, with its callee's contract. `include/ergo_token.h`
+// declares them.
+ghost use mathlib.Core.Path.{_≡_};
+ghost use Rattle.entry.specs.Host.{seen, hostOf, textNumber};
+ghost use Rattle.entry.specs.Theorems.{HostTheorems};
+
+#[no_mangle]
+pub extern "C" fn ergo_tokenize(script: &[u8], records: &mut [u8], answer: &mut [u8]) -> u32
+    ensures { λ r. ⌜ seen r (now (records .exit)) (now (answer .exit)) ≡ hostOf (now (script .entry)) (now (records .entry)) (now (answer .entry)) ⌝ }
+    ensures { λ r. ⌜ HostTheorems (now (script .entry)) (now (records .entry)) (now (answer .entry)) ⌝ }
+{
+    entry::host::tokenize(script, records, answer)
+}
+
+#[no_mangle]
+pub extern "C" fn ergo_token_text(script: &[u8], start: u32, end: u32) -> u32
+    ensures { λ r. ⌜ r ≡ textNumber (now (script .entry)) start end ⌝ }
+{
+    entry::text::text_number(script, start, end)
+}
