@@ -8,8 +8,8 @@ use native.Mathlib.Omega.{arith}
 use borrow.Author.Tests.{eqb-true, eqb-false, eq-eqb, ne-eqb, not-true, ltb-true, ltb-false, le-ltb}
 use lib.Dec.{eqb, ltb}
 use types.Run.{OneOf}
-use Rattle.chars.specs.Quoted.{member}
-use Rattle.chars.specs.Code.{bitIn}
+use Rattle.chars.specs.paper.Quoted.{member}
+use Rattle.chars.specs.code.Classes.{bitIn}
 use Rattle.chars.proofs.Bools.{clash}
 
 abbrev pub every : (ℕ → Bool) → List ℕ → Bool

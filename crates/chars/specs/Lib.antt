@@ -1,9 +1,4 @@
-pub mod Quoted
-pub mod Ranges
-pub mod Tables
-pub mod Utf8
-pub mod Classes
-pub mod Encoded
-pub mod Text
-pub mod Code
+pub mod paper
+pub mod computed
+pub mod code
 pub mod Promises

@@ -3,11 +3,13 @@ use Prim.Native.Nat.{ℕ, _+_, _≤_, _<_}
 use mathlib.Core.Path.{_≡_}
 use mathlib.Core.List.{List, [], _∷_, List·Memᴰ}
 use lib.ListN.{length, drop, getD}
-use Rattle.chars.specs.Utf8.{width, codeOf, decodeAt}
-use Rattle.chars.specs.Text.{from, place, nextOf}
+use Rattle.chars.specs.paper.Utf8.{width, codeOf}
+use Rattle.chars.specs.code.Utf8.{decodeAt}
+use Rattle.chars.specs.paper.Text.{from, place}
+use Rattle.chars.specs.code.Text.{nextOf}
 use Rattle.chars.specs.declared.utf8.Decoded.the-variants as decoded
-use Rattle.chars.specs.Ranges.{Range, Ascending}
-use Rattle.chars.specs.Tables.{alphabeticTable, lowercaseTable, uppercaseTable, ndTable, alphaNotLetterTable}
+use Rattle.chars.specs.paper.Ranges.{Range, Ascending}
+use Rattle.chars.specs.paper.Tables.{alphabeticTable, lowercaseTable, uppercaseTable, ndTable, alphaNotLetterTable}
 
 -- the five tables of document 01
 abbrev pub tables : List (List Range)

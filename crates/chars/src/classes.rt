@@ -10,14 +10,17 @@ use crate::utf8::pair_in;
 ghost use mathlib.Core.Path.{_≡_};
 ghost use Prim.Native.Nat.{_<_, _≤_};
 ghost use mathlib.Core.Bool.{true, not, _&&_};
-ghost use Rattle.chars.specs.Quoted.{between};
-ghost use Rattle.chars.specs.Ranges.{pairs, inRanges, ascendingFrom};
+ghost use Rattle.chars.specs.paper.Quoted.{between};
+ghost use Rattle.chars.specs.paper.Ranges.{inRanges};
+ghost use Rattle.chars.specs.code.Tables.{pairs, IdTables};
+ghost use Rattle.chars.specs.computed.Ascending.{ascendingFrom};
 ghost use lib.Dec.{ltb};
 ghost use lib.ListN.{length};
-ghost use Rattle.chars.specs.Tables.{alphabeticTable, alphaNotLetterTable};
-ghost use Rattle.chars.specs.Classes.{isIdStart, isIdChar, isOpSign, isPrintable, lowercase, uppercase, alphabetic, alphaNotLetter};
-ghost use Rattle.chars.specs.Text.{from, place, idChar, afterRun};
-ghost use Rattle.chars.specs.Code.{bitIn, russianAt, IdTables};
+ghost use Rattle.chars.specs.paper.Tables.{alphabeticTable, alphaNotLetterTable};
+ghost use Rattle.chars.specs.paper.Classes.{isIdStart, isIdChar, isOpSign, isPrintable, lowercase, uppercase, alphabetic, alphaNotLetter};
+ghost use Rattle.chars.specs.paper.Text.{from, place, idChar};
+ghost use Rattle.chars.specs.computed.Runs.{afterRun};
+ghost use Rattle.chars.specs.code.Classes.{bitIn, russianAt};
 
 // The last code that the tables speak of.
 const LAST: u32 = 0xFFFF;

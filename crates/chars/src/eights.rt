@@ -3,7 +3,7 @@ ghost use mathlib.Core.Path.{_≡_};
 ghost use mathlib.Core.Bool.{false};
 ghost use Prim.Native.Nat.{_+_, _≤_};
 ghost use lib.ListN.{length};
-ghost use Rattle.chars.specs.Code.{AllIn, twoIn, fourIn, eightIn, sixteenIn, thirtyTwoIn, NoneOf, twoNot, fourNot, eightNot, NeitherOf, twoNeither, fourNeither, eightNeither};
+ghost use Rattle.chars.specs.code.Eights.{AllIn, twoIn, fourIn, eightIn, sixteenIn, thirtyTwoIn, NoneOf, twoNot, fourNot, eightNot, NeitherOf, twoNeither, fourNeither, eightNeither};
 
 fn two_in(s: &[u8], at: usize, low: u8, high: u8) -> bool
     requires { ⌜ at + 2 ≤ length (now s) ⌝ }

@@ -1,7 +1,7 @@
 // A script read character by character.
 use crate::utf8::Decoded;
 ghost use mathlib.Core.Path.{_≡_};
-ghost use Rattle.chars.specs.Text.{stepAt};
+ghost use Rattle.chars.specs.code.Text.{stepAt};
 
 // The first character from a place on: its code, and where it ends.
 pub enum Step {

@@ -6,8 +6,10 @@ ghost use mathlib.Core.Bool.{cond};
 ghost use mathlib.Core.List.{[], _∷_};
 ghost use Prim.Native.Nat.{_+_, _<_, _≤_, _%_};
 ghost use lib.ListN.{drop, getD, length};
-ghost use Rattle.chars.specs.Ranges.{_to_};
-ghost use Rattle.chars.specs.Utf8.{fits, width, codeOf, decodeAt, validPrefix, LongestValid};
+ghost use Rattle.chars.specs.paper.Ranges.{_to_};
+ghost use Rattle.chars.specs.paper.Utf8.{fits, width, codeOf, LongestValid};
+ghost use Rattle.chars.specs.code.Utf8.{decodeAt};
+ghost use Rattle.chars.specs.computed.Valid.{validPrefix};
 
 // The character that stands at a byte offset, or that none does.
 pub enum Decoded {

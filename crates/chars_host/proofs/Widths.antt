@@ -7,8 +7,9 @@ use mathlib.Core.List.{List, [], _∷_}
 use native.Mathlib.Omega.{arith}
 use lib.Dec.{eqb}
 use lib.ListN.{length, drop}
-use Rattle.chars.specs.Ranges.{Range}
-use Rattle.chars.specs.Utf8.{table37, fits, rowLength, width, codeOf, decodeAt}
+use Rattle.chars.specs.paper.Ranges.{Range}
+use Rattle.chars.specs.paper.Utf8.{table37, fits, rowLength, width, codeOf}
+use Rattle.chars.specs.code.Utf8.{decodeAt}
 use Rattle.chars.specs.declared.utf8.Decoded.the-variants.{Char, Nothing}
 
 -- each row has at most n ranges

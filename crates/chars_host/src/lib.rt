@@ -8,7 +8,8 @@ use chars::utf8::Decoded;
 ghost use mathlib.Core.Path.{_≡_};
 ghost use mathlib.Core.Bool.{cond};
 ghost use Prim.Native.Nat.{_≤_};
-ghost use Rattle.chars.specs.Utf8.{validPrefix, decodeAt};
+ghost use Rattle.chars.specs.computed.Valid.{validPrefix};
+ghost use Rattle.chars.specs.code.Utf8.{decodeAt};
 ghost use Rattle.chars_host.specs.Packing.{bits, packed};
 
 // The length of the longest valid UTF-8 prefix.

@@ -1,4 +1,1 @@
-pub mod Verdicts
-pub mod Entries
-pub mod Hosts
-pub mod TextLaws
+pub mod theorems

@@ -1,5 +1,4 @@
-pub mod Host
+pub mod paper
+pub mod computed
+pub mod code
 pub mod Theorems
-pub mod Listing
-pub mod Examples
-pub mod Judged

@@ -5,11 +5,12 @@ use mathlib.Core.Logic.{_↔_}
 use mathlib.Core.List.{List, [], _++_}
 use lib.ListN.{length, drop}
 use Rattle.words.specs.Words.{blockOf}
-use Rattle.chars.specs.Utf8.{WellFormed}
-use Rattle.token.specs.Kinds.{Token}
-use Rattle.token.specs.Reading.{Piece, Reading, Tokens}
-use Rattle.token.specs.Records.{mostBytes, mostNeed, records, tokenCount, recordBytes}
-use Rattle.entry.specs.Host.{Seen, seen, numberSeen, bufferSeen, Sees, hostOf}
+use Rattle.chars.specs.paper.Utf8.{WellFormed}
+use Rattle.token.specs.paper.Kinds.{Token}
+use Rattle.token.specs.paper.Reading.{Piece, Reading, Tokens}
+use Rattle.token.specs.paper.Records.{mostBytes, mostNeed, records, tokenCount, recordBytes}
+use Rattle.entry.specs.paper.Host.{Seen, seen, numberSeen, bufferSeen, Sees}
+use Rattle.entry.specs.computed.Host.{hostOf}
 
 -- What a host that lends enough passes: UTF-8 of at most 16,777,216 bytes, 17 times as many bytes and 13 for the records, 16 for the answer.
 pub record Lends (script buffer block : List ℕ) : Type 0 where

@@ -4,8 +4,9 @@ use token::records::measure;
 use token::records::write;
 use words::write::put_block;
 ghost use mathlib.Core.Path.{_≡_};
-ghost use Rattle.entry.specs.Host.{seen, hostOf, verdict};
-ghost use Rattle.entry.specs.Judged.{judgedOf, Holds};
+ghost use Rattle.entry.specs.paper.Host.{seen};
+ghost use Rattle.entry.specs.computed.Host.{hostOf, verdict};
+ghost use Rattle.entry.specs.code.Host.{judgedOf, Holds};
 ghost use Rattle.entry.specs.Theorems.{HostTheorems};
 
 pub const MOST_BYTES: usize = 16777216;

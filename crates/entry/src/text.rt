@@ -1,6 +1,6 @@
 // Token text: the part of a script from start to end. Document 01, "Host entry and text".
 ghost use mathlib.Core.Path.{_≡_};
-ghost use Rattle.entry.specs.Host.{inside, hasText, textOf, textNumber};
+ghost use Rattle.entry.specs.paper.TokenText.{inside, hasText, textOf, textNumber};
 
 // Does the place lie inside a character?
 fn is_inside(script: &[u8], at: usize) -> bool

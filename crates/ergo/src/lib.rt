@@ -1,7 +1,9 @@
 // Every function that hosts call, for C and Rust to link, and nothing else: each is one call, with its callee's contract. `include/ergo_token.h`
 // declares them.
 ghost use mathlib.Core.Path.{_≡_};
-ghost use Rattle.entry.specs.Host.{seen, hostOf, textNumber};
+ghost use Rattle.entry.specs.paper.Host.{seen};
+ghost use Rattle.entry.specs.computed.Host.{hostOf};
+ghost use Rattle.entry.specs.paper.TokenText.{textNumber};
 ghost use Rattle.entry.specs.Theorems.{HostTheorems};
 
 #[no_mangle]

@@ -1,5 +1,5 @@
 -- Records and their lines.
-use Prim.Native.Nat.{ℕ, zero, suc, _+_, _*_, _-_, _<_, _≤_}
+use Prim.Native.Nat.{ℕ, zero, suc, _+_, _-_, _<_, _≤_}
 use mathlib.Core.Path.{_≡_, refl, sym, _∙_, ap}
 use mathlib.Core.Bool.{Bool, true, false, cond}
 use mathlib.Core.List.{List, [], _∷_, _++_, append-nil, append-assoc}
@@ -8,7 +8,7 @@ use lib.Seq.{drop-drop, take-all}
 use lib.Dec.{eqb, leb}
 use native.Mathlib.Omega.{arith}
 use borrow.Author.Tests.{lt-leb, leb-true, eqb-false, ne-eqb}
-use Rattle.token.specs.Listing.{spaced}
+use Rattle.token.specs.computed.Listing.{spaced}
 use Rattle.listing_text.specs.Fields.{two, recordLength, lineOf}
 use Rattle.listing_text.specs.Lines.{Puts, valuesText, lineText, linesFor, recordLines}
 use Rattle.listing_text.proofs.PutLaws.{put-none, put-on, put-as}

@@ -4,9 +4,9 @@ use mathlib.Core.Bool.{Bool, true, false, cond}
 use mathlib.Core.List.{List, [], _∷_}
 use Prim.Native.Nat.{ℕ}
 use lib.ListN.{replicate}
-use Rattle.token.specs.Tests.{same}
-use Rattle.token.specs.Listing.{script, Example, _gives_, hosted}
-use Rattle.token.specs.Examples.{marked, listingExample}
+use Rattle.token.specs.paper.Tests.{same}
+use Rattle.token.specs.computed.Listing.{script, Example, _gives_, hosted}
+use Rattle.token.specs.computed.Examples.{marked, listingExample}
 use Rattle.listing_text.specs.Fields.{two, four, eight, recordLength, valueCount, firstValue, lineOf}
 use Rattle.listing_text.specs.Lines.{codes, headText, valuesText, lineText, linesFor, recordLines, refusedText, answerText, zeros, listing}
 

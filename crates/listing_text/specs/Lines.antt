@@ -9,7 +9,7 @@ use lib.ListN.{length, take, drop, replicate}
 use lib.Dec.{eqb, leb}
 use lib.Seq.{sets}
 use Rattle.token.specs.Host.{Seen, seen, hostOf}
-use Rattle.token.specs.Listing.{decimal, spaced}
+use Rattle.token.specs.computed.Listing.{decimal, spaced}
 use Rattle.listing_text.specs.Fields.{four, recordLength, lineOf}
 use Rattle.listing_text.specs.declared.fields.Line.{Line}
 

@@ -1,6 +1,6 @@
 // A record's numbers, from its bytes. Every byte is allowed: past the end a byte counts as 0.
 ghost use mathlib.Core.Path.{_≡_};
-ghost use lib.ListN.{getD, length};
+ghost use lib.ListN.{length};
 ghost use Prim.Native.Nat.{_<_, _≤_};
 ghost use Rattle.listing_text.specs.Fields.{one as oneOf, two as twoOf, four as fourOf, eight as eightOf, recordLength, valueCount, firstValue, lineOf};
 

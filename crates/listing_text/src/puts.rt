@@ -2,7 +2,7 @@
 ghost use mathlib.Core.List.{[], _∷_};
 ghost use Prim.Native.Nat.{_+_, _≤_};
 ghost use lib.ListN.{length};
-ghost use Rattle.token.specs.Listing.{decimal, spaced};
+ghost use Rattle.token.specs.computed.Listing.{decimal, spaced};
 ghost use Rattle.listing_text.specs.Lines.{Puts};
 
 pub fn put_bytes(out: &mut [u8], at: usize, bytes: &[u8]) -> usize

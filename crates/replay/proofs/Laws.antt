@@ -10,10 +10,7 @@ use native.Mathlib.Nat.{add-zero, zero-add, sub-zero}
 use native.Mathlib.Numerals.{add-one}
 use native.Mathlib.Omega.{arith}
 use borrow.Author.Tests.{eq-eqb, ne-eqb, eqb-true, leb-true, le-leb, lt-leb, lt-ltb, le-ltb}
-use Rattle.replay.specs.Cases.{numberAt, untouched, zeros, same, standsAt, isUntouched, holdsRecords, listedBytes}
-use Rattle.replay.specs.Cases.{seenAt, lentAfter, asListed, agreesAt}
-use Rattle.replay.specs.Cases.{cutShort, endAt, bytesAt, lentAt, nextAt, caseAt, bufferAt}
-use Rattle.replay.specs.Cases.{placeOf, casesFrom, caseCount, differing, bufferAfter}
+use Rattle.replay.specs.Cases.{numberAt, untouched, zeros, same, standsAt, isUntouched, holdsRecords, listedBytes, seenAt, lentAfter, asListed, agreesAt, cutShort, endAt, bytesAt, lentAt, nextAt, caseAt, bufferAt, placeOf, casesFrom, caseCount, differing, bufferAfter}
 use Rattle.token.specs.Host.{seen, bufferSeen, hostOf}
 
 -- ---- equal lists

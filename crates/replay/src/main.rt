@@ -16,8 +16,7 @@ use libc::STDOUT_FILENO;
 ghost use mathlib.Core.Path.{_≡_};
 ghost use Prim.Native.Nat.{_+_, _≤_, _<_, min};
 ghost use lib.ListN.{length};
-ghost use Rattle.replay.specs.Cases.{numberAt, untouched, zeros, standsAt, isUntouched, holdsRecords, listedBytes, agreesAt, lentAfter};
-ghost use Rattle.replay.specs.Cases.{nextAt, caseAt, bufferAt, placeOf, caseCount, differing, bufferAfter};
+ghost use Rattle.replay.specs.Cases.{numberAt, untouched, zeros, standsAt, isUntouched, holdsRecords, listedBytes, agreesAt, lentAfter, nextAt, caseAt, bufferAt, placeOf, caseCount, differing, bufferAfter};
 
 const HEAD_BYTES: usize = 24;
 

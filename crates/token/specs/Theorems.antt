@@ -1,15 +1,16 @@
 -- What is proved for every script: the computed answer is what document 01 declares. Proved: proofs/Theorems.
-use Prim.Native.Nat.{ℕ, _≤_, _+_, _*_}
+use Prim.Native.Nat.{ℕ, _≤_}
 use mathlib.Core.Path.{_≡_}
 use mathlib.Core.Logic.{_⊎_, _↔_}
-use mathlib.Core.List.{List, [], _++_}
-use lib.ListN.{length, drop}
-use Rattle.chars.specs.Utf8.{WellFormed, LongestValid, validPrefix}
-use Rattle.token.specs.Kinds.{Token}
-use Rattle.token.specs.Reading.{Piece, Reading, Tokens, TokensOf}
-use Rattle.token.specs.Refusals.{Refused}
-use Rattle.token.specs.Records.{mostNeed, records, recordBytes}
-use Rattle.token.specs.Answer.{answer, accepted, refused}
+use mathlib.Core.List.{List, []}
+use lib.ListN.{length}
+use Rattle.chars.specs.paper.Utf8.{LongestValid}
+use Rattle.chars.specs.computed.Valid.{validPrefix}
+use Rattle.token.specs.paper.Kinds.{Token}
+use Rattle.token.specs.paper.Reading.{Piece, Reading, Tokens, TokensOf}
+use Rattle.token.specs.paper.Refusals.{Refused}
+use Rattle.token.specs.paper.Records.{mostNeed, records, recordBytes}
+use Rattle.token.specs.computed.Answer.{answer, accepted, refused}
 
 -- Of a script.
 pub record Theorems (script : List ℕ) : Type 0 where

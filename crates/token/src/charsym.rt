@@ -14,11 +14,12 @@ ghost use mathlib.Core.Bool.{true, _&&_};
 ghost use Prim.Native.Nat.{_≤_};
 ghost use lib.Dec.{eqb};
 ghost use lib.ListN.{length, getD};
-ghost use Rattle.chars.specs.Classes.{isPrintable};
-ghost use Rattle.chars.specs.Text.{from};
-ghost use Rattle.token.specs.Tests.{apostrophe, opSign};
-ghost use Rattle.token.specs.Answer.{tickNext, scanCharSym};
-ghost use Rattle.token.specs.Code.{pieceOf, escapedChar, symbolOf};
+ghost use Rattle.chars.specs.paper.Classes.{isPrintable};
+ghost use Rattle.chars.specs.paper.Text.{from};
+ghost use Rattle.token.specs.paper.Tests.{apostrophe, opSign};
+ghost use Rattle.token.specs.computed.Answer.{tickNext, scanCharSym};
+ghost use Rattle.token.specs.code.Piece.{pieceOf};
+ghost use Rattle.token.specs.code.Charsym.{escapedChar, symbolOf};
 
 // A character or a symbol, from its `'` on.
 pub fn lex_char_sym(s: &[u8], c: Cursor) -> Piece

@@ -6,9 +6,10 @@ ghost use mathlib.Core.Bool.{not, _&&_, _||_};
 ghost use Prim.Native.Nat.{_<_, _/_, _%_};
 ghost use lib.Dec.{eqb, leb, ltb};
 ghost use lib.ListN.{getD};
-ghost use Rattle.chars.specs.Quoted.{oneOf};
-ghost use Rattle.chars.specs.Classes.{isIdStart, isIdChar, isOpSign};
-ghost use Rattle.token.specs.Code.{digitOf, ByteClasses};
+ghost use Rattle.chars.specs.paper.Quoted.{oneOf};
+ghost use Rattle.chars.specs.paper.Classes.{isIdStart, isIdChar, isOpSign};
+ghost use Rattle.token.specs.code.Digits.{digitOf};
+ghost use Rattle.token.specs.code.ClassTable.{ByteClasses};
 
 pub const CLASSES: [u16; 256] = [
     16,

@@ -5,10 +5,11 @@ ghost use Prim.Native.Nat.{_+_, _≤_};
 ghost use mathlib.Core.Bool.{_&&_};
 ghost use lib.Dec.{eqb};
 ghost use lib.ListN.{length, drop, getD};
-ghost use Rattle.chars.specs.Quoted.{oneOf};
-ghost use Rattle.chars.specs.Text.{from, afterRun};
-ghost use Rattle.token.specs.Tests.{isAny};
-ghost use Rattle.token.specs.Code.{peekAt};
+ghost use Rattle.chars.specs.paper.Quoted.{oneOf};
+ghost use Rattle.chars.specs.paper.Text.{from};
+ghost use Rattle.chars.specs.computed.Runs.{afterRun};
+ghost use Rattle.token.specs.paper.Tests.{isAny};
+ghost use Rattle.token.specs.code.Cursor.{peekAt};
 
 // A byte offset that goes in by value and comes back advanced.
 pub struct Cursor {

@@ -7,10 +7,11 @@ ghost use mathlib.Core.Path.{_≡_};
 ghost use mathlib.Core.Logic.{_⊎_};
 ghost use Prim.Native.Nat.{_+_, _*_, _≤_, _<_};
 ghost use lib.ListN.{length};
-ghost use Rattle.chars.specs.Text.{from};
-ghost use Rattle.token.specs.Tests.{hexAhead};
-ghost use Rattle.token.specs.Answer.{read, readDigits, numberOf, scanNumber};
-ghost use Rattle.token.specs.Code.{digitIn, digitOf, upTo, valueOf, intOr, pieceOf};
+ghost use Rattle.chars.specs.paper.Text.{from};
+ghost use Rattle.token.specs.paper.Tests.{hexAhead};
+ghost use Rattle.token.specs.computed.Answer.{read, readDigits, numberOf, scanNumber};
+ghost use Rattle.token.specs.code.Digits.{digitIn, digitOf, upTo, valueOf, intOr};
+ghost use Rattle.token.specs.code.Piece.{pieceOf};
 
 // A value of at most 9223372036854775807, or that it is larger.
 pub enum Value {

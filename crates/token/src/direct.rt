@@ -18,15 +18,18 @@ ghost use mathlib.Core.Bool.{true, false, not, _&&_};
 ghost use lib.Dec.{eqb, ltb};
 ghost use Prim.Native.Nat.{_+_, _≤_, _<_};
 ghost use lib.ListN.{length, getD};
-ghost use Rattle.chars.specs.Quoted.{oneOf};
-ghost use Rattle.chars.specs.Classes.{isIdStart, isOpSign};
-ghost use Rattle.chars.specs.Text.{from, place, afterRun};
-ghost use Rattle.chars.specs.Code.{asciiIdChar};
-ghost use Rattle.token.specs.Answer.{scan};
-ghost use Rattle.token.specs.Code.{ByteClasses, Direct, DirectOr, pieceOf, pieceNumber, signNumber};
-ghost use Rattle.token.specs.Records.{headLength};
-ghost use Rattle.token.specs.Forms.{plainForm, byForm};
-ghost use Rattle.token.specs.Measure.{storedIf};
+ghost use Rattle.chars.specs.paper.Quoted.{oneOf};
+ghost use Rattle.chars.specs.paper.Classes.{isIdStart, isOpSign};
+ghost use Rattle.chars.specs.paper.Text.{from, place};
+ghost use Rattle.chars.specs.computed.Runs.{afterRun};
+ghost use Rattle.chars.specs.code.Classes.{asciiIdChar};
+ghost use Rattle.token.specs.computed.Answer.{scan};
+ghost use Rattle.token.specs.code.ClassTable.{ByteClasses};
+ghost use Rattle.token.specs.code.Direct.{Direct, DirectOr, signNumber};
+ghost use Rattle.token.specs.code.Piece.{pieceOf, pieceNumber};
+ghost use Rattle.token.specs.paper.Records.{headLength};
+ghost use Rattle.token.specs.code.Form.{plainForm, byForm};
+ghost use Rattle.token.specs.code.Records.{storedIf};
 
 // Where the ASCII id characters end that stand there.
 fn id_end(s: &[u8], t: &[u16; 256], at: usize) -> usize

@@ -9,10 +9,10 @@ ghost use mathlib.Core.Path.{_≡_};
 ghost use Prim.Native.Nat.{_+_, _-_, _≤_};
 ghost use lib.ListN.{length, take};
 ghost use lib.Seq.{sets};
-ghost use Rattle.token.specs.Records.{fieldsOf, headLength};
+ghost use Rattle.token.specs.paper.Records.{fieldsOf, headLength};
 ghost use Rattle.words.specs.Words.{le8};
-ghost use Rattle.token.specs.Forms.{Known, byForm};
-ghost use Rattle.token.specs.Measure.{storedIf};
+ghost use Rattle.token.specs.code.Form.{Known, byForm};
+ghost use Rattle.token.specs.code.Records.{storedIf};
 
 // Length, kind, start, end and cut.
 fn put_head(out: &mut [u8], w: usize, form: Form, start: usize, end: usize, cut: bool)
@@ -45,7 +45,12 @@ pub fn put_record(out: &mut [u8], w: usize, form: Form, start: usize, end: usize
     ensures { λ r. ⌜ now (out .exit) ≡ sets (now (out .entry)) w (byForm form start end cut) ⌝ }
 {
     put_head(out, w, form, start, end, cut);
-    put_values(out, w + TokenKind::HEAD_LENGTH as usize, form.length, form.values);
+    put_values(
+        out,
+        w + TokenKind::HEAD_LENGTH as usize,
+        form.length,
+        form.values,
+    );
 }
 
 // The same, where it fits.

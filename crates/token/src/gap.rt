@@ -6,11 +6,12 @@ ghost use mathlib.Core.Path.{_≡_};
 ghost use mathlib.Core.Bool.{true, not, _||_};
 ghost use Prim.Native.Nat.{_+_, _*_, _≤_};
 ghost use lib.ListN.{length, drop, getD};
-ghost use Rattle.chars.specs.Text.{from, afterRun};
-ghost use Rattle.token.specs.Tests.{endOfLine, endsLine, opensLine, opensBlock};
-ghost use Rattle.token.specs.Flags.{GapKind, fresh, push, cutOf};
-ghost use Rattle.token.specs.Answer.{close};
-ghost use Rattle.token.specs.Code.{closedOf, fourOpen};
+ghost use Rattle.chars.specs.paper.Text.{from};
+ghost use Rattle.chars.specs.computed.Runs.{afterRun};
+ghost use Rattle.token.specs.paper.Tests.{endOfLine, endsLine, opensLine, opensBlock};
+ghost use Rattle.token.specs.computed.Flags.{GapKind, fresh, push, cutOf};
+ghost use Rattle.token.specs.computed.Answer.{close};
+ghost use Rattle.token.specs.code.Gap.{closedOf, fourOpen};
 
 pub struct Gap {
     pub newline: bool, // a line end of the gap came

@@ -13,12 +13,15 @@ ghost use mathlib.Core.List.{[], _∷_};
 ghost use mathlib.Core.Option.{some, none};
 ghost use Prim.Native.Nat.{_+_, _≤_};
 ghost use lib.ListN.{length, drop};
-ghost use Rattle.chars.specs.Classes.{isIdStart};
-ghost use Rattle.chars.specs.Text.{from, nextOf, head, afterRun};
-ghost use Rattle.token.specs.Tests.{isAny, opSign, freeSign, opensComment};
-ghost use Rattle.token.specs.Kinds.{wordOf, runOf, nineWords, fiveRuns};
-ghost use Rattle.token.specs.Answer.{afterIdent, codesTo, orPrefixed, scanIdent, scanOperator, scanBacktick};
-ghost use Rattle.token.specs.Code.{pieceOf, keywordOf, LeftOf, standsAt, keywordAt};
+ghost use Rattle.chars.specs.paper.Classes.{isIdStart};
+ghost use Rattle.chars.specs.paper.Text.{from, head};
+ghost use Rattle.chars.specs.code.Text.{nextOf};
+ghost use Rattle.chars.specs.computed.Runs.{afterRun};
+ghost use Rattle.token.specs.paper.Tests.{isAny, opSign, freeSign, opensComment};
+ghost use Rattle.token.specs.paper.Kinds.{wordOf, runOf, nineWords, fiveRuns};
+ghost use Rattle.token.specs.computed.Answer.{afterIdent, codesTo, orPrefixed, scanIdent, scanOperator, scanBacktick};
+ghost use Rattle.token.specs.code.Piece.{pieceOf};
+ghost use Rattle.token.specs.code.Ident.{keywordOf, LeftOf, standsAt, keywordAt};
 
 // A keyword, or that a text is none.
 pub enum Keyword {

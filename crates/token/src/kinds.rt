@@ -1,8 +1,8 @@
 // Keywords and token kinds, with the record kind numbers and record lengths of document 01, "Records".
 ghost use mathlib.Core.Path.{_≡_};
-ghost use Rattle.token.specs.Kinds.{kwNumber};
-ghost use Rattle.token.specs.Records.{bit};
-ghost use Rattle.token.specs.Forms.{formOf, plainForm};
+ghost use Rattle.token.specs.paper.Kinds.{kwNumber};
+ghost use Rattle.token.specs.paper.Records.{bit};
+ghost use Rattle.token.specs.code.Form.{formOf, plainForm};
 ghost use Rattle.token.specs.declared.kinds.TokenKind.the-variants as tk;
 
 pub enum Kw {

@@ -10,9 +10,13 @@ ghost use mathlib.Core.Path.{_≡_};
 ghost use mathlib.Core.Logic.{_⊎_};
 ghost use Prim.Native.Nat.{_≤_, _<_};
 ghost use lib.ListN.{length};
-ghost use Rattle.chars.specs.Text.{from};
-ghost use Rattle.token.specs.Answer.{read, readDigits, numberOf, scanNumber, scan};
-ghost use Rattle.token.specs.Code.{cursorAt, pieceOf, digitIn, intOr, ByteClasses, ReadTo, LiteralAs};
+ghost use Rattle.chars.specs.paper.Text.{from};
+ghost use Rattle.token.specs.computed.Answer.{read, readDigits, numberOf, scanNumber, scan};
+ghost use Rattle.token.specs.code.Cursor.{cursorAt};
+ghost use Rattle.token.specs.code.Piece.{pieceOf};
+ghost use Rattle.token.specs.code.Digits.{digitIn, intOr};
+ghost use Rattle.token.specs.code.ClassTable.{ByteClasses};
+ghost use Rattle.token.specs.code.Number.{ReadTo, LiteralAs};
 
 // Where a number ends, its value, and whether it is a LongLit. Where the end is the number's own start, nothing is told.
 pub struct Literal {

@@ -18,10 +18,11 @@ ghost use mathlib.Core.Bool.{cond};
 ghost use Prim.Native.Nat.{_≤_, _+_, _*_};
 ghost use lib.ListN.{length, take};
 ghost use lib.Seq.{sets};
-ghost use Rattle.token.specs.Answer.{answer};
-ghost use Rattle.token.specs.Records.{mostBytes, headLength, intLength, longLength, mostLength, recordOf, records, recordBytes};
-ghost use Rattle.token.specs.Code.{ByteClasses, literalKind};
-ghost use Rattle.token.specs.Measure.{storedIf, measuredOf, total, Fits, Reaches, tokensIn, eofAt};
+ghost use Rattle.token.specs.computed.Answer.{answer};
+ghost use Rattle.token.specs.paper.Records.{mostBytes, headLength, intLength, longLength, mostLength, recordOf, records, recordBytes};
+ghost use Rattle.token.specs.code.ClassTable.{ByteClasses};
+ghost use Rattle.token.specs.code.Number.{literalKind};
+ghost use Rattle.token.specs.code.Records.{storedIf, measuredOf, total, Fits, Reaches, tokensIn, eofAt};
 
 // What measuring finds: how many tokens and record bytes, or a refusal's number and place.
 pub enum Measured {

@@ -10,11 +10,13 @@ ghost use mathlib.Core.Path.{_≡_};
 ghost use mathlib.Core.Bool.{true, false};
 ghost use Prim.Native.Nat.{_+_, _≤_, _<_};
 ghost use lib.ListN.{length, drop};
-ghost use Rattle.chars.specs.Text.{from, head, afterRun};
-ghost use Rattle.token.specs.Tests.{isAny, quote, threeQuotes};
-ghost use Rattle.token.specs.Answer.{closed, inTriple, inString, prefixedOf, scanString, plainContent};
-ghost use Rattle.token.specs.Code.{pieceOf, endedOf, escapeOf, hexesOf, isOrdinary, dollarOf, inSingle, Onward, lastOff, spanKind, LeftOf};
-ghost use Rattle.token.specs.Code.{eightsOff, SameContent};
+ghost use Rattle.chars.specs.paper.Text.{from, head};
+ghost use Rattle.chars.specs.computed.Runs.{afterRun};
+ghost use Rattle.token.specs.paper.Tests.{isAny, quote, threeQuotes};
+ghost use Rattle.token.specs.computed.Answer.{closed, inTriple, inString, prefixedOf, scanString, plainContent};
+ghost use Rattle.token.specs.code.Piece.{pieceOf};
+ghost use Rattle.token.specs.code.String.{endedOf, escapeOf, hexesOf, isOrdinary, dollarOf, inSingle, Onward, lastOff, spanKind, eightsOff, SameContent};
+ghost use Rattle.token.specs.code.Ident.{LeftOf};
 
 // A string's content: where it starts and ends.
 pub struct Span {

@@ -4,7 +4,7 @@ use mathlib.Core.Bool.{cond}
 use mathlib.Core.List.{List, [], _∷_}
 use lib.Dec.{eqb, leb, ltb}
 use lib.ListN.{getD, set, take}
-use Rattle.chars.specs.Utf8.{validPrefix}
+use Rattle.chars.specs.computed.Valid.{validPrefix}
 
 abbrev pub edges : List ℕ
 edges = 0x7F ∷ 0x80 ∷ 0xBF ∷ 0xC0 ∷ []

@@ -1,7 +1,7 @@
 -- `chars_host::chars_decode` meets its contract. A width of at most four leaves the packed number within 64 bits.
 -- Assumes nothing.
 use borrow.Author.Needs.{needs}
-use mathlib.Core.Path.{_≡_, sym, _∙_, ap}
+use mathlib.Core.Path.{sym, _∙_, ap}
 use Rattle.chars_host.proofs.Widths.{at-most-four}
 use Rattle.chars_host.proofs.chars_decode.Statement.{statement}
 use Rattle.chars_host.proofs.chars_decode.Tie as tie

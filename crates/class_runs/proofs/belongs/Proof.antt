@@ -4,7 +4,7 @@ use Prim.Native.Nat.{ℕ}
 use borrow.Author.Needs.{needs}
 use borrow.Author.Tests.{ne-eqb}
 use mathlib.Core.Path.{_≡_, _∙_}
-use Rattle.chars.specs.Classes.{isIdStart, isIdChar, isOpSign, isPrintable}
+use Rattle.chars.specs.paper.Classes.{isIdStart, isIdChar, isOpSign, isPrintable}
 use Rattle.class_runs.proofs.belongs.Statement.{statement}
 use Rattle.class_runs.proofs.belongs.Tie as tie
 use Rattle.class_runs.specs.Lines.{inClass}

@@ -9,7 +9,7 @@ use native.Mathlib.Numerals.{add-one}
 use native.Mathlib.Omega.{arith}
 use Rattle.utf8_runs.proofs.walk.Statement.{statement}
 use Rattle.utf8_runs.proofs.walk.Tie as tie
-use Rattle.chars.specs.Utf8.{validPrefix}
+use Rattle.chars.specs.computed.Valid.{validPrefix}
 use Rattle.utf8_runs.specs.Sequences.{bytesOf, tallied, walked}
 
 first : (n a : ℕ) (counts : List ℕ) → counts ≡ walked n a 0 counts

@@ -1,6 +1,6 @@
 -- By the mask that has the byte's bit.
 use borrow.Author.Tests.{lt-ltb, le-ltb}
-use Rattle.chars.specs.Code.{bitIn}
+use Rattle.chars.specs.code.Classes.{bitIn}
 use borrow.Author.Needs.{needs}
 use Rattle.chars.proofs.classes.has_bit.Statement.{statement}
 use Rattle.chars.proofs.classes.has_bit.Tie as tie

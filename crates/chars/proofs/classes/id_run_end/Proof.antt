@@ -4,11 +4,12 @@ use native.Mathlib.Omega.{arith}
 use borrow.Author.Needs.{needs}
 use borrow.Author.Tests.{not-false}
 use lib.ListN.{length}
-use Rattle.chars.specs.Classes.{isIdChar}
-use Rattle.chars.specs.Text.{from, place, idChar, afterRun}
-use Rattle.chars.proofs.Places.{runs-end}
-use Rattle.chars.proofs.Russian.{russian}
-use Rattle.chars.proofs.IdRuns.{id-on, id-out, russian-on}
+use Rattle.chars.specs.paper.Classes.{isIdChar}
+use Rattle.chars.specs.paper.Text.{from, place, idChar}
+use Rattle.chars.specs.computed.Runs.{afterRun}
+use Rattle.chars.proofs.text.Places.{runs-end}
+use Rattle.chars.proofs.classes.Russian.{russian}
+use Rattle.chars.proofs.classes.IdRuns.{id-on, id-out, russian-on}
 use Rattle.chars.proofs.classes.id_run_end.Statement.{statement}
 use Rattle.chars.proofs.classes.id_run_end.Tie as tie
 

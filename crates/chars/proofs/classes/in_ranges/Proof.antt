@@ -6,7 +6,7 @@ use native.Mathlib.Omega.{arith}
 use borrow.Author.Needs.{needs}
 use lib.Dec.{leb}
 use lib.ListN.{length, getD}
-use Rattle.chars.proofs.Ranges.{ends-outside, ends-found}
+use Rattle.chars.proofs.classes.Ranges.{ends-outside, ends-found}
 use Rattle.chars.proofs.classes.in_ranges.Statement.{statement}
 use Rattle.chars.proofs.classes.in_ranges.Tie as tie
 

@@ -1,9 +1,9 @@
 use mathlib.Core.Path.{_≡_, sym, ap, _∙_}
 use mathlib.Core.Bool.{true, false, _||_}
 use native.Mathlib.Omega.{arith}
-use Rattle.chars.specs.Classes.{lowercase, uppercase}
-use Rattle.chars.proofs.Ranges.{in-between, not-between}
-use Rattle.chars.proofs.ClassLaws.{above-no-start, circled-no-start, wide-start, russian-start}
+use Rattle.chars.specs.paper.Classes.{lowercase, uppercase}
+use Rattle.chars.proofs.classes.Ranges.{in-between, not-between}
+use Rattle.chars.proofs.classes.Laws.{above-no-start, circled-no-start, wide-start, russian-start}
 use borrow.Author.Needs.{needs}
 use Rattle.chars.proofs.classes.is_id_start.Statement.{statement}
 use Rattle.chars.proofs.classes.is_id_start.Tie as tie

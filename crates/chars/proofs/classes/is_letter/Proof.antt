@@ -1,13 +1,10 @@
 use mathlib.Core.Path.{_≡_, refl, sym, ap, _∙_}
 use mathlib.Core.Bool.{true, false, not, _&&_}
-use Rattle.chars.specs.Classes.{alphabetic, alphaNotLetter}
-use Rattle.chars.specs.Ranges.{inRanges, ascendingFrom}
+use Rattle.chars.specs.paper.Classes.{alphabetic, alphaNotLetter}
+use Rattle.chars.specs.paper.Ranges.{inRanges}
 -- imports of the template ends
 use Rattle.chars.proofs.classes.is_letter.Statement.{statement}
 use Rattle.chars.proofs.classes.is_letter.Tie as tie
-use Rattle.chars.proofs.classes.is_letter.Reads as reads
-use Rattle.chars.proofs.classes.is_letter.Lts as lts
-use Rattle.chars.proofs.classes.in_ranges.Reads as in-ranges-reads
 
 -- src/classes.rt:159:8
 in-ranges-requires : tie.Need-in-ranges-requires

@@ -1,4 +1,4 @@
-use Rattle.chars.specs.Classes.{lowercase}
+use Rattle.chars.specs.paper.Classes.{lowercase}
 use borrow.Author.Needs.{needs}
 use Rattle.chars.proofs.classes.is_lowercase.Statement.{statement}
 use Rattle.chars.proofs.classes.is_lowercase.Tie as tie

@@ -3,8 +3,8 @@ use mathlib.Core.Path.{refl, _∙_, ap}
 use mathlib.Core.Bool.{_&&_}
 use lib.Dec.{ltb}
 use borrow.Author.Tests.{le-ltb}
-use Rattle.chars.specs.Classes.{isOpSign}
-use Rattle.chars.specs.Code.{bitIn}
+use Rattle.chars.specs.paper.Classes.{isOpSign}
+use Rattle.chars.specs.code.Classes.{bitIn}
 use Rattle.chars.proofs.Carry.{mask-set}
 use borrow.Author.Needs.{needs}
 use Rattle.chars.proofs.classes.is_op_byte.Statement.{statement}

@@ -6,8 +6,8 @@ use mathlib.Core.List.{List}
 use native.Mathlib.Omega.{arith}
 use borrow.Author.Tests.{le-leb}
 use lib.Dec.{leb}
-use Rattle.chars.specs.Quoted.{codes, member}
-use Rattle.chars.specs.Classes.{isOpSign}
+use Rattle.chars.specs.paper.Quoted.{codes, member}
+use Rattle.chars.specs.paper.Classes.{isOpSign}
 use Rattle.chars.proofs.Carry.{carry, no-member, each, each-but, hits, misses}
 use Rattle.chars.proofs.classes.is_op_char.Statement.{statement}
 use Rattle.chars.proofs.classes.is_op_char.Tie as tie

@@ -6,11 +6,11 @@ use native.Mathlib.Omega.{arith}
 use borrow.Author.Needs.{needs}
 use borrow.Author.Tests.{ltb-true, ltb-false, leb-true, leb-false, le-leb}
 use lib.Dec.{leb, ltb}
-use Rattle.chars.specs.Quoted.{between}
-use Rattle.chars.specs.Classes.{isPrintable}
+use Rattle.chars.specs.paper.Quoted.{between}
+use Rattle.chars.specs.paper.Classes.{isPrintable}
 use Rattle.chars.proofs.Carry.{each-not}
-use Rattle.chars.proofs.Ranges.{in-between, not-between, between-in, between-out}
-use Rattle.chars.proofs.ClassLaws.{above-no-print}
+use Rattle.chars.proofs.classes.Ranges.{in-between, not-between, between-in, between-out}
+use Rattle.chars.proofs.classes.Laws.{above-no-print}
 use Rattle.chars.proofs.classes.is_printable_char.Statement.{statement}
 use Rattle.chars.proofs.classes.is_printable_char.Tie as tie
 

@@ -1,4 +1,4 @@
-use Rattle.chars.specs.Classes.{uppercase}
+use Rattle.chars.specs.paper.Classes.{uppercase}
 use borrow.Author.Needs.{needs}
 use Rattle.chars.proofs.classes.is_uppercase.Statement.{statement}
 use Rattle.chars.proofs.classes.is_uppercase.Tie as tie

@@ -1,17 +1,13 @@
 use mathlib.Core.Path.{_≡_, refl, sym, ap, _∙_}
 use mathlib.Core.Bool.{true, false, not, _&&_, _||_}
 use native.Mathlib.Omega.{arith}
-use Rattle.chars.specs.Classes.{alphabetic, alphaNotLetter, nd}
-use Rattle.chars.specs.Ranges.{inRanges}
-use Rattle.chars.proofs.ClassLaws.{above-no-id, wide-id}
+use Rattle.chars.specs.paper.Classes.{alphabetic, alphaNotLetter, nd}
+use Rattle.chars.specs.paper.Ranges.{inRanges}
+use Rattle.chars.proofs.classes.Laws.{above-no-id, wide-id}
 -- imports of the template ends
 use borrow.Author.Needs.{needs}
 use Rattle.chars.proofs.classes.is_wide_id_char.Statement.{statement}
 use Rattle.chars.proofs.classes.is_wide_id_char.Tie as tie
-use Rattle.chars.proofs.classes.is_wide_id_char.Reads as reads
-use Rattle.chars.proofs.classes.is_wide_id_char.Lts as lts
-use Rattle.chars.proofs.classes.in_ranges.Reads as in-ranges-reads
-use Rattle.chars.proofs.classes.is_letter.Reads as is-letter-reads
 
 -- src/classes.rt:145:9
 returns : tie.Need-returns

@@ -1,5 +1,5 @@
 use borrow.Author.Needs.{needs}
-use Rattle.chars.specs.Code.{russianAt}
+use Rattle.chars.specs.code.Classes.{russianAt}
 use Rattle.chars.proofs.classes.russian_at.Statement.{statement}
 use Rattle.chars.proofs.classes.russian_at.Tie as tie
 

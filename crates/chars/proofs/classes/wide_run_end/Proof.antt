@@ -1,20 +1,16 @@
-use Prim.Native.Nat.{_≤_, _<_, _-_}
+use Prim.Native.Nat.{_-_}
 use mathlib.Core.Path.{_≡_, refl, sym, ap, _∙_}
-use mathlib.Core.Bool.{true, false}
 use native.Mathlib.Omega.{arith}
 use borrow.Author.Needs.{needs}
 use borrow.Author.Tests.{not-true, not-false}
 use lib.ListN.{length}
-use Rattle.chars.specs.Classes.{isIdChar}
-use Rattle.chars.specs.Text.{from, idChar, afterRun, nextOf}
-use Rattle.chars.proofs.Places.{step-text, step-none, next-on, runs-on, runs-out, runs-end}
+use Rattle.chars.specs.paper.Classes.{isIdChar}
+use Rattle.chars.specs.paper.Text.{from, idChar}
+use Rattle.chars.specs.computed.Runs.{afterRun}
+use Rattle.chars.proofs.text.Places.{step-text, step-none, next-on, runs-on, runs-out, runs-end}
 -- imports of the template ends
 use Rattle.chars.proofs.classes.wide_run_end.Statement.{statement}
 use Rattle.chars.proofs.classes.wide_run_end.Tie as tie
-use Rattle.chars.proofs.classes.wide_run_end.Reads as reads
-use Rattle.chars.proofs.classes.wide_run_end.Lts as lts
-use Rattle.chars.proofs.classes.is_lent_id_char.Reads as is-lent-id-char-reads
-use Rattle.chars.proofs.text.char_at.Reads as char-at-reads
 
 abbrev Inv-loop : tie.InvT-loop
 Inv-loop s at alphabetic marks digits i₀ i = afterRun idChar (from s i) ≡ afterRun idChar (from s at)

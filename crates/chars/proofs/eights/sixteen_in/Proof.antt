@@ -1,4 +1,4 @@
-use Rattle.chars.specs.Code.{sixteenBy}
+use Rattle.chars.specs.code.Eights.{sixteenBy}
 use borrow.Author.Needs.{needs}
 use Rattle.chars.proofs.eights.sixteen_in.Statement.{statement}
 use Rattle.chars.proofs.eights.sixteen_in.Tie as tie

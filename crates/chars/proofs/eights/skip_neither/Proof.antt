@@ -2,8 +2,8 @@ use Prim.Native.Nat.{_≤_, _-_}
 use mathlib.Core.Path.{sym, _∙_}
 use native.Mathlib.Omega.{arith}
 use lib.ListN.{length}
-use Rattle.chars.specs.Code.{NeitherOf}
-use Rattle.chars.proofs.Spans.{neither-more}
+use Rattle.chars.specs.code.Eights.{NeitherOf}
+use Rattle.chars.proofs.eights.Laws.{neither-more}
 use borrow.Author.Needs.{needs}
 use Rattle.chars.proofs.eights.skip_neither.Statement.{statement}
 use Rattle.chars.proofs.eights.skip_neither.Tie as tie

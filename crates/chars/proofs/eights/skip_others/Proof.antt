@@ -2,8 +2,8 @@ use Prim.Native.Nat.{_≤_, _-_}
 use mathlib.Core.Path.{sym, _∙_}
 use native.Mathlib.Omega.{arith}
 use lib.ListN.{length}
-use Rattle.chars.specs.Code.{NoneOf}
-use Rattle.chars.proofs.Spans.{none-more}
+use Rattle.chars.specs.code.Eights.{NoneOf}
+use Rattle.chars.proofs.eights.Laws.{none-more}
 use borrow.Author.Needs.{needs}
 use Rattle.chars.proofs.eights.skip_others.Statement.{statement}
 use Rattle.chars.proofs.eights.skip_others.Tie as tie

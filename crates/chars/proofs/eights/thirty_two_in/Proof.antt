@@ -2,7 +2,7 @@ use Prim.Native.Nat.{_+_}
 use native.Mathlib.Omega.{arith}
 use borrow.Author.Tests.{le-leb, lt-leb}
 use lib.ListN.{length}
-use Rattle.chars.specs.Code.{thirtyTwoBy}
+use Rattle.chars.specs.code.Eights.{thirtyTwoBy}
 use borrow.Author.Needs.{needs}
 use Rattle.chars.proofs.eights.thirty_two_in.Statement.{statement}
 use Rattle.chars.proofs.eights.thirty_two_in.Tie as tie

@@ -1,5 +1,5 @@
 use mathlib.Core.Path.{refl}
-use Rattle.chars.specs.Code.{twoIn}
+use Rattle.chars.specs.code.Eights.{twoIn}
 use borrow.Author.Needs.{needs}
 use Rattle.chars.proofs.eights.two_in.Statement.{statement}
 use Rattle.chars.proofs.eights.two_in.Tie as tie

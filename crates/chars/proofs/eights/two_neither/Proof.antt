@@ -1,5 +1,5 @@
 use mathlib.Core.Path.{refl}
-use Rattle.chars.specs.Code.{twoNeither}
+use Rattle.chars.specs.code.Eights.{twoNeither}
 use borrow.Author.Needs.{needs}
 use Rattle.chars.proofs.eights.two_neither.Statement.{statement}
 use Rattle.chars.proofs.eights.two_neither.Tie as tie

@@ -1,5 +1,5 @@
 use mathlib.Core.Path.{refl}
-use Rattle.chars.specs.Code.{twoNot}
+use Rattle.chars.specs.code.Eights.{twoNot}
 use borrow.Author.Needs.{needs}
 use Rattle.chars.proofs.eights.two_not.Statement.{statement}
 use Rattle.chars.proofs.eights.two_not.Tie as tie

@@ -1,12 +1,9 @@
 use native.Mathlib.Omega.{arith}
 use mathlib.Core.Path.{sym, _∙_}
-use Rattle.chars.proofs.Steps.{char-stands, nothing-stands, step-char, step-byte, step-end}
+use Rattle.chars.proofs.text.Steps.{char-stands, nothing-stands, step-char, step-byte, step-end}
 use borrow.Author.Needs.{needs}
 use Rattle.chars.proofs.text.char_at.Statement.{statement}
 use Rattle.chars.proofs.text.char_at.Tie as tie
-use Rattle.chars.proofs.text.char_at.Reads as reads
-use Rattle.chars.proofs.text.char_at.Lts as lts
-use Rattle.chars.proofs.utf8.decode.Reads as decode-reads
 
 -- src/text.rt:18:9
 returns : tie.Need-returns

@@ -1,13 +1,10 @@
-use Prim.Native.Nat.{_+_, _<_}
 use mathlib.Core.Bool.{and-true}
-use lib.ListN.{length, drop-of-length-le}
+use lib.ListN.{drop-of-length-le}
 use borrow.Author.Tests.{le-leb, lt-leb}
-use Rattle.chars.proofs.Rows.{here}
+use Rattle.chars.proofs.utf8.Rows.{here}
 use borrow.Author.Needs.{needs}
 use Rattle.chars.proofs.utf8.byte_in.Statement.{statement}
 use Rattle.chars.proofs.utf8.byte_in.Tie as tie
-use Rattle.chars.proofs.utf8.byte_in.Reads as reads
-use Rattle.chars.proofs.utf8.byte_in.Lts as lts
 
 -- src/utf8.rt:21:9
 returns : tie.Need-returns

@@ -1,11 +1,8 @@
 use native.Mathlib.Omega.{arith}
-use Rattle.chars.proofs.Codes.{code-one, code-two, code-three, code-four}
+use Rattle.chars.proofs.utf8.Codes.{code-one, code-two, code-three, code-four}
 use borrow.Author.Needs.{needs}
 use Rattle.chars.proofs.utf8.code_at.Statement.{statement}
 use Rattle.chars.proofs.utf8.code_at.Tie as tie
-use Rattle.chars.proofs.utf8.code_at.Reads as reads
-use Rattle.chars.proofs.utf8.code_at.Lts as lts
-use Rattle.chars.proofs.utf8.six_bits.Reads as six-bits-reads
 
 -- src/utf8.rt:96:13
 shared-slice-read-a : tie.Need-shared-slice-read-a

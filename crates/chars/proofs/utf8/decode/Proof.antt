@@ -1,14 +1,10 @@
-use mathlib.Core.Path.{_≡_, sym, _∙_}
+use mathlib.Core.Path.{sym, _∙_}
 use borrow.Author.Tests.{eq-eqb, ne-eqb}
-use Rattle.chars.specs.Utf8.{decodeAt}
-use Rattle.chars.proofs.Rows.{inside}
+use Rattle.chars.specs.code.Utf8.{decodeAt}
+use Rattle.chars.proofs.utf8.Rows.{inside}
 use borrow.Author.Needs.{needs}
 use Rattle.chars.proofs.utf8.decode.Statement.{statement}
 use Rattle.chars.proofs.utf8.decode.Tie as tie
-use Rattle.chars.proofs.utf8.decode.Reads as reads
-use Rattle.chars.proofs.utf8.decode.Lts as lts
-use Rattle.chars.proofs.utf8.code_at.Reads as code-at-reads
-use Rattle.chars.proofs.utf8.width_at.Reads as width-at-reads
 
 -- src/utf8.rt:113:9
 width-at-requires : tie.Need-width-at-requires

@@ -2,9 +2,9 @@ use mathlib.Core.Path.{sym, _∙_}
 use mathlib.Core.List.{[], _∷_}
 use native.Mathlib.Omega.{arith}
 use borrow.Author.Tests.{not-true, not-false}
-use Rattle.chars.specs.Ranges.{_to_}
-use Rattle.chars.proofs.Rows.{fits-next}
-use Rattle.chars.proofs.Valid.{fit-within}
+use Rattle.chars.specs.paper.Ranges.{_to_}
+use Rattle.chars.proofs.utf8.Rows.{fits-next}
+use Rattle.chars.proofs.utf8.Valid.{fit-within}
 use borrow.Author.Needs.{needs}
 use Rattle.chars.proofs.utf8.pair_in.Statement.{statement}
 use Rattle.chars.proofs.utf8.pair_in.Tie as tie

@@ -3,8 +3,6 @@ use lib.ListN.{List·getD-eq-default}
 use borrow.Author.Needs.{needs}
 use Rattle.chars.proofs.utf8.six_bits.Statement.{statement}
 use Rattle.chars.proofs.utf8.six_bits.Tie as tie
-use Rattle.chars.proofs.utf8.six_bits.Reads as reads
-use Rattle.chars.proofs.utf8.six_bits.Lts as lts
 
 -- src/utf8.rt:86:17
 shared-slice-read-result : tie.Need-shared-slice-read-result

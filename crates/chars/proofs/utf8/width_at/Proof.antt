@@ -1,17 +1,12 @@
-use Prim.Native.Nat.{ℕ, _+_, _≤_, _<_}
-use mathlib.Core.Path.{_≡_, sym, _∙_, ap}
+use Prim.Native.Nat.{_+_, _<_}
+use mathlib.Core.Path.{sym, _∙_, ap}
 use lib.ListN.{length, drop, getD, drop-of-length-le}
 use native.Mathlib.Omega.{arith}
-use Rattle.chars.specs.Utf8.{width}
-use Rattle.chars.proofs.Rows.{here, row-00, row-C2, row-E0, row-E1, row-ED, row-EE, row-F0, row-F1, row-F4, none-low, none-high}
+use Rattle.chars.specs.paper.Utf8.{width}
+use Rattle.chars.proofs.utf8.Rows.{here, row-00, row-C2, row-E0, row-E1, row-ED, row-EE, row-F0, row-F1, row-F4, none-low, none-high}
 use borrow.Author.Needs.{needs}
 use Rattle.chars.proofs.utf8.width_at.Statement.{statement}
 use Rattle.chars.proofs.utf8.width_at.Tie as tie
-use Rattle.chars.proofs.utf8.width_at.Reads as reads
-use Rattle.chars.proofs.utf8.width_at.Lts as lts
-use Rattle.chars.proofs.utf8.width_four.Reads as width-four-reads
-use Rattle.chars.proofs.utf8.width_three.Reads as width-three-reads
-use Rattle.chars.proofs.utf8.width_two.Reads as width-two-reads
 
 -- src/utf8.rt:64:9
 returns : tie.Need-returns

@@ -1,18 +1,13 @@
-use Prim.Native.Nat.{_+_}
 use mathlib.Core.Path.{_≡_, sym, _∙_}
 use mathlib.Core.Bool.{true, false}
 use mathlib.Core.List.{[], _∷_}
 use lib.ListN.{drop}
-use Rattle.chars.specs.Ranges.{_to_}
-use Rattle.chars.specs.Utf8.{fits}
-use Rattle.chars.proofs.Rows.{fits-last, none-given, some-given}
+use Rattle.chars.specs.paper.Ranges.{_to_}
+use Rattle.chars.specs.paper.Utf8.{fits}
+use Rattle.chars.proofs.utf8.Rows.{fits-last, none-given, some-given}
 use borrow.Author.Needs.{needs}
 use Rattle.chars.proofs.utf8.width_four.Statement.{statement}
 use Rattle.chars.proofs.utf8.width_four.Tie as tie
-use Rattle.chars.proofs.utf8.width_four.Reads as reads
-use Rattle.chars.proofs.utf8.width_four.Lts as lts
-use Rattle.chars.proofs.utf8.byte_in.Reads as byte-in-reads
-use Rattle.chars.proofs.utf8.width_three.Reads as width-three-reads
 
 -- src/utf8.rt:53:8
 width-three-requires : tie.Need-width-three-requires

@@ -1,14 +1,10 @@
-use Prim.Native.Nat.{_+_}
 use mathlib.Core.List.{[], _∷_}
 use borrow.Author.Tests.{not-true, not-false}
-use Rattle.chars.specs.Ranges.{_to_}
-use Rattle.chars.proofs.Rows.{fits-next}
+use Rattle.chars.specs.paper.Ranges.{_to_}
+use Rattle.chars.proofs.utf8.Rows.{fits-next}
 use borrow.Author.Needs.{needs}
 use Rattle.chars.proofs.utf8.width_three.Statement.{statement}
 use Rattle.chars.proofs.utf8.width_three.Tie as tie
-use Rattle.chars.proofs.utf8.width_three.Reads as reads
-use Rattle.chars.proofs.utf8.width_three.Lts as lts
-use Rattle.chars.proofs.utf8.byte_in.Reads as byte-in-reads
 
 -- src/utf8.rt:42:9
 byte-in-requires : tie.Need-byte-in-requires

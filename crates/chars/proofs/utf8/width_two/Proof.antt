@@ -1,9 +1,6 @@
 use borrow.Author.Needs.{needs}
 use Rattle.chars.proofs.utf8.width_two.Statement.{statement}
 use Rattle.chars.proofs.utf8.width_two.Tie as tie
-use Rattle.chars.proofs.utf8.width_two.Reads as reads
-use Rattle.chars.proofs.utf8.width_two.Lts as lts
-use Rattle.chars.proofs.utf8.byte_in.Reads as byte-in-reads
 
 -- src/utf8.rt:34:8
 byte-in-requires : tie.Need-byte-in-requires

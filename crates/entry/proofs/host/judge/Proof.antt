@@ -1,7 +1,7 @@
 -- Each return is a branch of the verdict; where the records fit, the lent buffer has them.
 use mathlib.Core.Path.{sym, _∙_}
 use native.Mathlib.Omega.{arith}
-use Rattle.entry.proofs.Entries.{judge-long, judge-invalid, judge-stopped, judge-over, judge-fits, holds-refused, holds-short, holds-fits}
+use Rattle.entry.proofs.host.Laws.{judge-long, judge-invalid, judge-stopped, judge-over, judge-fits, holds-refused, holds-short, holds-fits}
 use borrow.Author.Needs.{needs}
 use Rattle.entry.proofs.host.judge.Statement.{statement}
 use Rattle.entry.proofs.host.judge.Tie as tie

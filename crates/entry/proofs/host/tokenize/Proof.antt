@@ -1,7 +1,7 @@
 -- Each return is a branch of the judgement; the theorems hold for every script.
 use mathlib.Core.Path.{sym, _∙_}
-use Rattle.entry.proofs.Hosts.{host-theorems}
-use Rattle.entry.proofs.Entries.{entry-none, entry-refused, entry-short, entry-fits, entry-bytes, entry-length, entry-done, held}
+use Rattle.entry.proofs.theorems.Hosts.{host-theorems}
+use Rattle.entry.proofs.host.Laws.{entry-none, entry-refused, entry-short, entry-fits, entry-bytes, entry-length, entry-done, held}
 use borrow.Author.Needs.{needs}
 use Rattle.entry.proofs.host.tokenize.Statement.{statement}
 use Rattle.entry.proofs.host.tokenize.Tie as tie

@@ -1,7 +1,5 @@
-use mathlib.Core.Path.{sym, _∙_, ap}
-use mathlib.Core.Bool.{_&&_, not, and-false}
 use borrow.Author.Tests.{lt-leb, le-leb}
-use Rattle.entry.specs.Host.{hasText}
+use Rattle.entry.specs.paper.TokenText.{hasText}
 use borrow.Author.Needs.{needs}
 use Rattle.entry.proofs.text.has_text.Statement.{statement}
 use Rattle.entry.proofs.text.has_text.Tie as tie

@@ -1,4 +1,3 @@
-use mathlib.Core.Bool.{_&&_}
 use borrow.Author.Tests.{le-ltb, lt-ltb, lt-leb, le-leb}
 use borrow.Author.Needs.{needs}
 use Rattle.entry.proofs.text.is_inside.Statement.{statement}

@@ -1,7 +1,7 @@
 use mathlib.Core.Path.{sym, _∙_}
 use borrow.Author.Needs.{needs}
-use Rattle.entry.specs.Host.{textOf}
-use Rattle.entry.proofs.TextLaws.{text-within}
+use Rattle.entry.specs.paper.TokenText.{textOf}
+use Rattle.entry.proofs.text.Laws.{text-within}
 use Rattle.entry.proofs.text.token_text.Statement.{statement}
 use Rattle.entry.proofs.text.token_text.Tie as tie
 

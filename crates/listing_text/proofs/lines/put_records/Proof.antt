@@ -1,6 +1,6 @@
 -- `lines::put_records` meets its contract: what is put and the lines to come are all lines.
-use Prim.Native.Nat.{ℕ, _+_, _*_, _≤_, _-_}
-use mathlib.Core.Path.{_≡_, refl, sym, _∙_, ap}
+use Prim.Native.Nat.{_+_, _*_, _≤_, _-_}
+use mathlib.Core.Path.{_≡_, refl, sym, _∙_}
 use lib.ListN.{length, drop, length-drop}
 use native.Mathlib.Omega.{arith}
 use borrow.Author.Needs.{needs}

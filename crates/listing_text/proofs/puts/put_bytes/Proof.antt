@@ -1,6 +1,6 @@
 -- `puts::put_bytes` meets its contract: after i turns the first i bytes stand at the place.
 use Prim.Native.Nat.{_≤_, _-_}
-use mathlib.Core.Path.{_≡_, refl, _∙_}
+use mathlib.Core.Path.{_≡_, refl}
 use lib.ListN.{length, take, length-set}
 use lib.Seq.{sets}
 use native.Mathlib.Omega.{arith}

@@ -2,7 +2,7 @@
 use mathlib.Core.Path.{sym, ap, _∙_}
 use lib.Dec.{eqb}
 use borrow.Author.Tests.{eq-eqb, ne-eqb}
-use Rattle.token.proofs.Symbols.{tick-closes, tick-lacks}
+use Rattle.token.proofs.charsym.Laws.{tick-closes, tick-lacks}
 use borrow.Author.Needs.{needs}
 use Rattle.token.proofs.charsym.close_char.Statement.{statement}
 use Rattle.token.proofs.charsym.close_char.Tie as tie

@@ -3,7 +3,7 @@ use mathlib.Core.Path.{sym, ap, _∙_}
 use mathlib.Core.Bool.{_&&_, and-true, and-false}
 use lib.Dec.{eqb}
 use borrow.Author.Tests.{eq-eqb, ne-eqb}
-use Rattle.chars.specs.Classes.{isPrintable}
+use Rattle.chars.specs.paper.Classes.{isPrintable}
 use borrow.Author.Needs.{needs}
 use Rattle.token.proofs.charsym.closes_char.Statement.{statement}
 use Rattle.token.proofs.charsym.closes_char.Tie as tie

@@ -4,12 +4,12 @@ use mathlib.Core.Path.{sym, ap, _∙_}
 use native.Mathlib.Omega.{arith}
 use borrow.Author.Tests.{eq-eqb, ne-eqb}
 use lib.ListN.{length}
-use Rattle.chars.specs.Text.{from}
-use Rattle.token.specs.Code.{pieceOf}
-use Rattle.token.proofs.Symbols.{sym-stuck, tick-byte, past-tick, end-is, escape-is, char-piece, symbol-is}
+use Rattle.chars.specs.paper.Text.{from}
+use Rattle.token.specs.code.Piece.{pieceOf}
+use Rattle.token.proofs.charsym.Laws.{sym-stuck, tick-byte, past-tick, end-is, escape-is, char-piece, symbol-is}
 use borrow.Author.Needs.{needs}
-use Rattle.chars.proofs.Places.{at-end}
-use Rattle.token.proofs.Cursors.{peeked-char, peeked-end}
+use Rattle.chars.proofs.text.Places.{at-end}
+use Rattle.token.proofs.cursor.Laws.{peeked-char, peeked-end}
 use Rattle.token.proofs.charsym.lex_char_sym.Statement.{statement}
 use Rattle.token.proofs.charsym.lex_char_sym.Tie as tie
 

@@ -1,8 +1,8 @@
 -- `charsym::lex_escaped_char`: The escape ends where the definition says, or is refused as it says.
 use mathlib.Core.Path.{sym, ap, _∙_}
 use lib.ListN.{length}
-use Rattle.token.specs.Code.{pieceOf}
-use Rattle.token.proofs.Symbols.{escape-ends, escape-wrong}
+use Rattle.token.specs.code.Piece.{pieceOf}
+use Rattle.token.proofs.charsym.Laws.{escape-ends, escape-wrong}
 use borrow.Author.Needs.{needs}
 use Rattle.token.proofs.charsym.lex_escaped_char.Statement.{statement}
 use Rattle.token.proofs.charsym.lex_escaped_char.Tie as tie

@@ -1,10 +1,10 @@
 -- `charsym::lex_symbol`: Each test on the code that is peeked is one test of the definition.
 use mathlib.Core.Path.{refl, sym, _∙_}
 use borrow.Author.Tests.{eq-eqb, ne-eqb}
-use Rattle.token.proofs.Symbols.{sym-token, sym-stuck, no-symbol, word-is, run-is, comment-is, other-is, semi-sign-is, semi-is}
+use Rattle.token.proofs.charsym.Laws.{sym-token, sym-stuck, no-symbol, word-is, run-is, comment-is, other-is, semi-sign-is, semi-is}
 use borrow.Author.Needs.{needs}
-use Rattle.chars.proofs.Places.{at-end}
-use Rattle.token.proofs.Cursors.{peeked-char, peeked-end}
+use Rattle.chars.proofs.text.Places.{at-end}
+use Rattle.token.proofs.cursor.Laws.{peeked-char, peeked-end}
 use Rattle.token.proofs.charsym.lex_symbol.Statement.{statement}
 use Rattle.token.proofs.charsym.lex_symbol.Tie as tie
 

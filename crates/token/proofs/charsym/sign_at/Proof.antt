@@ -1,9 +1,9 @@
 -- `charsym::sign_at`: The code that is peeked tells whether a sign stands there.
 use mathlib.Core.Path.{sym, ap, _∙_}
-use Rattle.token.specs.Tests.{opSign}
+use Rattle.token.specs.paper.Tests.{opSign}
 use borrow.Author.Needs.{needs}
-use Rattle.chars.proofs.Places.{at-end}
-use Rattle.token.proofs.Cursors.{peeked-char, peeked-end}
+use Rattle.chars.proofs.text.Places.{at-end}
+use Rattle.token.proofs.cursor.Laws.{peeked-char, peeked-end}
 use Rattle.token.proofs.charsym.sign_at.Statement.{statement}
 use Rattle.token.proofs.charsym.sign_at.Tie as tie
 

@@ -1,10 +1,7 @@
-use mathlib.Core.Path.{_≡_, sym, _∙_}
-use mathlib.Core.Bool.{_||_, or-comm}
+use mathlib.Core.Path.{sym, _∙_}
 use mathlib.Core.List.{[], _∷_}
-use lib.Dec.{eqb}
-use Rattle.chars.specs.Quoted.{member}
 use Rattle.chars.proofs.Carry.{hits, misses}
-use Rattle.token.proofs.Bytes.{swapped}
+use Rattle.token.proofs.cursor.Bytes.{swapped}
 use Rattle.token.proofs.cursor.is_blank.Statement.{statement}
 use Rattle.token.proofs.cursor.is_blank.Tie as tie
 

@@ -5,9 +5,10 @@ use native.Mathlib.Omega.{arith}
 use borrow.Author.Needs.{needs}
 use borrow.Author.Tests.{not-true, not-false}
 use lib.ListN.{length}
-use Rattle.chars.specs.Text.{from, afterRun}
-use Rattle.token.specs.Tests.{isAny}
-use Rattle.token.proofs.Blanks.{blank-on, blank-stop, blank-end, spaces-past}
+use Rattle.chars.specs.paper.Text.{from}
+use Rattle.chars.specs.computed.Runs.{afterRun}
+use Rattle.token.specs.paper.Tests.{isAny}
+use Rattle.token.proofs.cursor.Blanks.{blank-on, blank-stop, blank-end, spaces-past}
 use Rattle.token.proofs.cursor.skip_more.Statement.{statement}
 use Rattle.token.proofs.cursor.skip_more.Tie as tie
 

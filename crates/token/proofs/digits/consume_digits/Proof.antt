@@ -4,9 +4,9 @@ use mathlib.Core.Path.{_≡_, refl, sym, ap, _∙_}
 use native.Mathlib.Omega.{arith}
 use borrow.Author.Tests.{not-true, not-false}
 use lib.ListN.{length}
-use Rattle.chars.specs.Text.{from}
-use Rattle.token.specs.Code.{digitIn, upTo}
-use Rattle.token.proofs.DigitRuns.{digits-ascii, class-at, up-next, up-stop, up-full}
+use Rattle.chars.specs.paper.Text.{from}
+use Rattle.token.specs.code.Digits.{digitIn, upTo}
+use Rattle.token.proofs.digits.Laws.{digits-ascii, class-at, up-next, up-stop, up-full}
 use Rattle.token.proofs.digits.consume_digits.Statement.{statement}
 use Rattle.token.proofs.digits.consume_digits.Tie as tie
 

@@ -1,7 +1,7 @@
 -- `digits::digit_of`: A byte lies in one of the three ranges of digits, or in none.
 use native.Mathlib.Omega.{arith}
 use borrow.Author.Needs.{needs}
-use Rattle.token.proofs.DigitRuns.{of-low, of-upper, of-lower, of-none}
+use Rattle.token.proofs.digits.Laws.{of-low, of-upper, of-lower, of-none}
 use Rattle.token.proofs.digits.digit_of.Statement.{statement}
 use Rattle.token.proofs.digits.digit_of.Tie as tie
 

@@ -2,8 +2,8 @@
 use mathlib.Core.Path.{sym, ap, _∙_}
 use lib.Dec.{eqb}
 use borrow.Author.Tests.{eq-eqb, ne-eqb}
-use Rattle.token.specs.Code.{digitIn}
-use Rattle.token.proofs.DigitRuns.{hex-bytes}
+use Rattle.token.specs.code.Digits.{digitIn}
+use Rattle.token.proofs.digits.Laws.{hex-bytes}
 use borrow.Author.Needs.{needs}
 use Rattle.token.proofs.digits.hex_ahead.Statement.{statement}
 use Rattle.token.proofs.digits.hex_ahead.Tie as tie

@@ -1,6 +1,6 @@
 -- `digits::int_literal`: Too large is the test that the definition makes.
 use borrow.Author.Tests.{le-leb, lt-leb}
-use Rattle.token.specs.Code.{intOr}
+use Rattle.token.specs.code.Digits.{intOr}
 use borrow.Author.Needs.{needs}
 use Rattle.token.proofs.digits.int_literal.Statement.{statement}
 use Rattle.token.proofs.digits.int_literal.Tie as tie

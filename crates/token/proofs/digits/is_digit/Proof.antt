@@ -1,7 +1,7 @@
 -- `digits::is_digit`: A byte lies in one of the three ranges of digits, or in none.
 use native.Mathlib.Omega.{arith}
 use mathlib.Core.Path.{sym}
-use Rattle.token.proofs.DigitRuns.{digit-low, digit-upper, digit-lower, no-digit}
+use Rattle.token.proofs.digits.Laws.{digit-low, digit-upper, digit-lower, no-digit}
 use Rattle.token.proofs.digits.is_digit.Statement.{statement}
 use Rattle.token.proofs.digits.is_digit.Tie as tie
 

@@ -3,8 +3,8 @@ use mathlib.Core.Path.{refl, sym, ap, _∙_}
 use mathlib.Core.Logic.{inl, inr}
 use native.Mathlib.Omega.{arith}
 use lib.ListN.{length}
-use Rattle.token.specs.Code.{pieceOf}
-use Rattle.token.proofs.DigitRuns.{hex-text, hex-number, dec-number}
+use Rattle.token.specs.code.Piece.{pieceOf}
+use Rattle.token.proofs.digits.Laws.{hex-text, hex-number, dec-number}
 use borrow.Author.Needs.{needs}
 use Rattle.token.proofs.digits.lex_number.Statement.{statement}
 use Rattle.token.proofs.digits.lex_number.Tie as tie

@@ -2,9 +2,9 @@
 use mathlib.Core.Path.{sym, ap, _∙_}
 use mathlib.Core.List.{[], _∷_}
 use native.Mathlib.Omega.{arith}
-use Rattle.chars.specs.Quoted.{oneOf}
+use Rattle.chars.specs.paper.Quoted.{oneOf}
 use Rattle.chars.proofs.Carry.{hits, misses}
-use Rattle.token.proofs.DigitRuns.{long-piece, int-piece}
+use Rattle.token.proofs.digits.Laws.{long-piece, int-piece}
 use borrow.Author.Needs.{needs}
 use Rattle.token.proofs.digits.number_end.Statement.{statement}
 use Rattle.token.proofs.digits.number_end.Tie as tie

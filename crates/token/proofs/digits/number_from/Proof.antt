@@ -4,10 +4,11 @@ use mathlib.Core.Path.{_≡_, refl, sym, ap, _∙_}
 use native.Mathlib.Omega.{arith}
 use borrow.Author.Needs.{needs}
 use lib.ListN.{length, getD}
-use Rattle.chars.specs.Text.{from}
-use Rattle.token.specs.Answer.{readDigits, numberOf}
-use Rattle.token.specs.Code.{pieceOf, digitIn, digitOf}
-use Rattle.token.proofs.DigitRuns.{digits-ascii, class-at, digit-value, digit-taken, digit-stops, digit-inside, base-lies, read-next, read-stop, base-some, fitted, overs, over-read}
+use Rattle.chars.specs.paper.Text.{from}
+use Rattle.token.specs.computed.Answer.{readDigits, numberOf}
+use Rattle.token.specs.code.Piece.{pieceOf}
+use Rattle.token.specs.code.Digits.{digitIn, digitOf}
+use Rattle.token.proofs.digits.Laws.{digits-ascii, class-at, digit-value, digit-taken, digit-stops, digit-inside, base-lies, read-next, read-stop, base-some, fitted, overs, over-read}
 use Rattle.token.proofs.digits.number_from.Statement.{statement}
 use Rattle.token.proofs.digits.number_from.Tie as tie
 

@@ -1,7 +1,7 @@
 -- `digits::shifted`: Below the bound a digit of either base fits; above it the division tells.
 use Prim.Native.Nat.{_+_, _*_}
 use native.Mathlib.Omega.{arith}
-use Rattle.token.proofs.DigitRuns.{safe, base-some, stays, passes, fits, over}
+use Rattle.token.proofs.digits.Laws.{safe, base-some, stays, passes, fits, over}
 use borrow.Author.Needs.{needs}
 use Rattle.token.proofs.digits.shifted.Statement.{statement}
 use Rattle.token.proofs.digits.shifted.Tie as tie

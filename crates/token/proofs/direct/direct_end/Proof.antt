@@ -2,7 +2,7 @@
 use mathlib.Core.Path.{refl, sym, _∙_}
 use mathlib.Core.Logic.{inl, inr}
 use native.Mathlib.Omega.{arith}
-use Rattle.token.specs.Code.{Direct}
+use Rattle.token.specs.code.Direct.{Direct}
 use borrow.Author.Needs.{needs}
 use Rattle.token.proofs.direct.direct_end.Statement.{statement}
 use Rattle.token.proofs.direct.direct_end.Tie as tie

@@ -1,6 +1,6 @@
 -- By the first byte.
 use mathlib.Core.Path.{sym, _∙_}
-use Rattle.token.proofs.DirectLaws.{counted-sign, sign-number}
+use Rattle.token.proofs.direct.Laws.{counted-sign, sign-number}
 use borrow.Author.Needs.{needs}
 use Rattle.token.proofs.direct.direct_number.Statement.{statement}
 use Rattle.token.proofs.direct.direct_number.Tie as tie

@@ -5,9 +5,10 @@ use native.Mathlib.Omega.{arith}
 use borrow.Author.Needs.{needs}
 use borrow.Author.Tests.{not-true, not-false}
 use lib.ListN.{length}
-use Rattle.chars.specs.Text.{from, afterRun}
-use Rattle.chars.specs.Code.{asciiIdChar}
-use Rattle.chars.proofs.IdRuns.{ascii-on, ascii-out, ascii-end}
+use Rattle.chars.specs.paper.Text.{from}
+use Rattle.chars.specs.computed.Runs.{afterRun}
+use Rattle.chars.specs.code.Classes.{asciiIdChar}
+use Rattle.chars.proofs.classes.IdRuns.{ascii-on, ascii-out, ascii-end}
 use Rattle.token.proofs.direct.id_end.Statement.{statement}
 use Rattle.token.proofs.direct.id_end.Tie as tie
 

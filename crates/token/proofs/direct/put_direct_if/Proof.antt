@@ -1,11 +1,11 @@
 -- Where it fits, the record is stored by the kind's number.
-use mathlib.Core.Path.{_∙_, ap, sym}
+use mathlib.Core.Path.{_∙_, ap}
 use lib.Seq.{sets}
 use native.Mathlib.Omega.{arith}
-use Rattle.token.specs.Records.{headLength}
-use Rattle.token.specs.Forms.{Known, plainForm, byForm}
-use Rattle.token.proofs.Stores.{stored-in, stored-out}
-use Rattle.token.proofs.FormLaws.{length-form, plain-known, plain-length}
+use Rattle.token.specs.paper.Records.{headLength}
+use Rattle.token.specs.code.Form.{Known, plainForm, byForm}
+use Rattle.token.proofs.form.Stores.{stored-in, stored-out}
+use Rattle.token.proofs.form.Laws.{length-form, plain-known, plain-length}
 use borrow.Author.Needs.{needs}
 use Rattle.token.proofs.direct.put_direct_if.Statement.{statement}
 use Rattle.token.proofs.direct.put_direct_if.Tie as tie

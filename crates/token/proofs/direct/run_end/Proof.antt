@@ -6,10 +6,11 @@ use native.Mathlib.Omega.{arith}
 use borrow.Author.Needs.{needs}
 use borrow.Author.Tests.{not-true, not-false}
 use lib.ListN.{length, getD}
-use Rattle.chars.specs.Text.{from, afterRun}
-use Rattle.token.specs.Tests.{freeSign}
-use Rattle.token.specs.Code.{Direct}
-use Rattle.token.proofs.DirectLaws.{no-comment, run-byte, run-more, run-over}
+use Rattle.chars.specs.paper.Text.{from}
+use Rattle.chars.specs.computed.Runs.{afterRun}
+use Rattle.token.specs.paper.Tests.{freeSign}
+use Rattle.token.specs.code.Direct.{Direct}
+use Rattle.token.proofs.direct.Laws.{no-comment, run-byte, run-more, run-over}
 use Rattle.token.proofs.direct.run_end.Statement.{statement}
 use Rattle.token.proofs.direct.run_end.Tie as tie
 

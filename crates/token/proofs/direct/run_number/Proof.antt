@@ -1,9 +1,9 @@
 -- By the keyword that was found, or none.
 use mathlib.Core.Path.{sym, ap, _∙_}
 use mathlib.Core.Option.{some, none}
-use Rattle.token.specs.Code.{pieceNumber}
-use Rattle.token.proofs.WordLaws.{key-is, key-not}
-use Rattle.token.proofs.DirectLaws.{direct-run, run-to, run-found}
+use Rattle.token.specs.code.Piece.{pieceNumber}
+use Rattle.token.proofs.ident.Words.{key-is, key-not}
+use Rattle.token.proofs.direct.Laws.{direct-run, run-to, run-found}
 use borrow.Author.Needs.{needs}
 use Rattle.token.proofs.direct.run_number.Statement.{statement}
 use Rattle.token.proofs.direct.run_number.Tie as tie

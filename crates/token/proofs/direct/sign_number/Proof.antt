@@ -1,8 +1,8 @@
 -- Each sign by its byte; any other is none of the nine.
 use mathlib.Core.Path.{sym, ap}
 use borrow.Author.Tests.{ne-eqb}
-use Rattle.token.specs.Answer.{signOf}
-use Rattle.token.specs.Code.{signNumber}
+use Rattle.token.specs.computed.Answer.{signOf}
+use Rattle.token.specs.code.Direct.{signNumber}
 use Rattle.token.proofs.direct.sign_number.Statement.{statement}
 use Rattle.token.proofs.direct.sign_number.Tie as tie
 

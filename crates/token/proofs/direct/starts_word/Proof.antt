@@ -1,9 +1,9 @@
 -- The masks are computed at every code of ASCII.
 use mathlib.Core.Path.{refl, _∙_}
-use Rattle.chars.specs.Quoted.{codes, oneOf}
-use Rattle.chars.specs.Code.{bitIn}
+use Rattle.chars.specs.paper.Quoted.{codes, oneOf}
+use Rattle.chars.specs.code.Classes.{bitIn}
 use Rattle.chars.proofs.Carry.{mask-set}
-use Rattle.token.proofs.Bytes.{ascii-list}
+use Rattle.token.proofs.cursor.Bytes.{ascii-list}
 use borrow.Author.Needs.{needs}
 use Rattle.token.proofs.direct.starts_word.Statement.{statement}
 use Rattle.token.proofs.direct.starts_word.Tie as tie

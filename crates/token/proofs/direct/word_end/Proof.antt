@@ -4,8 +4,8 @@ use mathlib.Core.Path.{refl, sym, ap, _∙_}
 use mathlib.Core.Bool.{_||_}
 use mathlib.Core.Logic.{inl, inr}
 use lib.Dec.{leb}
-use Rattle.chars.specs.Quoted.{oneOf}
-use Rattle.token.proofs.DirectLaws.{word-direct}
+use Rattle.chars.specs.paper.Quoted.{oneOf}
+use Rattle.token.proofs.direct.Laws.{word-direct}
 use borrow.Author.Needs.{needs}
 use Rattle.token.proofs.direct.word_end.Statement.{statement}
 use Rattle.token.proofs.direct.word_end.Tie as tie

@@ -3,11 +3,11 @@ use Prim.Native.Nat.{_-_}
 use mathlib.Core.Path.{refl, sym, ap, _∙_}
 use mathlib.Core.Option.{some, none}
 use borrow.Author.Tests.{not-true}
-use Rattle.chars.specs.Quoted.{codes}
-use Rattle.token.specs.Kinds.{nineWords}
-use Rattle.token.specs.Code.{pieceNumber}
-use Rattle.token.proofs.WordLaws.{key-is, key-not, word-at, first-none}
-use Rattle.token.proofs.DirectLaws.{direct-word, word-left, word-found}
+use Rattle.chars.specs.paper.Quoted.{codes}
+use Rattle.token.specs.paper.Kinds.{nineWords}
+use Rattle.token.specs.code.Piece.{pieceNumber}
+use Rattle.token.proofs.ident.Words.{key-is, key-not, word-at, first-none}
+use Rattle.token.proofs.direct.Laws.{direct-word, word-left, word-found}
 use borrow.Author.Needs.{needs}
 use Rattle.token.proofs.direct.word_number.Statement.{statement}
 use Rattle.token.proofs.direct.word_number.Tie as tie

@@ -1,7 +1,7 @@
 -- Its five stores stand one after another.
 use mathlib.Core.Path.{_∙_}
 use lib.ListN.{length-set}
-use Rattle.token.proofs.Stores.{put-fields}
+use Rattle.token.proofs.form.Stores.{put-fields}
 use borrow.Author.Needs.{needs}
 use Rattle.token.proofs.form.put_head.Statement.{statement}
 use Rattle.token.proofs.form.put_head.Tie as tie

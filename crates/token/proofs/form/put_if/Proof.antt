@@ -1,6 +1,6 @@
 -- Where it fits one record is stored, else nothing.
-use Rattle.token.proofs.Stores.{stored-in, stored-out}
-use Rattle.token.proofs.FormLaws.{length-form}
+use Rattle.token.proofs.form.Stores.{stored-in, stored-out}
+use Rattle.token.proofs.form.Laws.{length-form}
 use borrow.Author.Needs.{needs}
 use Rattle.token.proofs.form.put_if.Statement.{statement}
 use Rattle.token.proofs.form.put_if.Tie as tie

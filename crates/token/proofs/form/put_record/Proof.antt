@@ -1,6 +1,6 @@
 -- The head, then the values.
 use native.Mathlib.Omega.{arith}
-use Rattle.token.proofs.FormLaws.{known-least, put-both}
+use Rattle.token.proofs.form.Laws.{known-least, put-both}
 use borrow.Author.Needs.{needs}
 use Rattle.token.proofs.form.put_record.Statement.{statement}
 use Rattle.token.proofs.form.put_record.Tie as tie

@@ -1,5 +1,5 @@
 -- In each arm the length is known, and with it how many bytes are stored.
-use Rattle.token.proofs.FormLaws.{put-one, put-some, put-most, put-none, known-else}
+use Rattle.token.proofs.form.Laws.{put-one, put-some, put-most, put-none, known-else}
 use borrow.Author.Needs.{needs}
 use Rattle.token.proofs.form.put_values.Statement.{statement}
 use Rattle.token.proofs.form.put_values.Tie as tie

@@ -3,9 +3,9 @@ use Prim.Native.Nat.{suc, _≤_, _<_, _-_}
 use mathlib.Core.Path.{_≡_, refl, sym, ap, _∙_}
 use native.Mathlib.Omega.{arith}
 use lib.ListN.{length, getD}
-use Rattle.chars.specs.Text.{from}
-use Rattle.token.specs.Answer.{close}
-use Rattle.token.proofs.Comments.{slash-star, star-slash, block-past, block-close, block-less, block-more, block-other, block-end}
+use Rattle.chars.specs.paper.Text.{from}
+use Rattle.token.specs.computed.Answer.{close}
+use Rattle.token.proofs.gap.Laws.{slash-star, star-slash, block-past, block-close, block-less, block-more, block-other, block-end}
 use borrow.Author.Needs.{needs}
 use Rattle.token.proofs.gap.close_block.Statement.{statement}
 use Rattle.token.proofs.gap.close_block.Tie as tie

@@ -1,6 +1,6 @@
 -- By length, by the first pair, or by the three others.
 use native.Mathlib.Omega.{arith}
-use Rattle.token.proofs.Comments.{open-short, open-other, open-all}
+use Rattle.token.proofs.gap.Laws.{open-short, open-other, open-all}
 use borrow.Author.Needs.{needs}
 use Rattle.token.proofs.gap.four_open.Statement.{statement}
 use Rattle.token.proofs.gap.four_open.Tie as tie

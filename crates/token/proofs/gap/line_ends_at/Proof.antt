@@ -1,7 +1,7 @@
 use mathlib.Core.Path.{sym, _∙_}
 use native.Mathlib.Omega.{arith}
 use borrow.Author.Tests.{eq-eqb, ne-eqb}
-use Rattle.token.proofs.Comments.{ends-line, above-line}
+use Rattle.token.proofs.gap.Laws.{ends-line, above-line}
 use borrow.Author.Needs.{needs}
 use Rattle.token.proofs.gap.line_ends_at.Statement.{statement}
 use Rattle.token.proofs.gap.line_ends_at.Tie as tie

@@ -3,9 +3,9 @@ use Prim.Native.Nat.{_≤_, _-_}
 use mathlib.Core.Path.{_≡_, refl, sym, _∙_}
 use native.Mathlib.Omega.{arith}
 use lib.ListN.{length}
-use Rattle.chars.specs.Text.{from}
-use Rattle.token.specs.Answer.{close}
-use Rattle.token.proofs.Comments.{open-within, open-four}
+use Rattle.chars.specs.paper.Text.{from}
+use Rattle.token.specs.computed.Answer.{close}
+use Rattle.token.proofs.gap.Laws.{open-within, open-four}
 use borrow.Author.Needs.{needs}
 use Rattle.token.proofs.gap.pass_openings.Statement.{statement}
 use Rattle.token.proofs.gap.pass_openings.Tie as tie

@@ -7,10 +7,11 @@ use borrow.Author.Needs.{needs}
 use borrow.Author.Tests.{lt-ltb, le-ltb}
 use lib.ListN.{length}
 use lib.Dec.{ltb}
-use Rattle.chars.specs.Text.{from, afterRun}
-use Rattle.token.specs.Tests.{opSign}
-use Rattle.token.specs.Answer.{afterIdent}
-use Rattle.token.proofs.IdentLaws.{under-inside, pass-unders, pass-ids, pass-none}
+use Rattle.chars.specs.paper.Text.{from}
+use Rattle.chars.specs.computed.Runs.{afterRun}
+use Rattle.token.specs.paper.Tests.{opSign}
+use Rattle.token.specs.computed.Answer.{afterIdent}
+use Rattle.token.proofs.ident.Laws.{under-inside, pass-unders, pass-ids, pass-none}
 use Rattle.token.proofs.ident.consume_id_rest.Statement.{statement}
 use Rattle.token.proofs.ident.consume_id_rest.Tie as tie
 

@@ -5,12 +5,13 @@ use mathlib.Core.Bool.{not, _&&_, and-false}
 use native.Mathlib.Omega.{arith}
 use borrow.Author.Needs.{needs}
 use lib.ListN.{length}
-use Rattle.chars.specs.Classes.{isOpSign}
-use Rattle.chars.specs.Text.{from, afterRun}
-use Rattle.chars.proofs.Places.{next-on, run-next}
-use Rattle.token.specs.Tests.{opSign, freeSign, opensComment}
-use Rattle.token.proofs.IdentLaws.{past-same, past-other}
-use Rattle.chars.proofs.IdRuns.{run-stays}
+use Rattle.chars.specs.paper.Classes.{isOpSign}
+use Rattle.chars.specs.paper.Text.{from}
+use Rattle.chars.specs.computed.Runs.{afterRun}
+use Rattle.chars.proofs.text.Places.{next-on, run-next}
+use Rattle.token.specs.paper.Tests.{opSign, freeSign, opensComment}
+use Rattle.token.proofs.ident.Laws.{past-same, past-other}
+use Rattle.chars.proofs.classes.IdRuns.{run-stays}
 use Rattle.token.proofs.ident.consume_op_run.Statement.{statement}
 use Rattle.token.proofs.ident.consume_op_run.Tie as tie
 

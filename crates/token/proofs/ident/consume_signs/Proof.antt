@@ -4,12 +4,13 @@ use mathlib.Core.Path.{_≡_, refl, sym, ap, _∙_}
 use native.Mathlib.Omega.{arith}
 use borrow.Author.Needs.{needs}
 use lib.ListN.{length}
-use Rattle.chars.specs.Classes.{isOpSign}
-use Rattle.chars.specs.Text.{from, afterRun}
-use Rattle.chars.proofs.Places.{next-on, run-next}
-use Rattle.token.specs.Tests.{opSign}
-use Rattle.token.proofs.IdentLaws.{past-same, past-other}
-use Rattle.chars.proofs.IdRuns.{run-stays}
+use Rattle.chars.specs.paper.Classes.{isOpSign}
+use Rattle.chars.specs.paper.Text.{from}
+use Rattle.chars.specs.computed.Runs.{afterRun}
+use Rattle.chars.proofs.text.Places.{next-on, run-next}
+use Rattle.token.specs.paper.Tests.{opSign}
+use Rattle.token.proofs.ident.Laws.{past-same, past-other}
+use Rattle.chars.proofs.classes.IdRuns.{run-stays}
 use Rattle.token.proofs.ident.consume_signs.Statement.{statement}
 use Rattle.token.proofs.ident.consume_signs.Tie as tie
 

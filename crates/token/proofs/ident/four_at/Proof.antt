@@ -3,8 +3,8 @@ use mathlib.Core.Path.{sym, ap, _∙_}
 use mathlib.Core.Bool.{_&&_}
 use mathlib.Core.List.{[], _∷_}
 use Prim.Native.Nat.{_+_}
-use Rattle.token.specs.Code.{standsAt}
-use Rattle.token.proofs.WordLaws.{two-stand, four-stand}
+use Rattle.token.specs.code.Ident.{standsAt}
+use Rattle.token.proofs.ident.Words.{two-stand, four-stand}
 use borrow.Author.Needs.{needs}
 use Rattle.token.proofs.ident.four_at.Statement.{statement}
 use Rattle.token.proofs.ident.four_at.Tie as tie

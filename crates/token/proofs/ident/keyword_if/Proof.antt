@@ -1,5 +1,5 @@
 -- Either way by the definition.
-use Rattle.token.specs.Code.{keywordOf}
+use Rattle.token.specs.code.Ident.{keywordOf}
 use Rattle.token.proofs.ident.keyword_if.Statement.{statement}
 use Rattle.token.proofs.ident.keyword_if.Tie as tie
 

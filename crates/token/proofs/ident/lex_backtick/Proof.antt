@@ -4,10 +4,11 @@ use mathlib.Core.Path.{_≡_, refl, sym, ap, _∙_}
 use native.Mathlib.Omega.{arith}
 use borrow.Author.Needs.{needs}
 use lib.ListN.{length}
-use Rattle.chars.specs.Text.{from, afterRun}
-use Rattle.token.specs.Tests.{notBacktick}
-use Rattle.token.specs.Code.{pieceOf}
-use Rattle.token.proofs.IdentLaws.{refused-at, tick-inside, tick-empty, tick-open, tick-closed, tick-on, tick-off, tick-end}
+use Rattle.chars.specs.paper.Text.{from}
+use Rattle.chars.specs.computed.Runs.{afterRun}
+use Rattle.token.specs.paper.Tests.{notBacktick}
+use Rattle.token.specs.code.Piece.{pieceOf}
+use Rattle.token.proofs.ident.Laws.{refused-at, tick-inside, tick-empty, tick-open, tick-closed, tick-on, tick-off, tick-end}
 use Rattle.token.proofs.ident.lex_backtick.Statement.{statement}
 use Rattle.token.proofs.ident.lex_backtick.Tie as tie
 

@@ -1,9 +1,9 @@
 -- Each opening by its two bytes.
 use mathlib.Core.Path.{sym, ap, _∙_}
 use mathlib.Core.Bool.{_||_}
-use Rattle.token.specs.Tests.{begins}
-use Rattle.chars.specs.Text.{from}
-use Rattle.token.proofs.Comments.{opens-line, opens-block}
+use Rattle.token.specs.paper.Tests.{begins}
+use Rattle.chars.specs.paper.Text.{from}
+use Rattle.token.proofs.gap.Laws.{opens-line, opens-block}
 use borrow.Author.Needs.{needs}
 use Rattle.token.proofs.ident.opens_comment.Statement.{statement}
 use Rattle.token.proofs.ident.opens_comment.Tie as tie

@@ -2,9 +2,9 @@
 use mathlib.Core.Path.{refl, sym, ap, _∙_}
 use lib.ListN.{length}
 use borrow.Author.Tests.{eq-eqb, ne-eqb}
-use Rattle.chars.specs.Text.{from}
-use Rattle.token.specs.Code.{pieceOf}
-use Rattle.token.proofs.IdentLaws.{quote-byte, token-at, is-prefixed, not-prefixed}
+use Rattle.chars.specs.paper.Text.{from}
+use Rattle.token.specs.code.Piece.{pieceOf}
+use Rattle.token.proofs.ident.Laws.{quote-byte, token-at, is-prefixed, not-prefixed}
 use borrow.Author.Needs.{needs}
 use Rattle.token.proofs.ident.or_prefixed.Statement.{statement}
 use Rattle.token.proofs.ident.or_prefixed.Tie as tie

@@ -2,10 +2,10 @@
 use Prim.Native.Nat.{_+_}
 use mathlib.Core.Path.{sym, ap, _∙_}
 use native.Mathlib.Omega.{arith}
-use Rattle.chars.specs.Classes.{isOpSign}
-use Rattle.chars.proofs.Places.{ascii-next}
-use Rattle.chars.proofs.ClassLaws.{nul-no-sign, sign-byte}
-use Rattle.token.proofs.IdentLaws.{head-inside, head-low, past-on, past-off}
+use Rattle.chars.specs.paper.Classes.{isOpSign}
+use Rattle.chars.proofs.text.Places.{ascii-next}
+use Rattle.chars.proofs.classes.Laws.{nul-no-sign, sign-byte}
+use Rattle.token.proofs.ident.Laws.{head-inside, head-low, past-on, past-off}
 use borrow.Author.Needs.{needs}
 use Rattle.token.proofs.ident.sign_end.Statement.{statement}
 use Rattle.token.proofs.ident.sign_end.Tie as tie

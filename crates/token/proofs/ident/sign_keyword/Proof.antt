@@ -2,10 +2,10 @@
 use mathlib.Core.Path.{_≡_, refl, sym, ap, _∙_}
 use mathlib.Core.Bool.{false}
 use borrow.Author.Tests.{ne-eqb}
-use Rattle.chars.specs.Quoted.{codes, oneOf}
-use Rattle.token.specs.Kinds.{fiveRuns}
-use Rattle.token.specs.Code.{keywordOf}
-use Rattle.token.proofs.WordLaws.{one-sign, first-none}
+use Rattle.chars.specs.paper.Quoted.{codes, oneOf}
+use Rattle.token.specs.paper.Kinds.{fiveRuns}
+use Rattle.token.specs.code.Ident.{keywordOf}
+use Rattle.token.proofs.ident.Words.{one-sign, first-none}
 use borrow.Author.Needs.{needs}
 use Rattle.token.proofs.ident.sign_keyword.Statement.{statement}
 use Rattle.token.proofs.ident.sign_keyword.Tie as tie

@@ -1,6 +1,6 @@
 -- One run, and no underscore behind it: nothing more; else the chunks from its end on.
 use mathlib.Core.Path.{_∙_}
-use Rattle.token.proofs.IdentLaws.{pass-run, pass-all}
+use Rattle.token.proofs.ident.Laws.{pass-run, pass-all}
 use borrow.Author.Needs.{needs}
 use Rattle.token.proofs.ident.skip_id_rest.Statement.{statement}
 use Rattle.token.proofs.ident.skip_id_rest.Tie as tie

@@ -1,9 +1,9 @@
 -- By the character, if one stands there.
 use mathlib.Core.Path.{sym, ap, _∙_}
-use Rattle.chars.specs.Classes.{isOpSign}
-use Rattle.chars.specs.Text.{head}
-use Rattle.chars.proofs.Places.{at-end, head-at, step-text, step-none}
-use Rattle.token.proofs.IdentLaws.{past-on, past-off}
+use Rattle.chars.specs.paper.Classes.{isOpSign}
+use Rattle.chars.specs.paper.Text.{head}
+use Rattle.chars.proofs.text.Places.{at-end, head-at, step-text, step-none}
+use Rattle.token.proofs.ident.Laws.{past-on, past-off}
 use borrow.Author.Needs.{needs}
 use Rattle.token.proofs.ident.wide_sign_end.Statement.{statement}
 use Rattle.token.proofs.ident.wide_sign_end.Tie as tie

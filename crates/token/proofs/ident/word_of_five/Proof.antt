@@ -4,9 +4,9 @@ use mathlib.Core.Bool.{false, cond}
 use mathlib.Core.List.{[], _∷_}
 use mathlib.Core.Option.{some, none}
 use borrow.Author.Tests.{ne-eqb}
-use Rattle.chars.specs.Quoted.{member}
-use Rattle.token.specs.Code.{keywordOf}
-use Rattle.token.proofs.WordLaws.{five-e, five-h, five-none}
+use Rattle.chars.specs.paper.Quoted.{member}
+use Rattle.token.specs.code.Ident.{keywordOf}
+use Rattle.token.proofs.ident.Words.{five-e, five-h, five-none}
 use Rattle.token.specs.declared.kinds.Kw.the-variants as kw
 use borrow.Author.Needs.{needs}
 use Rattle.token.proofs.ident.word_of_five.Statement.{statement}

@@ -1,7 +1,7 @@
 -- The four words one by one.
 use mathlib.Core.Path.{sym, ap, _∙_}
-use Rattle.token.specs.Code.{keywordOf}
-use Rattle.token.proofs.WordLaws.{of-four}
+use Rattle.token.specs.code.Ident.{keywordOf}
+use Rattle.token.proofs.ident.Words.{of-four}
 use borrow.Author.Needs.{needs}
 use Rattle.token.proofs.ident.word_of_four.Statement.{statement}
 use Rattle.token.proofs.ident.word_of_four.Tie as tie

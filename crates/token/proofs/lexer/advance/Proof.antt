@@ -4,12 +4,12 @@ use mathlib.Core.Path.{_≡_, refl, sym, ap, _∙_}
 use native.Mathlib.Omega.{arith}
 use borrow.Author.Tests.{not-true, not-false}
 use lib.ListN.{length}
-use Rattle.chars.specs.Text.{from}
-use Rattle.token.specs.Tests.{isAny}
-use Rattle.token.specs.Seek.{seek, nextOf}
+use Rattle.chars.specs.paper.Text.{from}
+use Rattle.token.specs.paper.Tests.{isAny}
+use Rattle.token.specs.code.Lexer.{seek, nextOf}
 use Rattle.token.specs.declared.lexer.Next.the-variants as next
-use Rattle.token.proofs.Seeks.{seek-blanks, blanks-done, seek-none}
-use Rattle.token.proofs.Lexes.{pass-on, pass-none}
+use Rattle.token.proofs.lexer.Seeks.{seek-blanks, blanks-done, seek-none}
+use Rattle.token.proofs.lexer.Laws.{pass-on, pass-none}
 use borrow.Author.Needs.{needs}
 use Rattle.token.proofs.lexer.advance.Statement.{statement}
 use Rattle.token.proofs.lexer.advance.Tie as tie

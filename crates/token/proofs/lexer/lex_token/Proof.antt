@@ -1,17 +1,14 @@
 use mathlib.Core.Path.{_≡_, refl, sym, _∙_, ap}
-use mathlib.Core.Bool.{true, false}
-use mathlib.Core.List.{[], _∷_}
+use mathlib.Core.Bool.{false}
 use native.Mathlib.Omega.{arith}
 use borrow.Author.Tests.{eq-eqb, ne-eqb}
-use Prim.Native.Nat.{_≤_, _<_}
 use mathlib.Core.Logic.{⊎-elim}
 use lib.ListN.{length, getD}
-use Rattle.chars.specs.Quoted.{oneOf}
-use Rattle.token.specs.Tests.{begins, isDigit}
-use Rattle.token.specs.Answer.{signOf}
-use Rattle.token.specs.Code.{pieceOf}
-use Rattle.token.proofs.Bytes.{any-byte, one-byte}
-use Rattle.token.proofs.Lexes.{sign-at, number-at, backtick-at, string-at, charsym-at, wordless-none, keyed, no-digit-byte, is-digit-byte}
+use Rattle.token.specs.paper.Tests.{begins, isDigit}
+use Rattle.token.specs.computed.Answer.{signOf}
+use Rattle.token.specs.code.Piece.{pieceOf}
+use Rattle.token.proofs.cursor.Bytes.{any-byte, one-byte}
+use Rattle.token.proofs.lexer.Laws.{sign-at, number-at, backtick-at, string-at, charsym-at, wordless-none, keyed, no-digit-byte, is-digit-byte}
 use borrow.Author.Needs.{needs}
 use Rattle.token.proofs.lexer.lex_token.Statement.{statement}
 use Rattle.token.proofs.lexer.lex_token.Tie as tie

@@ -1,14 +1,14 @@
 use mathlib.Core.Path.{sym, _∙_, ap}
 use native.Mathlib.Omega.{arith}
 use lib.ListN.{length}
-use Rattle.chars.specs.Classes.{isIdStart, isOpSign}
-use Rattle.chars.specs.Text.{from, head}
-use Rattle.chars.proofs.Places.{place-from}
-use Rattle.chars.proofs.Russian.{russian}
-use Rattle.token.specs.Code.{pieceOf}
+use Rattle.chars.specs.paper.Classes.{isIdStart, isOpSign}
+use Rattle.chars.specs.paper.Text.{from, head}
+use Rattle.chars.proofs.text.Places.{place-from}
+use Rattle.chars.proofs.classes.Russian.{russian}
+use Rattle.token.specs.code.Piece.{pieceOf}
 use Rattle.token.specs.declared.piece.Piece.the-variants as piece
-use Rattle.token.proofs.Cursors.{peeked-char, peeked-end}
-use Rattle.token.proofs.Lexes.{word-at, operator-at, other-at}
+use Rattle.token.proofs.cursor.Laws.{peeked-char, peeked-end}
+use Rattle.token.proofs.lexer.Laws.{word-at, operator-at, other-at}
 use borrow.Author.Needs.{needs}
 use Rattle.token.proofs.lexer.lex_wide_word.Statement.{statement}
 use Rattle.token.proofs.lexer.lex_wide_word.Tie as tie

@@ -1,15 +1,14 @@
 -- By the byte that stands there, past ASCII by the character.
-use mathlib.Core.Path.{_≡_, sym, _∙_, ap}
-use mathlib.Core.Bool.{true, false}
+use mathlib.Core.Path.{sym, _∙_, ap}
 use native.Mathlib.Omega.{arith}
 use lib.ListN.{length}
-use Rattle.chars.specs.Classes.{isIdStart, isOpSign}
-use Rattle.chars.specs.Text.{from, head}
-use Rattle.chars.proofs.ClassLaws.{sign-byte}
-use Rattle.chars.proofs.Places.{place-from}
-use Rattle.token.specs.Code.{pieceOf}
+use Rattle.chars.specs.paper.Classes.{isOpSign}
+use Rattle.chars.specs.paper.Text.{from}
+use Rattle.chars.proofs.classes.Laws.{sign-byte}
+use Rattle.chars.proofs.text.Places.{place-from}
+use Rattle.token.specs.code.Piece.{pieceOf}
 use Rattle.token.specs.declared.piece.Piece.the-variants as piece
-use Rattle.token.proofs.Lexes.{word-at, operator-at, other-at, ascii-head, ascii-start, ascii-no-start}
+use Rattle.token.proofs.lexer.Laws.{word-at, operator-at, other-at, ascii-head, ascii-start, ascii-no-start}
 use borrow.Author.Needs.{needs}
 use Rattle.token.proofs.lexer.lex_word.Statement.{statement}
 use Rattle.token.proofs.lexer.lex_word.Tie as tie

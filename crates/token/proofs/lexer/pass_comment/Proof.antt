@@ -1,10 +1,8 @@
-use mathlib.Core.Path.{_≡_, refl, sym, _∙_, ap}
-use mathlib.Core.Bool.{true, false}
+use mathlib.Core.Path.{sym, _∙_}
 use native.Mathlib.Omega.{arith}
-use Rattle.chars.specs.Text.{from}
-use Rattle.token.specs.declared.lexer.Passed.the-variants as passed
-use Rattle.token.proofs.Comments.{opens-line}
-use Rattle.token.proofs.Lexes.{block-opens, pass-line, pass-block, pass-open}
+use Rattle.chars.specs.paper.Text.{from}
+use Rattle.token.proofs.gap.Laws.{opens-line}
+use Rattle.token.proofs.lexer.Laws.{block-opens, pass-line, pass-block, pass-open}
 use borrow.Author.Needs.{needs}
 use Rattle.token.proofs.lexer.pass_comment.Statement.{statement}
 use Rattle.token.proofs.lexer.pass_comment.Tie as tie

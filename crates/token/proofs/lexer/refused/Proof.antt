@@ -1,5 +1,5 @@
-use mathlib.Core.Path.{_≡_, sym, _∙_, ap}
-use Rattle.token.specs.Seek.{refusedOf}
+use mathlib.Core.Path.{sym, ap}
+use Rattle.token.specs.code.Lexer.{refusedOf}
 use borrow.Author.Needs.{needs}
 use Rattle.token.proofs.lexer.refused.Statement.{statement}
 use Rattle.token.proofs.lexer.refused.Tie as tie

@@ -1,13 +1,12 @@
-use mathlib.Core.Path.{_≡_, sym, _∙_, ap}
-use mathlib.Core.Bool.{false}
+use mathlib.Core.Path.{sym, _∙_, ap}
 use native.Mathlib.Omega.{arith}
 use Prim.Native.Nat.{_+_}
-use Rattle.token.specs.Code.{cursorAt}
+use Rattle.token.specs.code.Cursor.{cursorAt}
 use Rattle.token.specs.declared.lexer.Next.the-variants as next
-use Rattle.token.specs.Tests.{begins}
-use Rattle.token.proofs.Bytes.{two-bytes}
-use Rattle.token.proofs.Comments.{pair-at}
-use Rattle.token.proofs.Lexes.{next-crlf, next-cr}
+use Rattle.token.specs.paper.Tests.{begins}
+use Rattle.token.proofs.cursor.Bytes.{two-bytes}
+use Rattle.token.proofs.gap.Laws.{pair-at}
+use Rattle.token.proofs.lexer.Laws.{next-crlf, next-cr}
 use borrow.Author.Needs.{needs}
 use Rattle.token.proofs.lexer.return_at.Statement.{statement}
 use Rattle.token.proofs.lexer.return_at.Tie as tie

@@ -1,10 +1,9 @@
-use mathlib.Core.Path.{_≡_, refl, sym, _∙_, ap}
-use native.Mathlib.Omega.{arith}
+use mathlib.Core.Path.{refl, _∙_, ap}
 use Prim.Native.Nat.{_+_}
-use Rattle.token.specs.Code.{cursorAt}
+use Rattle.token.specs.code.Cursor.{cursorAt}
 use Rattle.token.specs.declared.lexer.Next.the-variants as next
-use Rattle.token.proofs.Bytes.{any-byte}
-use Rattle.token.proofs.Lexes.{next-lf, no-line-end}
+use Rattle.token.proofs.cursor.Bytes.{any-byte}
+use Rattle.token.proofs.lexer.Laws.{next-lf, no-line-end}
 use borrow.Author.Needs.{needs}
 use Rattle.token.proofs.lexer.stop_at.Statement.{statement}
 use Rattle.token.proofs.lexer.stop_at.Tie as tie

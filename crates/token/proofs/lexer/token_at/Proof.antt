@@ -1,8 +1,6 @@
-use mathlib.Core.Path.{_≡_, sym, _∙_, ap}
-use native.Mathlib.Omega.{arith}
-use Rattle.token.specs.Seek.{refusedOf}
-use Rattle.token.specs.declared.lexer.Next.the-variants as next
-use Rattle.token.proofs.Lexes.{next-token, next-refused}
+use mathlib.Core.Path.{sym, _∙_, ap}
+use Rattle.token.specs.code.Lexer.{refusedOf}
+use Rattle.token.proofs.lexer.Laws.{next-token, next-refused}
 use borrow.Author.Needs.{needs}
 use Rattle.token.proofs.lexer.token_at.Statement.{statement}
 use Rattle.token.proofs.lexer.token_at.Tie as tie

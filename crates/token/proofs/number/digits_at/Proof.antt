@@ -3,9 +3,9 @@ use mathlib.Core.Path.{refl, sym, ap, _∙_}
 use mathlib.Core.Logic.{inl, inr}
 use native.Mathlib.Omega.{arith}
 use borrow.Author.Needs.{needs}
-use Rattle.chars.specs.Text.{from}
-use Rattle.token.specs.Answer.{numberOf}
-use Rattle.token.proofs.DigitRuns.{hex-text, hex-number, dec-number}
+use Rattle.chars.specs.paper.Text.{from}
+use Rattle.token.specs.computed.Answer.{numberOf}
+use Rattle.token.proofs.digits.Laws.{hex-text, hex-number, dec-number}
 use Rattle.token.proofs.number.digits_at.Statement.{statement}
 use Rattle.token.proofs.number.digits_at.Tie as tie
 

@@ -1,7 +1,7 @@
 -- `number::int_told`: Too large is the test that the definition makes. Nothing is told where the end is the start.
 use native.Mathlib.Omega.{arith}
 use borrow.Author.Tests.{le-leb}
-use Rattle.token.specs.Code.{intOr}
+use Rattle.token.specs.code.Digits.{intOr}
 use Rattle.token.proofs.number.int_told.Statement.{statement}
 use Rattle.token.proofs.number.int_told.Tie as tie
 

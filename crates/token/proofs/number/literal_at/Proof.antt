@@ -4,9 +4,10 @@ use mathlib.Core.Logic.{inl}
 use native.Mathlib.Omega.{arith}
 use borrow.Author.Needs.{needs}
 use lib.ListN.{length, getD}
-use Rattle.token.specs.Code.{pieceOf, digitIn, digitOf}
-use Rattle.token.proofs.DigitRuns.{digits-ascii, class-at, digit-taken}
-use Rattle.token.proofs.Lexes.{number-at}
+use Rattle.token.specs.code.Piece.{pieceOf}
+use Rattle.token.specs.code.Digits.{digitIn, digitOf}
+use Rattle.token.proofs.digits.Laws.{digits-ascii, class-at, digit-taken}
+use Rattle.token.proofs.lexer.Laws.{number-at}
 use Rattle.token.proofs.number.literal_at.Statement.{statement}
 use Rattle.token.proofs.number.literal_at.Tie as tie
 

@@ -4,10 +4,10 @@ use mathlib.Core.Path.{_≡_, refl, ap, _∙_}
 use native.Mathlib.Omega.{arith}
 use borrow.Author.Needs.{needs}
 use lib.ListN.{length, getD}
-use Rattle.chars.specs.Text.{from}
-use Rattle.token.specs.Answer.{readDigits}
-use Rattle.token.specs.Code.{digitIn}
-use Rattle.token.proofs.DigitRuns.{digits-ascii, digit-value, digit-taken, digit-stops, base-lies, read-next, read-stop, read-done, safe}
+use Rattle.chars.specs.paper.Text.{from}
+use Rattle.token.specs.computed.Answer.{readDigits}
+use Rattle.token.specs.code.Digits.{digitIn}
+use Rattle.token.proofs.digits.Laws.{digits-ascii, digit-value, digit-taken, digit-stops, base-lies, read-next, read-stop, read-done, safe}
 use Rattle.token.proofs.number.run_of.Statement.{statement}
 use Rattle.token.proofs.number.run_of.Tie as tie
 

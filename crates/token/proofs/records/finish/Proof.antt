@@ -2,8 +2,8 @@
 use mathlib.Core.Path.{_∙_, ap}
 use native.Mathlib.Omega.{arith}
 use borrow.Author.Needs.{needs}
-use Rattle.token.specs.Measure.{storedIf, eofAt}
-use Rattle.token.proofs.FormLaws.{plain-known, plain-length, record-by, eof-form}
+use Rattle.token.specs.code.Records.{storedIf, eofAt}
+use Rattle.token.proofs.form.Laws.{plain-known, plain-length, record-by, eof-form}
 use Rattle.token.proofs.records.finish.Statement.{statement}
 use Rattle.token.proofs.records.finish.Tie as tie
 

@@ -1,6 +1,6 @@
 -- One walk, with the table lent.
 use mathlib.Core.Path.{refl}
-use Rattle.token.proofs.ClassTable.{classes}
+use Rattle.token.proofs.class_table.Laws.{classes}
 use borrow.Author.Needs.{needs}
 use Rattle.token.proofs.records.measure.Statement.{statement}
 use Rattle.token.proofs.records.measure.Tie as tie

@@ -3,11 +3,11 @@ use mathlib.Core.Path.{sym, _∙_, ap}
 use mathlib.Core.Bool.{cond}
 use native.Mathlib.Omega.{arith}
 use borrow.Author.Needs.{needs}
-use Rattle.token.specs.Records.{recordOf}
-use Rattle.token.specs.Measure.{storedIf, intAt, longAt}
+use Rattle.token.specs.paper.Records.{recordOf}
+use Rattle.token.specs.code.Records.{storedIf, intAt, longAt}
 use Rattle.token.specs.declared.kinds.TokenKind.the-variants as tk
-use Rattle.token.proofs.FormLaws.{known-by, length-by, record-by}
-use Rattle.token.proofs.Measures.{int-length, long-length}
+use Rattle.token.proofs.form.Laws.{known-by, length-by, record-by}
+use Rattle.token.proofs.records.Measures.{int-length, long-length}
 use Rattle.token.proofs.records.put_number_if.Statement.{statement}
 use Rattle.token.proofs.records.put_number_if.Tie as tie
 

@@ -4,13 +4,13 @@ use mathlib.Core.Path.{sym, ap, _∙_}
 use native.Mathlib.Omega.{arith}
 use lib.ListN.{length}
 use borrow.Author.Needs.{needs}
-use Rattle.token.specs.Records.{headLength, lineLength}
-use Rattle.token.specs.Measure.{storedIf, lineEndAt, Reaches}
-use Rattle.token.specs.Code.{literalKind}
-use Rattle.token.proofs.DirectLaws.{direct-of, direct-inside, direct-turn, line-turn}
-use Rattle.token.proofs.FormLaws.{length-by, record-by, known-by}
-use Rattle.token.proofs.Measures.{newline-length, record-most}
-use Rattle.token.proofs.Reach.{reach-start, reach-blanks, reach-turn, literal-length, found-turn}
+use Rattle.token.specs.paper.Records.{headLength, lineLength}
+use Rattle.token.specs.code.Records.{storedIf, lineEndAt, Reaches}
+use Rattle.token.specs.code.Number.{literalKind}
+use Rattle.token.proofs.direct.Laws.{direct-of, direct-inside, direct-turn, line-turn}
+use Rattle.token.proofs.form.Laws.{length-by, record-by, known-by}
+use Rattle.token.proofs.records.Measures.{newline-length, record-most}
+use Rattle.token.proofs.records.Reach.{reach-start, reach-blanks, reach-turn, literal-length, found-turn}
 use Rattle.token.proofs.records.walk_direct.Statement.{statement}
 use Rattle.token.proofs.records.walk_direct.Tie as tie
 

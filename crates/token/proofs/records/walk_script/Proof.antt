@@ -5,12 +5,12 @@ use native.Mathlib.Omega.{arith}
 use lib.ListN.{length}
 use lib.Seq.{sets}
 use borrow.Author.Needs.{needs}
-use Rattle.token.specs.Records.{headLength, lineLength, records}
-use Rattle.token.specs.Measure.{storedIf, measuredOf, tokensIn, Reaches}
-use Rattle.token.proofs.FormLaws.{length-by, record-by, known-by}
-use Rattle.token.proofs.Turns.{turn-token, turn-line, turn-end, turn-stop}
-use Rattle.token.proofs.Measures.{record-most, newline-length, eof-length, starts-answer, writing-start}
-use Rattle.token.proofs.Reach.{reach-start, reach-trans, reach-turn, reach-end, reach-stored, reach-stop, reach-refused}
+use Rattle.token.specs.paper.Records.{headLength, lineLength, records}
+use Rattle.token.specs.code.Records.{storedIf, measuredOf, tokensIn, Reaches}
+use Rattle.token.proofs.form.Laws.{length-by, record-by, known-by}
+use Rattle.token.proofs.lexer.Turns.{turn-token, turn-line, turn-end, turn-stop}
+use Rattle.token.proofs.records.Measures.{record-most, newline-length, eof-length, starts-answer, writing-start}
+use Rattle.token.proofs.records.Reach.{reach-start, reach-trans, reach-turn, reach-end, reach-stored, reach-stop, reach-refused}
 use Rattle.token.proofs.records.walk_script.Statement.{statement}
 use Rattle.token.proofs.records.walk_script.Tie as tie
 

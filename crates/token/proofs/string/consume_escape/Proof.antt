@@ -7,10 +7,10 @@ use native.Mathlib.Omega.{arith}
 use borrow.Author.Tests.{ltb-true, le-leb, lt-leb}
 use lib.ListN.{getD}
 use lib.Dec.{ltb}
-use Rattle.chars.specs.Quoted.{codes, member, oneOf}
+use Rattle.chars.specs.paper.Quoted.{codes, member, oneOf}
 use Rattle.chars.proofs.Carry.{carry, no-member, each, hits, misses}
-use Rattle.token.specs.Tests.{isDigit}
-use Rattle.token.proofs.EscapeLaws.{escape-end, escape-simple, escape-digits, escape-hexes, escape-other}
+use Rattle.token.specs.paper.Tests.{isDigit}
+use Rattle.token.proofs.string.Escapes.{escape-end, escape-simple, escape-digits, escape-hexes, escape-other}
 use borrow.Author.Needs.{needs}
 use Rattle.token.proofs.string.consume_escape.Statement.{statement}
 use Rattle.token.proofs.string.consume_escape.Tie as tie

@@ -1,5 +1,5 @@
 -- Four digits were read exactly where the cursor is four bytes on.
-use Rattle.token.proofs.EscapeLaws.{hexes-short, hexes-full}
+use Rattle.token.proofs.string.Escapes.{hexes-short, hexes-full}
 use borrow.Author.Needs.{needs}
 use Rattle.token.proofs.string.consume_hexes.Statement.{statement}
 use Rattle.token.proofs.string.consume_hexes.Tie as tie

@@ -1,5 +1,5 @@
 use mathlib.Core.Path.{sym, _∙_}
-use Rattle.token.proofs.StringLaws.{dollar-brace, dollar-alone}
+use Rattle.token.proofs.string.Laws.{dollar-brace, dollar-alone}
 use borrow.Author.Needs.{needs}
 use Rattle.token.proofs.string.consume_interp_dollar.Statement.{statement}
 use Rattle.token.proofs.string.consume_interp_dollar.Tie as tie

@@ -3,9 +3,10 @@ use Prim.Native.Nat.{_≤_, _-_}
 use mathlib.Core.Path.{_≡_, refl, _∙_}
 use native.Mathlib.Omega.{arith}
 use lib.ListN.{length}
-use Rattle.chars.specs.Text.{from, afterRun}
-use Rattle.token.specs.Tests.{quote}
-use Rattle.token.proofs.StringLaws.{quotes-next, quotes-stop, quotes-end, quotes-past}
+use Rattle.chars.specs.paper.Text.{from}
+use Rattle.chars.specs.computed.Runs.{afterRun}
+use Rattle.token.specs.paper.Tests.{quote}
+use Rattle.token.proofs.string.Laws.{quotes-next, quotes-stop, quotes-end, quotes-past}
 use borrow.Author.Needs.{needs}
 use Rattle.token.proofs.string.consume_quotes.Statement.{statement}
 use Rattle.token.proofs.string.consume_quotes.Tie as tie

@@ -3,7 +3,7 @@ use Prim.Native.Nat.{_+_}
 use mathlib.Core.Path.{sym, _∙_}
 use native.Mathlib.Omega.{arith}
 use borrow.Author.Tests.{le-leb, lt-leb}
-use Rattle.token.specs.Code.{eightsOff}
+use Rattle.token.specs.code.String.{eightsOff}
 use borrow.Author.Needs.{needs}
 use Rattle.token.proofs.string.eights_off.Statement.{statement}
 use Rattle.token.proofs.string.eights_off.Tie as tie

@@ -1,9 +1,9 @@
 use mathlib.Core.Path.{refl, sym, ap}
 use mathlib.Core.Bool.{not}
 use native.Mathlib.Omega.{arith}
-use Rattle.chars.specs.Quoted.{codes}
+use Rattle.chars.specs.paper.Quoted.{codes}
 use Rattle.chars.proofs.Carry.{each, hits, misses}
-use Rattle.token.specs.Code.{isOrdinary}
+use Rattle.token.specs.code.String.{isOrdinary}
 use Rattle.token.proofs.string.is_ordinary.Statement.{statement}
 use Rattle.token.proofs.string.is_ordinary.Tie as tie
 

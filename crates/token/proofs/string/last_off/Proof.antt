@@ -1,4 +1,4 @@
-use Rattle.token.proofs.StripLaws.{off-none, off-quote, off-other}
+use Rattle.token.proofs.string.Strips.{off-none, off-quote, off-other}
 use borrow.Author.Needs.{needs}
 use Rattle.token.proofs.string.last_off.Statement.{statement}
 use Rattle.token.proofs.string.last_off.Tie as tie

@@ -1,6 +1,6 @@
 use mathlib.Core.Path.{sym, _∙_}
 use lib.ListN.{length}
-use Rattle.token.proofs.StringLaws.{plain-end, plain-refused, plain-ended}
+use Rattle.token.proofs.string.Laws.{plain-end, plain-refused, plain-ended}
 use borrow.Author.Needs.{needs}
 use Rattle.token.proofs.string.lex_plain_string.Statement.{statement}
 use Rattle.token.proofs.string.lex_plain_string.Tie as tie

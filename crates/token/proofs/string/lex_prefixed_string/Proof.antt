@@ -1,8 +1,8 @@
 use mathlib.Core.Path.{sym, _∙_}
 use native.Mathlib.Omega.{arith}
 use lib.ListN.{length}
-use Rattle.chars.proofs.Places.{place-from}
-use Rattle.token.proofs.StringLaws.{prefixed-refused, prefixed-ended}
+use Rattle.chars.proofs.text.Places.{place-from}
+use Rattle.token.proofs.string.Laws.{prefixed-refused, prefixed-ended}
 use borrow.Author.Needs.{needs}
 use Rattle.token.proofs.string.lex_prefixed_string.Statement.{statement}
 use Rattle.token.proofs.string.lex_prefixed_string.Tie as tie

@@ -5,10 +5,10 @@ use native.Mathlib.Omega.{arith}
 use borrow.Author.Needs.{needs}
 use borrow.Author.Tests.{ne-eqb}
 use lib.ListN.{length, getD}
-use Rattle.chars.specs.Text.{from}
-use Rattle.token.specs.Shapes.{singleChar}
-use Rattle.token.specs.Code.{inSingle}
-use Rattle.token.proofs.StringLaws.{quote-byte, quote-in, walk-skip, single-begun, singles, went-on, went-wrong, single-closes, single-open}
+use Rattle.chars.specs.paper.Text.{from}
+use Rattle.token.specs.paper.Shapes.{singleChar}
+use Rattle.token.specs.code.String.{inSingle}
+use Rattle.token.proofs.string.Laws.{quote-byte, quote-in, walk-skip, single-begun, singles, went-on, went-wrong, single-closes, single-open}
 use Rattle.token.proofs.string.lex_single_string.Statement.{statement}
 use Rattle.token.proofs.string.lex_single_string.Tie as tie
 

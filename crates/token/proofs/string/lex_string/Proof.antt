@@ -1,9 +1,9 @@
 use mathlib.Core.Path.{sym, _∙_, ap}
 use lib.ListN.{length, drop}
-use Rattle.chars.specs.Text.{from}
-use Rattle.token.specs.Code.{endedOf}
-use Rattle.token.proofs.Strings.{in-single, in-triple}
-use Rattle.token.proofs.StringLaws.{single-same}
+use Rattle.chars.specs.paper.Text.{from}
+use Rattle.token.specs.code.String.{endedOf}
+use Rattle.token.proofs.theorems.Strings.{in-single, in-triple}
+use Rattle.token.proofs.string.Laws.{single-same}
 use borrow.Author.Needs.{needs}
 use Rattle.token.proofs.string.lex_string.Statement.{statement}
 use Rattle.token.proofs.string.lex_string.Tie as tie

@@ -4,10 +4,10 @@ use mathlib.Core.Path.{_≡_, refl, sym, _∙_}
 use native.Mathlib.Omega.{arith}
 use borrow.Author.Needs.{needs}
 use lib.ListN.{length}
-use Rattle.chars.specs.Text.{from}
-use Rattle.token.specs.Shapes.{tripleChar}
-use Rattle.token.specs.Answer.{inTriple}
-use Rattle.token.proofs.StringLaws.{three-in, walk-skip, triple-begun, triples, went-on, went-wrong, triple-closes, triple-open}
+use Rattle.chars.specs.paper.Text.{from}
+use Rattle.token.specs.paper.Shapes.{tripleChar}
+use Rattle.token.specs.computed.Answer.{inTriple}
+use Rattle.token.proofs.string.Laws.{three-in, walk-skip, triple-begun, triples, went-on, went-wrong, triple-closes, triple-open}
 use Rattle.token.proofs.string.lex_triple_string.Statement.{statement}
 use Rattle.token.proofs.string.lex_triple_string.Tie as tie
 

@@ -1,7 +1,7 @@
 use mathlib.Core.Path.{refl, _∙_, ap}
-use Rattle.chars.specs.Quoted.{oneOf}
-use Rattle.token.proofs.Bytes.{any-byte}
-use Rattle.token.proofs.StringLaws.{single-newline, single-dollar, single-lone, single-slash, single-escape, single-other}
+use Rattle.chars.specs.paper.Quoted.{oneOf}
+use Rattle.token.proofs.cursor.Bytes.{any-byte}
+use Rattle.token.proofs.string.Laws.{single-newline, single-dollar, single-lone, single-slash, single-escape, single-other}
 use borrow.Author.Needs.{needs}
 use Rattle.token.proofs.string.single_item.Statement.{statement}
 use Rattle.token.proofs.string.single_item.Tie as tie

@@ -8,9 +8,10 @@ use borrow.Author.Needs.{needs}
 use borrow.Author.Tests.{ltb-true, ltb-false, not-true, not-false}
 use lib.Dec.{ltb}
 use lib.ListN.{length, getD}
-use Rattle.chars.specs.Text.{from, head, afterRun}
-use Rattle.token.specs.Code.{isOrdinary}
-use Rattle.token.proofs.StringLaws.{walk-on, skips, ordinary-byte, skip-stop, skip-end, skip-past}
+use Rattle.chars.specs.paper.Text.{from, head}
+use Rattle.chars.specs.computed.Runs.{afterRun}
+use Rattle.token.specs.code.String.{isOrdinary}
+use Rattle.token.proofs.string.Laws.{walk-on, skips, ordinary-byte, skip-stop, skip-end, skip-past}
 use Rattle.token.proofs.string.skip_ordinary.Statement.{statement}
 use Rattle.token.proofs.string.skip_ordinary.Tie as tie
 

@@ -2,7 +2,7 @@
 use Prim.Native.Nat.{_-_}
 use mathlib.Core.Path.{refl, sym, _∙_}
 use native.Mathlib.Omega.{arith}
-use Rattle.token.proofs.StripLaws.{Left, left-from, left-same, left-eights}
+use Rattle.token.proofs.string.Strips.{Left, left-from, left-same, left-eights}
 use Rattle.token.proofs.string.strip_eights.Statement.{statement}
 use Rattle.token.proofs.string.strip_eights.Tie as tie
 

@@ -1,7 +1,7 @@
 -- The content of what is left is the content of all.
 use Prim.Native.Nat.{_+_, _-_}
 use native.Mathlib.Omega.{arith}
-use Rattle.token.proofs.StripLaws.{Left, left-from, left-next, left-stop, left-end, off-most}
+use Rattle.token.proofs.string.Strips.{Left, left-from, left-next, left-stop, left-end, off-most}
 use Rattle.token.proofs.string.strip_many.Statement.{statement}
 use Rattle.token.proofs.string.strip_many.Tie as tie
 

@@ -4,7 +4,7 @@ use mathlib.Core.Path.{refl, _∙_, ap}
 use native.Mathlib.Omega.{arith}
 use borrow.Author.Needs.{needs}
 use Rattle.token.specs.declared.kinds.TokenKind.the-variants as tk
-use Rattle.token.proofs.StripLaws.{left-from, left-single, string-tail, string-byte, string-some}
+use Rattle.token.proofs.string.Strips.{left-from, left-single, string-tail, string-byte, string-some}
 use Rattle.token.proofs.string.strip_quotes.Statement.{statement}
 use Rattle.token.proofs.string.strip_quotes.Tie as tie
 

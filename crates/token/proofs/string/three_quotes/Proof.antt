@@ -1,7 +1,7 @@
 use mathlib.Core.Path.{sym, _∙_, ap}
 use native.Mathlib.Omega.{arith}
 use lib.Dec.{eqb}
-use Rattle.token.proofs.StringLaws.{two-in, three-third, three-none}
+use Rattle.token.proofs.string.Laws.{two-in, three-third, three-none}
 use borrow.Author.Needs.{needs}
 use Rattle.token.proofs.string.three_quotes.Statement.{statement}
 use Rattle.token.proofs.string.three_quotes.Tie as tie

@@ -1,7 +1,7 @@
 use mathlib.Core.Path.{refl, _∙_, ap}
-use Rattle.chars.specs.Quoted.{oneOf}
-use Rattle.token.proofs.Bytes.{any-byte}
-use Rattle.token.proofs.StringLaws.{triple-slash, triple-dollar, triple-lone, triple-other}
+use Rattle.chars.specs.paper.Quoted.{oneOf}
+use Rattle.token.proofs.cursor.Bytes.{any-byte}
+use Rattle.token.proofs.string.Laws.{triple-slash, triple-dollar, triple-lone, triple-other}
 use borrow.Author.Needs.{needs}
 use Rattle.token.proofs.string.triple_item.Statement.{statement}
 use Rattle.token.proofs.string.triple_item.Tie as tie

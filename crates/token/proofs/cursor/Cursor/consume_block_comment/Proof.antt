@@ -2,9 +2,9 @@
 use mathlib.Core.Path.{ap, _∙_}
 use native.Mathlib.Omega.{arith}
 use lib.ListN.{length}
-use Rattle.token.specs.Answer.{close}
-use Rattle.token.specs.Code.{closedOf}
-use Rattle.token.proofs.Comments.{pair-past, block-opens}
+use Rattle.token.specs.computed.Answer.{close}
+use Rattle.token.specs.code.Gap.{closedOf}
+use Rattle.token.proofs.gap.Laws.{pair-past, block-opens}
 use borrow.Author.Needs.{needs}
 use Rattle.token.proofs.cursor.Cursor.consume_block_comment.Statement.{statement}
 use Rattle.token.proofs.cursor.Cursor.consume_block_comment.Tie as tie

@@ -3,9 +3,10 @@ use mathlib.Core.Path.{_≡_, refl, sym, ap, _∙_}
 use mathlib.Core.Bool.{not}
 use native.Mathlib.Omega.{arith}
 use lib.ListN.{length}
-use Rattle.chars.specs.Text.{from, afterRun}
-use Rattle.token.specs.Tests.{endOfLine}
-use Rattle.token.proofs.Comments.{opens-line, pair-at, pair-past, line-stop, line-on, line-end, line-past}
+use Rattle.chars.specs.paper.Text.{from}
+use Rattle.chars.specs.computed.Runs.{afterRun}
+use Rattle.token.specs.paper.Tests.{endOfLine}
+use Rattle.token.proofs.gap.Laws.{opens-line, pair-at, pair-past, line-stop, line-on, line-end, line-past}
 use borrow.Author.Needs.{needs}
 use Rattle.token.proofs.cursor.Cursor.consume_line_comment.Statement.{statement}
 use Rattle.token.proofs.cursor.Cursor.consume_line_comment.Tie as tie

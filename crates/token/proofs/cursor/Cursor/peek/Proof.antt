@@ -1,5 +1,5 @@
 use mathlib.Core.Path.{sym, _∙_}
-use Rattle.token.proofs.Cursors.{peek-char, peek-end}
+use Rattle.token.proofs.cursor.Laws.{peek-char, peek-end}
 use borrow.Author.Needs.{needs}
 use Rattle.token.proofs.cursor.Cursor.peek.Statement.{statement}
 use Rattle.token.proofs.cursor.Cursor.peek.Tie as tie

@@ -3,8 +3,8 @@ use mathlib.Core.Path.{refl, sym, ap, _∙_}
 use native.Mathlib.Omega.{arith}
 use borrow.Author.Needs.{needs}
 use borrow.Author.Tests.{not-true, not-false}
-use Rattle.chars.specs.Quoted.{oneOf}
-use Rattle.token.proofs.Blanks.{blank-stop, one-blank, two-blanks}
+use Rattle.chars.specs.paper.Quoted.{oneOf}
+use Rattle.token.proofs.cursor.Blanks.{blank-stop, one-blank, two-blanks}
 use Rattle.token.proofs.cursor.Cursor.skip_blanks.Statement.{statement}
 use Rattle.token.proofs.cursor.Cursor.skip_blanks.Tie as tie
 

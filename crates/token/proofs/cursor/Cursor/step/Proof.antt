@@ -1,8 +1,7 @@
 use mathlib.Core.Path.{sym, _∙_, ap}
 use lib.ListN.{drop}
-use native.Mathlib.Omega.{arith}
-use Rattle.chars.proofs.Places.{at-end, step-none}
-use Rattle.token.proofs.Cursors.{here}
+use Rattle.chars.proofs.text.Places.{at-end, step-none}
+use Rattle.token.proofs.cursor.Laws.{here}
 use borrow.Author.Needs.{needs}
 use Rattle.token.proofs.cursor.Cursor.step.Statement.{statement}
 use Rattle.token.proofs.cursor.Cursor.step.Tie as tie

@@ -1,4 +1,4 @@
-use Rattle.token.proofs.FormLaws.{line-form}
+use Rattle.token.proofs.form.Laws.{line-form}
 use borrow.Author.Needs.{needs}
 use Rattle.token.proofs.kinds.Form.line.Statement.{statement}
 use Rattle.token.proofs.kinds.Form.line.Tie as tie

@@ -1,7 +1,7 @@
 -- In each arm the kind is known, and its form computes.
 use mathlib.Core.Path.{sym, _∙_, ap}
-use Rattle.token.specs.Records.{values, recordLength}
-use Rattle.token.specs.Forms.{formOf, plainForm}
+use Rattle.token.specs.paper.Records.{values, recordLength}
+use Rattle.token.specs.code.Form.{formOf, plainForm}
 use borrow.Author.Needs.{needs}
 use Rattle.token.proofs.kinds.TokenKind.form.Statement.{statement}
 use Rattle.token.proofs.kinds.TokenKind.form.Tie as tie

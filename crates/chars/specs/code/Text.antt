@@ -1,0 +1,20 @@
+-- What `text::char_at` answers.
+use Prim.Native.Nat.{ℕ, suc, _+_, _-_}
+use mathlib.Core.Bool.{cond}
+use mathlib.Core.List.{List}
+use lib.Dec.{ltb}
+use lib.ListN.{length, drop}
+use Rattle.chars.specs.paper.Utf8.{width, codeOf}
+use Rattle.chars.specs.declared.text.Step.{Step}
+use Rattle.chars.specs.declared.text.Step.the-variants as step
+use Rattle.chars.specs.paper.Text.{Char}
+
+-- where the character at i ends
+unfoldable pub nextOf : List ℕ → ℕ → ℕ
+nextOf s i = suc i + (width (drop i s) - 1)
+
+-- the first character of the text from the place i on: its code, and where it ends
+unfoldable pub stepAt : List ℕ → ℕ → Step
+stepAt s i =
+    let t = drop i s in
+    cond (ltb i (length s)) (step.Char (codeOf (width t) t) (nextOf s i)) step.End

@@ -1,0 +1,318 @@
+-- The answer for a script, computed: its tokens with their values, or a refusal's number and place. Of the declared part it shares the
+-- character classes and tests alone.
+use Prim.Native.Nat.{ℕ, zero, suc, _+_, _*_, _-_}
+use mathlib.Core.Bool.{Bool, true, false, cond, not, _&&_}
+use mathlib.Core.List.{List, [], _∷_, map, reverse}
+use mathlib.Core.Option.{Option, none, some}
+use lib.ListN.{length, take, drop}
+use lib.Dec.{eqb, leb}
+use Rattle.chars.specs.paper.Text.{Char, Text, from, place, head}
+use Rattle.chars.specs.computed.Runs.{afterRun}
+use Rattle.chars.specs.paper.Classes.{isIdStart, isIdChar}
+use Rattle.token.specs.paper.Tests.{isDigit, isHexDigit, isAny, begins, opensLine, opensBlock, closesBlock, opensComment, endOfLine, quote, threeQuotes, backslash, dollarBrace, digit, digitValue, hexAhead, longSuffix, opSign, freeSign, notBacktick, apostrophe, plainChar}
+use Rattle.token.specs.computed.Flags.{GapKind, fresh, push, cutOf}
+use Rattle.token.specs.declared.gap.Gap.{Gap}
+use Rattle.token.specs.paper.Kinds.{wordOf, runOf, Token}
+use Rattle.token.specs.declared.kinds.Kw.{Kw}
+use Rattle.token.specs.declared.kinds.TokenKind.{TokenKind}
+use Rattle.token.specs.declared.kinds.TokenKind.the-variants as tk
+
+-- what stands at a piece's start: a gap piece or a token and the text that follows it, or a refusal's number and the text from its place on
+pub data Found : Type 0 where
+  gap : GapKind → Text → Found
+  token : TokenKind → Text → Found
+  stuck : ℕ → Text → Found
+
+-- the codes of the text between s and r
+unfoldable pub codesTo : Text → Text → List ℕ
+codesTo s r = map (λ (c : Char). c .code) (take (length s - length r) s)
+
+-- ---- gap pieces
+
+unfoldable pub scanReturn : Text → Found
+scanReturn s = cond (begins "\r\n" s) (Found.gap GapKind.lineEnd (drop 2 s)) (Found.stuck 1 s)
+
+unfoldable pub scanLine : Text → Found
+scanLine s = Found.gap GapKind.lineComment (afterRun (λ t. not (endOfLine t)) (drop 2 s))
+
+-- from inside of (suc d) open comments, after k characters that are passed: what follows the outermost's end
+unfoldable pub close : ℕ → ℕ → Text → Option Text
+close d k [] = none
+close d (suc k) (c ∷ s) = close d k s
+close d zero (c ∷ s) =
+    let closed : Option Text = elim d [ zero ↦ some (drop 1 s) | suc e ↦ close e 1 s ] in
+    let opened = close (suc d) 1 s in
+    let next = close d 0 s in
+    cond (closesBlock (c ∷ s)) closed (cond (opensBlock (c ∷ s)) opened next)
+
+abbrev pub blockOr : Text → Option Text → Found
+blockOr s none = Found.stuck 2 s
+blockOr s (some r) = Found.gap GapKind.blockComment r
+
+unfoldable pub scanBlock : Text → Found
+scanBlock s = blockOr s (close 0 0 (drop 2 s))
+
+-- ---- numbers
+
+-- digits' value, and what follows them
+pub data Read : Type 0 where
+  read : ℕ → Text → Read
+
+unfoldable pub readDigits : (ℕ → Bool) → ℕ → ℕ → Text → Read
+readDigits p b v [] = read v []
+readDigits p b v (c ∷ s) =
+    let more = readDigits p b (v * b + digitValue (c .code)) s in
+    cond (p (c .code)) more (read v (c ∷ s))
+
+abbrev pub numberOf : Text → Read → Found
+numberOf s (read v r) =
+    cond (longSuffix r)
+    (cond (leb v 9223372036854775807) (Found.token (tk.LongLit v) (drop 1 r)) (Found.stuck 6 s))
+    (cond (leb v 2147483647) (Found.token (tk.IntLit v) r) (Found.stuck 6 s))
+
+unfoldable pub scanNumber : Text → Found
+scanNumber s =
+    let hex = readDigits isHexDigit 16 0 (drop 2 s) in
+    let dec = readDigits isDigit 10 0 s in
+    numberOf s (cond (hexAhead s) hex dec)
+
+-- ---- escapes: from behind the backslash, how many characters the escape has, or its refusal
+
+pub data Esc : Type 0 where
+  good : ℕ → Esc
+  bad : ℕ → Text → Esc
+
+-- n hex digits, after k characters
+unfoldable pub hexes : ℕ → ℕ → Text → Esc
+hexes zero k s = good k
+hexes (suc n) k [] = bad 13 []
+hexes (suc n) k (c ∷ s) =
+    let more = hexes n (suc k) s in
+    cond (isHexDigit (c .code)) more (bad 13 (c ∷ s))
+
+-- at most n digits more, after k characters
+unfoldable pub digitsUpTo : ℕ → ℕ → Text → ℕ
+digitsUpTo zero k s = k
+digitsUpTo (suc n) k [] = k
+digitsUpTo (suc n) k (c ∷ s) =
+    let more = digitsUpTo n (suc k) s in
+    cond (isDigit (c .code)) more k
+
+unfoldable pub afterSlash : Text → Esc
+afterSlash [] = bad 12 []
+afterSlash (c ∷ s) =
+    let number = good (digitsUpTo 2 1 s) in
+    let unicode = hexes 4 1 s in
+    cond (isAny "btnfr'\"]" (c ∷ s)) (good 1) (cond (isDigit (c .code)) number (cond (isAny "u" (c ∷ s)) unicode (bad 14 (c ∷ s))))
+
+-- ---- strings: from behind the opening, what follows the string, or its refusal
+
+pub data Inside : Type 0 where
+  closed : Text → Inside
+  wrong : ℕ → Text → Inside
+
+-- a plain single string, after k characters that are passed
+unfoldable pub inPlain : ℕ → Text → Inside
+inPlain k [] = wrong 7 []
+inPlain (suc k) (c ∷ s) = inPlain k s
+inPlain zero (c ∷ s) =
+    let escape : Inside = elim (afterSlash s) [ good n ↦ inPlain n s | bad j q ↦ wrong j q ] in
+    let next = inPlain 0 s in
+    cond (quote (c ∷ s)) (closed s) (cond (isAny "\n" (c ∷ s)) (wrong 8 (c ∷ s)) (cond (backslash (c ∷ s)) escape next))
+
+-- a prefixed single string
+unfoldable pub inPrefixed : Text → Inside
+inPrefixed [] = wrong 7 []
+inPrefixed (c ∷ s) =
+    let next = inPrefixed s in
+    cond (quote (c ∷ s)) (closed s) (cond (isAny "\n" (c ∷ s)) (wrong 8 (c ∷ s)) (cond (dollarBrace (c ∷ s)) (wrong 11 (c ∷ s)) next))
+
+-- a triple; p: it is prefixed
+unfoldable pub inTriple : Bool → Text → Inside
+inTriple p [] = wrong 9 []
+inTriple p (c ∷ s) =
+    let end = closed (afterRun quote (c ∷ s)) in
+    let next = inTriple p s in
+    cond (threeQuotes (c ∷ s)) end (cond (backslash (c ∷ s)) (wrong 10 (c ∷ s)) (cond (p && dollarBrace (c ∷ s)) (wrong 11 (c ∷ s)) next))
+
+-- from the opening on
+unfoldable pub inString : Bool → Text → Inside
+inString p s =
+    let triple = inTriple p (drop 3 s) in
+    let plain = inPlain 0 (drop 1 s) in
+    let prefixed = inPrefixed (drop 1 s) in
+    cond (threeQuotes s) triple (cond p prefixed plain)
+
+-- the content of a text of k characters that ends at e; t is the text and what was dropped behind it, back the text turned round
+unfoldable pub strip : ℕ → Text → Text → ℕ → TokenKind
+strip k [] back e = tk.Str e e
+strip k (c ∷ t) back e =
+    let both = strip (k - 2) t (drop 1 back) (place e back) in
+    let front = strip (k - 1) t back e in
+    cond (eqb k 0) (tk.Str e e) (cond (quote (c ∷ t)) (cond (leb 2 k && quote back) both front) (tk.Str (c .at) e))
+
+unfoldable pub plainContent : ℕ → Text → Text → TokenKind
+plainContent n s r =
+    let t = take (length s - length r) s in
+    strip (length t) t (reverse t) (place n r)
+
+abbrev pub plainOf : ℕ → Text → Inside → Found
+plainOf n s (closed r) = Found.token (plainContent n s r) r
+plainOf n s (wrong j q) = Found.stuck j q
+
+unfoldable pub scanString : ℕ → Text → Found
+scanString n s = plainOf n s (inString false s)
+
+-- a string prefixed by the text from s to m
+abbrev pub prefixedOf : ℕ → Text → Inside → Found
+prefixedOf n s (closed r) = Found.token (tk.Str (place n s) (place n r)) r
+prefixedOf n s (wrong j q) = Found.stuck j q
+
+-- an identifier or a backtick from s to r, or the string that it prefixes
+unfoldable pub orPrefixed : ℕ → TokenKind → Text → Text → Found
+orPrefixed n k s r =
+    let string = prefixedOf n s (inString true r) in
+    cond (quote r) string (Found.token k r)
+
+-- ---- identifiers and operators
+
+-- what follows an identifier's rest; u: a `_` came last
+unfoldable pub afterIdent : Bool → Text → Text
+afterIdent u [] = []
+afterIdent u (c ∷ s) =
+    let id = afterIdent false s in
+    let under = afterIdent true s in
+    let signs = afterRun opSign (c ∷ s) in
+    cond (isIdChar (c .code)) id (cond (isAny "_" (c ∷ s)) under (cond u signs (c ∷ s)))
+
+abbrev pub wordOr : ℕ → Text → Text → Option Kw → Found
+wordOr n s r none = orPrefixed n tk.Ident s r
+wordOr n s r (some k) = Found.token (tk.Kw k) r
+
+unfoldable pub scanIdent : ℕ → Text → Found
+scanIdent n s =
+    let r = afterIdent false (drop 1 s) in
+    wordOr n s r (wordOf (codesTo s r))
+
+abbrev pub runOr : Text → Option Kw → Found
+runOr r none = Found.token tk.OpId r
+runOr r (some k) = cond (opensComment r) (Found.token tk.OpId r) (Found.token (tk.Kw k) r)
+
+unfoldable pub scanOperator : Text → Found
+scanOperator s =
+    let r = afterRun freeSign s in
+    runOr r (runOf (codesTo s r))
+
+-- ---- backticks
+
+abbrev pub backtickOr : ℕ → Text → Text → Found
+backtickOr n s [] = Found.stuck 4 s
+backtickOr n s (c ∷ r) = orPrefixed n tk.BacktickId s r
+
+unfoldable pub scanBacktick : ℕ → Text → Found
+scanBacktick n s =
+    let name = backtickOr n s (afterRun notBacktick (drop 1 s)) in
+    cond (isAny "`" (drop 1 s)) (Found.stuck 5 s) name
+
+-- ---- characters and symbols, from the `'` on
+
+abbrev pub tickNext : Text → Found
+tickNext r = cond (apostrophe r) (Found.token tk.CharSym (drop 1 r)) (Found.stuck 15 r)
+
+abbrev pub escapedOf : Text → Esc → Found
+escapedOf m (good k) = tickNext (drop k m)
+escapedOf m (bad j q) = Found.stuck j q
+
+unfoldable pub scanCharSym : Text → Found
+scanCharSym s =
+    let m = drop 1 s in
+    let escaped = escapedOf (drop 1 m) (afterSlash (drop 1 m)) in
+    let word = Found.token tk.CharSym (afterIdent false (drop 1 m)) in
+    let run = Found.token tk.CharSym (afterRun freeSign m) in
+    cond (backslash m) escaped
+    (cond (plainChar m && apostrophe (drop 1 m)) (Found.token tk.CharSym (drop 2 m))
+    (cond (head isIdStart m) word
+    (cond (freeSign m) run
+    (cond (isAny ";" m && not (opSign (drop 1 m))) (Found.token tk.CharSym (drop 1 m))
+    (Found.stuck 16 m)))))
+
+-- ---- one piece: by what its first characters are
+
+pub data Start : Type 0 where
+  line block blank lf cr sign number word operator backtick string charSym other : Start
+
+-- A reading begins a comment wherever `//` or `/*` stands at a piece's start: these come first.
+unfoldable pub startOf : Text → Start
+startOf s =
+    cond (opensLine s) Start.line
+    (cond (opensBlock s) Start.block
+    (cond (isAny " \t" s) Start.blank
+    (cond (isAny "\n" s) Start.lf
+    (cond (isAny "\r" s) Start.cr
+    (cond (isAny "()[]{},;." s) Start.sign
+    (cond (digit s) Start.number
+    (cond (head isIdStart s) Start.word
+    (cond (opSign s) Start.operator
+    (cond (isAny "`" s) Start.backtick
+    (cond (quote s) Start.string
+    (cond (apostrophe s) Start.charSym Start.other)))))))))))
+
+unfoldable pub signOf : Text → TokenKind
+signOf s =
+    cond (isAny "(" s) tk.LParen
+    (cond (isAny ")" s) tk.RParen
+    (cond (isAny "[" s) tk.LBracket
+    (cond (isAny "]" s) tk.RBracket
+    (cond (isAny "{" s) tk.LBrace
+    (cond (isAny "}" s) tk.RBrace
+    (cond (isAny "," s) tk.Comma
+    (cond (isAny ";" s) tk.Semi tk.Dot)))))))
+
+abbrev pub scanAs : ℕ → Start → Text → Found
+scanAs n Start.blank s = Found.gap GapKind.blank (drop 1 s)
+scanAs n Start.lf s = Found.gap GapKind.lineEnd (drop 1 s)
+scanAs n Start.cr s = scanReturn s
+scanAs n Start.line s = scanLine s
+scanAs n Start.block s = scanBlock s
+scanAs n Start.sign s = Found.token (signOf s) (drop 1 s)
+scanAs n Start.number s = scanNumber s
+scanAs n Start.word s = scanIdent n s
+scanAs n Start.operator s = scanOperator s
+scanAs n Start.backtick s = scanBacktick n s
+scanAs n Start.string s = scanString n s
+scanAs n Start.charSym s = scanCharSym s
+scanAs n Start.other s = Found.stuck 3 s
+
+unfoldable pub scan : ℕ → Text → Found
+scan n s = scanAs n (startOf s) s
+
+-- ---- the whole script
+
+pub data Answer : Type 0 where
+  accepted : List Token → Answer
+  refused : ℕ → ℕ → Answer
+
+abbrev pub before : Token → Answer → Answer
+before t (accepted ts) = accepted (t ∷ ts)
+before t (refused j a) = refused j a
+
+-- only a line end has a token
+abbrev pub gapBefore : GapKind → ℕ → ℕ → Bool → Answer → Answer
+gapBefore GapKind.blank a e mark w = w
+gapBefore GapKind.lineEnd a e mark w = before (record { kind = tk.Newline mark; start = a; end = e; cut = false }) w
+gapBefore GapKind.lineComment a e mark w = w
+gapBefore GapKind.blockComment a e mark w = w
+
+-- the answer from the text on, after k characters that are passed, in a script of n bytes
+unfoldable pub walk : ℕ → ℕ → Gap → Text → Answer
+walk n k g [] = accepted (record { kind = tk.Eof; start = n; end = n; cut = cutOf g } ∷ [])
+walk n (suc k) g (c ∷ s) = walk n k g s
+walk n zero g (c ∷ s) =
+    elim (scan n (c ∷ s)) [
+      | gap p r ↦ gapBefore p (c .at) (place n r) (g .comment) (walk n (length s - length r) (push p g) s)
+      | token t r ↦ before (record { kind = t; start = c .at; end = place n r; cut = cutOf g }) (walk n (length s - length r) fresh s)
+      | stuck j q ↦ refused j (place n q)
+    ]
+
+unfoldable pub answer : List ℕ → Answer
+answer script = walk (length script) 0 fresh (from script 0)
