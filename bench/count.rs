@@ -1,7 +1,7 @@
 // Calls ergo_tokenize, or the published tokenize, N times on the 2 kB contract. bench/count counts its instructions.
 use std::hint::black_box;
 
-#[link(name = "token", kind = "static")]
+#[link(name = "ergo", kind = "static")]
 extern "C" {
     fn ergo_tokenize(script: *const u8, n: usize, records: *mut u8, m: usize, answer: *mut u8, k: usize) -> u32;
 }

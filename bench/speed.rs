@@ -2,7 +2,7 @@
 use std::hint::black_box;
 use std::time::Instant;
 
-#[link(name = "token", kind = "static")]
+#[link(name = "ergo", kind = "static")]
 extern "C" {
     fn ergo_tokenize(script: *const u8, n: usize, records: *mut u8, m: usize, answer: *mut u8, k: usize) -> u32;
 }

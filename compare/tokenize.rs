@@ -1,4 +1,4 @@
-// Compares crates/token, by its exports ergo_tokenize and ergo_token_text, with the published tokenize of token.rs, and writes the list of
+// Compares ergo_tokenize and ergo_token_text, the exports of crates/ergo, with the published tokenize of token.rs, and writes the list of
 // answers that crates/replay replays and the listings that crates/listing_cases prints. Built and run by compare/tokenize.
 //
 //     tokenize [--count N] [--seed S]   compare, and print how many scripts were compared and how many differed; exit status 1 if any differed
@@ -17,7 +17,7 @@ use scripts::{contract, Alphabet, Random, ALPHABETS, ROLES};
 use std::io::Write;
 
 #[cfg(linked)]
-#[link(name = "token", kind = "static")]
+#[link(name = "ergo", kind = "static")]
 extern "C" {
     fn ergo_tokenize(script: *const u8, n: usize, records: *mut u8, m: usize, answer: *mut u8, k: usize) -> u32;
     fn ergo_token_text(script: *const u8, n: usize, start: u32, end: u32) -> u32;

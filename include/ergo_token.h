@@ -1,5 +1,5 @@
-/* ErgoScript tokens as records: the two functions of crates/token, for C and C++. `rt staticlib token` makes the library,
- * target/staticlib/libtoken.a, for x86-64 Linux. It takes some 12 kB of stack, allocates nothing, and calls nothing but memcpy and
+/* ErgoScript tokens as records: the two functions of crates/ergo, for C and C++. `rt staticlib ergo` makes the library,
+ * target/staticlib/libergo.a, for x86-64 Linux. It takes some 12 kB of stack, allocates nothing, and calls nothing but memcpy and
  * memset, which the compiler puts in; a host without a C library must have these two. It keeps nothing between calls: calls from several threads at
  * once are fine as long as no two of them lend the same bytes for writing.
  *

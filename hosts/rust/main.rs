@@ -1,6 +1,6 @@
 // Tokenizes a file and prints its records, one to a line: kind, start, end, cut and values; or `refused N at P`. hosts/build builds it.
 mod ergo {
-    #[link(name = "token", kind = "static")]
+    #[link(name = "ergo", kind = "static")]
     extern "C" {
         fn ergo_tokenize(script: *const u8, n: usize, records: *mut u8, m: usize, answer: *mut u8, k: usize) -> u32;
         fn ergo_token_text(script: *const u8, n: usize, start: u32, end: u32) -> u32;

@@ -1,4 +1,4 @@
-//! ErgoScript tokens: a safe wrapper of `libtoken.a`, whose header is `include/ergo_token.h`.
+//! ErgoScript tokens: a safe wrapper of `libergo.a`, whose header is `include/ergo_token.h`.
 //!
 //! ```
 //! let tokens = ergo_token::tokenize(b"x = 7").expect("a refusal");
@@ -27,7 +27,7 @@ pub const SCRIPT_LIMIT: usize = 16_777_216;
 pub const RECORD_HEAD: usize = 13;
 
 mod sys {
-    #[link(name = "token", kind = "static")]
+    #[link(name = "ergo", kind = "static")]
     extern "C" {
         pub fn ergo_tokenize(script: *const u8, n: usize, records: *mut u8, m: usize, answer: *mut u8, k: usize) -> u32;
         pub fn ergo_token_text(script: *const u8, n: usize, start: u32, end: u32) -> u32;

@@ -52,7 +52,7 @@ impl Refusal {
             21 => {
                 ("this start and this end do not enclose a text of the script", "ask for a start and an end as they stand in a record of this script")
             }
-            _ => ("the library's header knows no such refusal", "link the libtoken.a that this wrapper was written for"),
+            _ => ("the library's header knows no such refusal", "link the libergo.a that this wrapper was written for"),
         }
     }
 }
