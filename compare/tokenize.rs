@@ -25,6 +25,16 @@ extern "C" {
 
 const LIMIT: usize = 16_777_216;
 
+// The lengths of records by document 01: of the head, before the values, and of the whole record of a kind with values.
+const HEAD: usize = 13;
+const INT_LIT: usize = HEAD + 4;
+const NEWLINE: usize = HEAD + 1;
+
+// Document 01's bound, the record bytes that are enough for every script of n bytes: a byte of script costs at most the record of an IntLit.
+const fn bound(n: usize) -> usize {
+    INT_LIT * n + HEAD
+}
+
 // What document 01 asks for a script, measured without a buffer: the number, the place, the token count, the record bytes and the records.
 #[derive(Default)]
 struct Wanted {
@@ -138,12 +148,12 @@ fn kind(script: &str, token: &Token, values: &mut Vec<u8>) -> u16 {
 }
 
 fn records(script: &str, tokens: &[Token]) -> Vec<u8> {
-    let mut out = Vec::with_capacity(tokens.len() * 14 + 16);
+    let mut out = Vec::with_capacity(tokens.len() * NEWLINE + 16);
     let mut values = Vec::new();
     for token in tokens {
         values.clear();
         let kind = kind(script, token, &mut values);
-        out.extend((13 + values.len() as u16).to_le_bytes());
+        out.extend(((HEAD + values.len()) as u16).to_le_bytes());
         out.extend(kind.to_le_bytes());
         out.extend(token.start.to_le_bytes());
         out.extend(token.end.to_le_bytes());
@@ -168,7 +178,7 @@ fn wanted(script: &[u8]) -> Wanted {
     match tokenize(text) {
         Ok(tokens) => {
             let records = records(text, &tokens);
-            assert!(records.len() <= 17 * script.len() + 13, "more record bytes than document 01's bound");
+            assert!(records.len() <= bound(script.len()), "more record bytes than document 01's bound");
             Wanted { tokens: tokens.len() as u32, bytes: records.len() as u32, records, ..Wanted::default() }
         }
         Err(ParseError::Lexical { pos, msg }) => refused(refusal(&msg), pos as usize),
@@ -288,7 +298,7 @@ mod compare {
             let want = wanted(script);
             let need = want.bytes as usize;
             self.accepted += (want.number == 0) as u64;
-            let ample = if want.number == 0 { need + 5 } else { 17 * script.len() + 13 };
+            let ample = if want.number == 0 { need + 5 } else { bound(script.len()) };
             let (lent, block) = match number % 8 {
                 0 | 1 => (need.saturating_sub(1), 16),
                 2 => (need + 1, 16),
@@ -358,7 +368,7 @@ mod compare {
             let null = std::ptr::null_mut();
             let mut block = [9u8; 16];
             let number = unsafe { ergo_tokenize(null, 0, null, 0, block.as_mut_ptr(), 16) };
-            if number != 19 || block != [19, 0, 0, 0, 0, 0, 0, 0, 1, 0, 0, 0, 13, 0, 0, 0] {
+            if number != 19 || block != [19, 0, 0, 0, 0, 0, 0, 0, 1, 0, 0, 0, HEAD as u8, 0, 0, 0] {
                 self.note(format!("empty script and buffer at null: {number}, {block:?}"));
             }
             let number = unsafe { ergo_tokenize(null, 0, null, 0, null, 0) };
