@@ -1,7 +1,9 @@
 // Calls ergo_tokenize, or the published tokenize, N times on the 2 kB contract. bench/count counts its instructions.
+mod records;
+
 use std::hint::black_box;
 
-#[link(name = "token", kind = "static")]
+#[link(name = "ergo", kind = "static")]
 extern "C" {
     fn ergo_tokenize(script: *const u8, n: usize, records: *mut u8, m: usize, answer: *mut u8, k: usize) -> u32;
 }
@@ -23,7 +25,7 @@ fn main() {
     let (what, calls) = (arguments.next().unwrap_or_default(), arguments.next().and_then(|n| n.parse::<u32>().ok()));
     let calls = calls.expect("usage: count write|measure|tokenize N");
     let script = CONTRACT.as_bytes();
-    let mut records = vec![0u8; 17 * script.len() + 13];
+    let mut records = vec![0u8; records::bound(script.len())];
     let mut answer = [0u8; 16];
     let lent = if what == "measure" { 0 } else { records.len() };
     for _ in 0..calls {

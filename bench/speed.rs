@@ -1,8 +1,11 @@
 // Times ergo_tokenize and the published tokenize on the same inputs, in one process, by turns. bench/speed builds and runs it.
+mod records;
+
+use records::{bound, HEAD, INT_LIT};
 use std::hint::black_box;
 use std::time::Instant;
 
-#[link(name = "token", kind = "static")]
+#[link(name = "ergo", kind = "static")]
 extern "C" {
     fn ergo_tokenize(script: *const u8, n: usize, records: *mut u8, m: usize, answer: *mut u8, k: usize) -> u32;
 }
@@ -56,7 +59,7 @@ fn timed(repeat: usize, mut run: impl FnMut()) -> f64 {
 }
 
 fn measure(script: &str, buffer: &mut [u8], rounds: usize) -> Times {
-    let records = &mut buffer[..17 * script.len() + 13];
+    let records = &mut buffer[..bound(script.len())];
     // Before timing: both must agree on acceptance and count. This also warms up memory and code.
     let start = Instant::now();
     let (answer, count, _) = call(script, records);
@@ -110,7 +113,8 @@ fn main() {
         "ergo_tokenize and the published tokenize, in one process, by turns; medians of {rounds} rounds; MB/s is 10^6 bytes of script a second."
     );
     println!(
-        "ergo_tokenize checks UTF-8, which tokenize's &str has behind it. \"one call\" writes into one buffer of 17n + 13 bytes, lent again and"
+        "ergo_tokenize checks UTF-8, which tokenize's &str has behind it. \"one call\" writes into one buffer of {}n + {} bytes, lent again and",
+        INT_LIT, HEAD
     );
     println!(
         "again: buffers were not cleared between calls. \"two calls\" measures, allocates just what is needed (zeroed, as vec! does), writes, and"
@@ -119,7 +123,7 @@ fn main() {
     println!();
     println!("{:<26} {:>9} {:>4} {:>10} {:>10} {:>10} {:>7} {:>7}", "input", "bytes", "no.", "one call", "two calls", "tokenize", "ratio", "ratio");
     println!("{:<26} {:>9} {:>4} {:>10} {:>10} {:>10} {:>7} {:>7}", "", "", "", "MB/s", "MB/s", "MB/s", "of one", "of two");
-    let mut buffer = vec![0u8; 17 * 16 * MIB + 13];
+    let mut buffer = vec![0u8; bound(16 * MIB)];
     let show = |name: &str, bytes: usize, times: &Times| {
         let speed = |seconds: f64| bytes as f64 / seconds / 1e6;
         println!(

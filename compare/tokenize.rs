@@ -1,4 +1,4 @@
-// Compares crates/token, by its exports ergo_tokenize and ergo_token_text, with the published tokenize of token.rs, and writes the list of
+// Compares ergo_tokenize and ergo_token_text, the exports of crates/ergo, with the published tokenize of token.rs, and writes the list of
 // answers that crates/replay replays and the listings that crates/listing_cases prints. Built and run by compare/tokenize.
 //
 //     tokenize [--count N] [--seed S]   compare, and print how many scripts were compared and how many differed; exit status 1 if any differed
@@ -17,13 +17,23 @@ use scripts::{contract, Alphabet, Random, ALPHABETS, ROLES};
 use std::io::Write;
 
 #[cfg(linked)]
-#[link(name = "token", kind = "static")]
+#[link(name = "ergo", kind = "static")]
 extern "C" {
     fn ergo_tokenize(script: *const u8, n: usize, records: *mut u8, m: usize, answer: *mut u8, k: usize) -> u32;
     fn ergo_token_text(script: *const u8, n: usize, start: u32, end: u32) -> u32;
 }
 
 const LIMIT: usize = 16_777_216;
+
+// The lengths of records by document 01: of the head, before the values, and of the whole record of a kind with values.
+const HEAD: usize = 13;
+const INT_LIT: usize = HEAD + 4;
+const NEWLINE: usize = HEAD + 1;
+
+// Document 01's bound, the record bytes that are enough for every script of n bytes: a byte of script costs at most the record of an IntLit.
+const fn bound(n: usize) -> usize {
+    INT_LIT * n + HEAD
+}
 
 // What document 01 asks for a script, measured without a buffer: the number, the place, the token count, the record bytes and the records.
 #[derive(Default)]
@@ -138,12 +148,12 @@ fn kind(script: &str, token: &Token, values: &mut Vec<u8>) -> u16 {
 }
 
 fn records(script: &str, tokens: &[Token]) -> Vec<u8> {
-    let mut out = Vec::with_capacity(tokens.len() * 14 + 16);
+    let mut out = Vec::with_capacity(tokens.len() * NEWLINE + 16);
     let mut values = Vec::new();
     for token in tokens {
         values.clear();
         let kind = kind(script, token, &mut values);
-        out.extend((13 + values.len() as u16).to_le_bytes());
+        out.extend(((HEAD + values.len()) as u16).to_le_bytes());
         out.extend(kind.to_le_bytes());
         out.extend(token.start.to_le_bytes());
         out.extend(token.end.to_le_bytes());
@@ -168,7 +178,7 @@ fn wanted(script: &[u8]) -> Wanted {
     match tokenize(text) {
         Ok(tokens) => {
             let records = records(text, &tokens);
-            assert!(records.len() <= 17 * script.len() + 13, "more record bytes than document 01's bound");
+            assert!(records.len() <= bound(script.len()), "more record bytes than document 01's bound");
             Wanted { tokens: tokens.len() as u32, bytes: records.len() as u32, records, ..Wanted::default() }
         }
         Err(ParseError::Lexical { pos, msg }) => refused(refusal(&msg), pos as usize),
@@ -288,7 +298,7 @@ mod compare {
             let want = wanted(script);
             let need = want.bytes as usize;
             self.accepted += (want.number == 0) as u64;
-            let ample = if want.number == 0 { need + 5 } else { 17 * script.len() + 13 };
+            let ample = if want.number == 0 { need + 5 } else { bound(script.len()) };
             let (lent, block) = match number % 8 {
                 0 | 1 => (need.saturating_sub(1), 16),
                 2 => (need + 1, 16),
@@ -358,7 +368,7 @@ mod compare {
             let null = std::ptr::null_mut();
             let mut block = [9u8; 16];
             let number = unsafe { ergo_tokenize(null, 0, null, 0, block.as_mut_ptr(), 16) };
-            if number != 19 || block != [19, 0, 0, 0, 0, 0, 0, 0, 1, 0, 0, 0, 13, 0, 0, 0] {
+            if number != 19 || block != [19, 0, 0, 0, 0, 0, 0, 0, 1, 0, 0, 0, HEAD as u8, 0, 0, 0] {
                 self.note(format!("empty script and buffer at null: {number}, {block:?}"));
             }
             let number = unsafe { ergo_tokenize(null, 0, null, 0, null, 0) };

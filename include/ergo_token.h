@@ -1,7 +1,7 @@
-/* ErgoScript tokens as records: the two functions of crates/token, for C and C++. `rt staticlib token` makes the library,
- * target/staticlib/libtoken.a, for x86-64 Linux. It takes some 12 kB of stack, allocates nothing, and calls nothing but memcpy and
- * memset, which the compiler puts in; a host without a C library must have these two. It keeps nothing between calls: calls from several threads at
- * once are fine as long as no two of them lend the same bytes for writing.
+/* ErgoScript tokens as records: the two functions of crates/ergo, for C and C++. `rt staticlib ergo` makes the library,
+ * target/staticlib/libergo.a, for x86-64 Linux. It takes some 12 kB of stack, allocates nothing, and calls nothing but memcpy and memset,
+ * which the compiler puts in; a host without a C library must have these two. It keeps nothing between calls: calls from several threads
+ * at once are fine as long as no two of them lend the same bytes for writing.
  *
  * All places are byte offsets from 0 into the script. All numbers in records and answer block are unsigned and little-endian. */
 #ifndef ERGO_TOKEN_H
@@ -41,28 +41,42 @@ uint32_t ergo_token_text(const uint8_t *script, size_t n, uint32_t start, uint32
 
 #define ERGO_SCRIPT_LIMIT 16777216u /* bytes: a longer script is refused by 17 */
 #define ERGO_ANSWER_BYTES 16u
-#define ERGO_RECORD_BOUND(n) (17u * (size_t)(n) + 13u)
 
-/* A record, of 13 bytes and its values:
+/* A record, of a head and its values:
  *
- *     at 0   2 bytes  length of the whole record, values included: the next record starts so many bytes on
- *     at 2   2 bytes  kind
- *     at 4   4 bytes  start
- *     at 8   4 bytes  end, not included
- *     at 12  1 byte   cut: 1 if, since the last token that is no line end, a block comment stands behind a line end and, past spaces and tabs,
- *                     is not followed by a line end; else 0. Always 0 for line ends.
- *     at 13           the values, by kind
+ *     at ERGO_AT_LENGTH    2 bytes  length of the whole record, values included: the next record starts so many bytes on
+ *     at ERGO_AT_KIND      2 bytes  kind
+ *     at ERGO_AT_START     4 bytes  start
+ *     at ERGO_AT_END       4 bytes  end, not included
+ *     at ERGO_AT_CUT       1 byte   cut: 1 if, since the last token that is no line end, a block comment stands behind a line end and, past
+ *                                   spaces and tabs, is not followed by a line end; else 0. Always 0 for line ends.
+ *     at ERGO_RECORD_HEAD           the values, by kind
  *
  * Records come in the order of the script, blanks and comments left out; the last is Eof. */
-#define ERGO_RECORD_HEAD 13u
+#define ERGO_AT_LENGTH 0u
+#define ERGO_AT_KIND 2u
+#define ERGO_AT_START 4u
+#define ERGO_AT_END 8u
+#define ERGO_AT_CUT 12u
+#define ERGO_RECORD_HEAD 13u /* the head's length; of a kind without values the whole record is just the head */
+
+/* The lengths of the records that have values. */
+#define ERGO_INT_LIT_LENGTH (ERGO_RECORD_HEAD + 4u)
+#define ERGO_LONG_LIT_LENGTH (ERGO_RECORD_HEAD + 8u)
+#define ERGO_STR_LENGTH (ERGO_RECORD_HEAD + 8u)
+#define ERGO_NEWLINE_LENGTH (ERGO_RECORD_HEAD + 1u)
+
+/* Bytes enough for the records of every script of n bytes: one byte of script costs at most an IntLit's record, and Eof costs a head. */
+#define ERGO_RECORD_PER_BYTE ERGO_INT_LIT_LENGTH
+#define ERGO_RECORD_BOUND(n) (ERGO_RECORD_PER_BYTE * (size_t)(n) + ERGO_RECORD_HEAD)
 
 enum ergo_kind {
     ERGO_IDENT = 1,
     ERGO_OP_ID = 2,       /* a run of operator signs that is no keyword */
     ERGO_BACKTICK_ID = 3, /* start and end take in the backticks */
-    ERGO_INT_LIT = 4,     /* at 13, 4 bytes: the value, at most 2147483647 */
-    ERGO_LONG_LIT = 5,    /* at 13, 8 bytes: the value, at most 9223372036854775807 */
-    ERGO_STR = 6,         /* at 13, 4 bytes: content start; at 17, 4 bytes: content end. Escapes are checked, not decoded */
+    ERGO_INT_LIT = 4,     /* at ERGO_RECORD_HEAD, 4 bytes: the value, at most 2147483647 */
+    ERGO_LONG_LIT = 5,    /* at ERGO_RECORD_HEAD, 8 bytes: the value, at most 9223372036854775807 */
+    ERGO_STR = 6,         /* at ERGO_RECORD_HEAD, 4 bytes: content start; 4 bytes on, 4 bytes: content end. Escapes are checked, not decoded */
     ERGO_CHAR_SYM = 7,    /* 'c' or 'symbol, with its quotes */
     ERGO_L_PAREN = 8,
     ERGO_R_PAREN = 9,
@@ -73,7 +87,8 @@ enum ergo_kind {
     ERGO_COMMA = 14,
     ERGO_SEMI = 15,
     ERGO_DOT = 16,
-    ERGO_NEWLINE = 17, /* at 13, 1 byte: 1 if a comment stands between it and the line end before it in the same gap, or the gap's start */
+    ERGO_NEWLINE = 17, /* at ERGO_RECORD_HEAD, 1 byte: 1 if a comment stands between it and the line end before it in the same gap, or the
+                        * gap's start */
     ERGO_EOF = 18,     /* starts and ends at the script's length */
     ERGO_KW_CASE = 32,
     ERGO_KW_ELSE = 33,
@@ -106,9 +121,9 @@ enum ergo_number {
     ERGO_TRIPLE_BACKSLASH = 10,  /* the backslash: a string in three quotes holds none; use a string in single ones */
     ERGO_INTERPOLATION = 11,     /* the $: ${ in a prefixed string is not supported; join strings instead */
     ERGO_ESCAPE_AT_END = 12,     /* the script's end: finish the escape and the string or character */
-    ERGO_UNICODE_ESCAPE = 13,    /* where the hex digit lacks: \u takes exactly four */
+    ERGO_UNICODE_ESCAPE = 13,    /* where the missing hex digit should stand: \u takes exactly four */
     ERGO_ESCAPE = 14,            /* the character after the backslash: write \b \t \n \f \r \' \" \] , one to three digits, or \u and four hex digits */
-    ERGO_OPEN_CHARACTER = 15,    /* where the ' lacks: close the character right after its escape */
+    ERGO_OPEN_CHARACTER = 15,    /* where the missing ' should stand: close the character right after its escape */
     ERGO_QUOTE = 16,             /* after the ': write a character and ', or a symbol */
     ERGO_TOO_LONG = 17,          /* 0: the script has more than ERGO_SCRIPT_LIMIT bytes; hand over a shorter one */
     ERGO_NOT_UTF8 = 18,          /* the length of the longest valid prefix: hand the script over in UTF-8 */

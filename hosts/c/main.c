@@ -1,4 +1,4 @@
-/* Tokenizes a file and prints its records, one to a line: kind, start, end, cut and values; or `refused N at P`. hosts/build builds it. */
+/* Tokenizes a file and prints its records, one per line: kind, start, end, cut and values; or `refused N at P`. hosts/build builds it. */
 #include "ergo_token.h"
 
 #include <inttypes.h>
@@ -13,7 +13,7 @@ static uint64_t number(const uint8_t *at, unsigned bytes)
     return value;
 }
 
-/* All of a file, or NULL where it is empty. One byte more than a script may have is enough to be refused. */
+/* Returns the whole file, or NULL if it is empty. A file that is too long is read up to one byte past the limit: enough to be refused. */
 static uint8_t *read_script(const char *path, size_t *n)
 {
     FILE *file = fopen(path, "rb");
@@ -37,9 +37,9 @@ static uint8_t *read_script(const char *path, size_t *n)
 
 static void print_record(const uint8_t *record)
 {
-    unsigned kind = (unsigned)number(record + 2, 2);
+    unsigned kind = (unsigned)number(record + ERGO_AT_KIND, 2);
     const uint8_t *values = record + ERGO_RECORD_HEAD;
-    printf("%u %" PRIu64 " %" PRIu64 " %u", kind, number(record + 4, 4), number(record + 8, 4), record[12]);
+    printf("%u %" PRIu64 " %" PRIu64 " %u", kind, number(record + ERGO_AT_START, 4), number(record + ERGO_AT_END, 4), record[ERGO_AT_CUT]);
     if (kind == ERGO_INT_LIT)
         printf(" %" PRIu64, number(values, 4));
     if (kind == ERGO_LONG_LIT)
@@ -63,7 +63,7 @@ int main(int argc, char **argv)
     }
     script = read_script(argv[1], &n);
 
-    /* Measure with no buffer, then write into one of just that length. */
+    /* Measure first, with no buffer, then write into a buffer of exactly that length. */
     refusal = ergo_tokenize(script, n, NULL, 0, answer, sizeof answer);
     if (refusal != ERGO_SHORT_BUFFER) {
         printf("refused %" PRIu32 " at %" PRIu64 "\n", refusal, number(answer + 4, 4));
@@ -81,9 +81,10 @@ int main(int argc, char **argv)
         fprintf(stderr, "refused %" PRIu32 " after measuring\n", refusal);
         return 2;
     }
-    for (at = 0; at < bytes; at += (size_t)number(records + at, 2)) {
-        print_record(records + at);
-        if (ergo_token_text(script, n, (uint32_t)number(records + at + 4, 4), (uint32_t)number(records + at + 8, 4)) != 0) {
+    for (at = 0; at < bytes; at += (size_t)number(records + at + ERGO_AT_LENGTH, 2)) {
+        const uint8_t *record = records + at;
+        print_record(record);
+        if (ergo_token_text(script, n, (uint32_t)number(record + ERGO_AT_START, 4), (uint32_t)number(record + ERGO_AT_END, 4)) != 0) {
             fprintf(stderr, "a record without a text\n");
             return 2;
         }

@@ -1,6 +1,6 @@
-// Tokenizes a file and prints its records, one to a line: kind, start, end, cut and values; or `refused N at P`. hosts/build builds it.
+// Tokenizes a file and prints its records, one per line: kind, start, end, cut and values; or `refused N at P`. hosts/build builds it.
 mod ergo {
-    #[link(name = "token", kind = "static")]
+    #[link(name = "ergo", kind = "static")]
     extern "C" {
         fn ergo_tokenize(script: *const u8, n: usize, records: *mut u8, m: usize, answer: *mut u8, k: usize) -> u32;
         fn ergo_token_text(script: *const u8, n: usize, start: u32, end: u32) -> u32;
@@ -21,7 +21,7 @@ mod ergo {
         (number, word(4), word(12))
     }
 
-    // The records of a script: measured with no buffer, then written into one of just that length.
+    // The records of a script: measured first, with no buffer, then written into a buffer of exactly that length.
     pub fn tokenize(script: &[u8]) -> Result<Vec<u8>, Refused> {
         let (number, place, bytes) = call(script, &mut []);
         if number != 19 {
@@ -45,6 +45,9 @@ mod ergo {
     }
 }
 
+// The bytes of a record before its values.
+const HEAD: usize = 13;
+
 fn number(bytes: &[u8]) -> u64 {
     bytes.iter().rev().fold(0, |value, &byte| value << 8 | byte as u64)
 }
@@ -53,7 +56,7 @@ fn number(bytes: &[u8]) -> u64 {
 fn line(record: &[u8]) -> String {
     let kind = number(&record[2..4]);
     let (start, end, cut) = (number(&record[4..8]), number(&record[8..12]), record[12]);
-    let values = &record[13..];
+    let values = &record[HEAD..];
     match kind {
         4 | 5 | 17 => format!("{kind} {start} {end} {cut} {}", number(values)),
         6 => format!("{kind} {start} {end} {cut} {} {}", number(&values[..4]), number(&values[4..])),

@@ -1,4 +1,4 @@
-//! ErgoScript tokens: a safe wrapper of `libtoken.a`, whose header is `include/ergo_token.h`.
+//! ErgoScript tokens: a safe wrapper of `libergo.a`, whose header is `include/ergo_token.h`.
 //!
 //! ```
 //! let tokens = ergo_token::tokenize(b"x = 7").expect("a refusal");
@@ -9,8 +9,8 @@
 //! assert_eq!((refusal.number, refusal.place), (7, 4));
 //! ```
 //!
-//! No function here panics, whatever the bytes. Memory aside (a script of n bytes takes at most 17n + 13 bytes of records), nothing is kept
-//! between calls. The library is proved; this wrapper is not.
+//! No function here panics, whatever the bytes. Memory aside (the records of a script of n bytes take at most [`record_bound`]`(n)` bytes),
+//! nothing is kept between calls. The library is proved; this wrapper is not.
 
 use std::fmt;
 
@@ -23,11 +23,31 @@ pub use view::view;
 /// A longer script is refused by 17.
 pub const SCRIPT_LIMIT: usize = 16_777_216;
 
-/// The bytes of a record before its values.
+/// The length of a record's head, which its values follow. Of a kind without values the whole record is just the head.
 pub const RECORD_HEAD: usize = 13;
 
+/// The length of the record of an [`IntLit`](TokenKind::IntLit): the head and a value of 4 bytes.
+pub const INT_LIT_LENGTH: usize = RECORD_HEAD + 4;
+
+/// The length of the record of a [`LongLit`](TokenKind::LongLit): the head and a value of 8 bytes.
+pub const LONG_LIT_LENGTH: usize = RECORD_HEAD + 8;
+
+/// The length of the record of a [`Str`](TokenKind::Str): the head, content start and content end.
+pub const STR_LENGTH: usize = RECORD_HEAD + 8;
+
+/// The length of the record of a [`Newline`](TokenKind::Newline): the head and a value of 1 byte.
+pub const NEWLINE_LENGTH: usize = RECORD_HEAD + 1;
+
+/// One byte of script costs at most so many bytes of records: those of an [`IntLit`](TokenKind::IntLit).
+pub const RECORD_PER_BYTE: usize = INT_LIT_LENGTH;
+
+/// Bytes enough for the records of every script of `n` bytes.
+pub const fn record_bound(n: usize) -> usize {
+    RECORD_PER_BYTE.saturating_mul(n).saturating_add(RECORD_HEAD)
+}
+
 mod sys {
-    #[link(name = "token", kind = "static")]
+    #[link(name = "ergo", kind = "static")]
     extern "C" {
         pub fn ergo_tokenize(script: *const u8, n: usize, records: *mut u8, m: usize, answer: *mut u8, k: usize) -> u32;
         pub fn ergo_token_text(script: *const u8, n: usize, start: u32, end: u32) -> u32;

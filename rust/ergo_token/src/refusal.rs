@@ -38,12 +38,12 @@ impl Refusal {
             10 => ("a backslash stands in a string opened by \"\"\"", "open and close the string by one \", where escapes are taken"),
             11 => ("${ stands in a prefixed string, which is not supported", "join strings instead"),
             12 => ("the script ends directly after the backslash of an escape", "finish the escape, and the string or character in which it stands"),
-            13 => ("a hex digit lacks here after \\u", "write exactly four hex digits after \\u"),
+            13 => ("missing hex digit here after \\u", "write exactly four hex digits after \\u"),
             14 => (
                 "this character after a backslash is no escape",
                 "write \\b \\t \\n \\f \\r \\' \\\" or \\], a backslash and one to three digits, or \\u and four hex digits; \\\\ is none of them",
             ),
-            15 => ("a ' lacks here after the escape of a character", "close the character by ' right after its escape"),
+            15 => ("missing ' here after the escape of a character", "close the character by ' right after its escape"),
             16 => ("neither a character nor a symbol stands after the '", "write a character and ' after it, or a symbol"),
             17 => ("the script has more than 16777216 bytes", "hand over a shorter script"),
             18 => ("the bytes from here on are not UTF-8", "save the script as UTF-8"),
@@ -52,7 +52,7 @@ impl Refusal {
             21 => {
                 ("this start and this end do not enclose a text of the script", "ask for a start and an end as they stand in a record of this script")
             }
-            _ => ("the library's header knows no such refusal", "link the libtoken.a that this wrapper was written for"),
+            _ => ("the library's header knows no such refusal", "link the libergo.a that this wrapper was written for"),
         }
     }
 }

@@ -1,5 +1,9 @@
 // The wrapper on document 01's examples: the header's and the C example's script, the listing, the twelve marked scripts, and each refusal's.
-use ergo_token::{measure, position, token_text, tokenize, view, write, Kw, Position, Refusal, Size, Token, TokenKind};
+use ergo_token::{measure, position, record_bound, token_text, tokenize, view, write, Kw, Position, Refusal, Size, Token, TokenKind};
+use ergo_token::{INT_LIT_LENGTH, LONG_LIT_LENGTH, NEWLINE_LENGTH, RECORD_HEAD, STR_LENGTH};
+
+// The record bytes of `a`: an identifier and Eof.
+const BYTES_OF_A: usize = 2 * RECORD_HEAD;
 
 fn tokens(script: &str) -> Vec<Token<'_>> {
     let tokens = tokenize(script.as_bytes()).expect(script);
@@ -36,15 +40,32 @@ fn refusal(script: &[u8]) -> (u32, u32) {
 #[test]
 fn record_bytes_of_the_readme() {
     let accepted = tokenize(b"a").unwrap();
-    let records = [13, 0, 1, 0, 0, 0, 0, 0, 1, 0, 0, 0, 0, 13, 0, 18, 0, 1, 0, 0, 0, 1, 0, 0, 0, 0];
+    let length = RECORD_HEAD as u8;
+    let ident: [u8; RECORD_HEAD] = [length, 0, 1, 0, 0, 0, 0, 0, 1, 0, 0, 0, 0];
+    let eof: [u8; RECORD_HEAD] = [length, 0, 18, 0, 1, 0, 0, 0, 1, 0, 0, 0, 0];
+    let records = [ident, eof].concat();
+    let size = Size { count: 2, bytes: BYTES_OF_A as u32 };
     assert_eq!(accepted.records(), records);
     assert_eq!(accepted.count(), 2);
-    assert_eq!(measure(b"a"), Ok(Size { count: 2, bytes: 26 }));
+    assert_eq!(measure(b"a"), Ok(size));
 
-    let mut lent = [0xAA; 30];
-    assert_eq!(write(b"a", &mut lent), Ok(Size { count: 2, bytes: 26 }));
-    assert_eq!(lent[..26], records);
-    assert_eq!(lent[26..], [0xAA; 4]);
+    let mut lent = [0xAA; BYTES_OF_A + 4];
+    assert_eq!(write(b"a", &mut lent), Ok(size));
+    assert_eq!(lent[..BYTES_OF_A], records);
+    assert_eq!(lent[BYTES_OF_A..], [0xAA; 4]);
+}
+
+#[test]
+fn lengths_of_records() {
+    let bytes = |script: &[u8]| measure(script).unwrap().bytes as usize;
+    assert_eq!(bytes(b""), RECORD_HEAD);
+    for (script, length) in [("7", INT_LIT_LENGTH), ("7L", LONG_LIT_LENGTH), ("\"\"", STR_LENGTH), ("\n", NEWLINE_LENGTH), ("a", RECORD_HEAD)] {
+        assert_eq!(bytes(script.as_bytes()), length + RECORD_HEAD, "{script:?}");
+        assert!(bytes(script.as_bytes()) <= record_bound(script.len()), "{script:?}");
+    }
+    // The bound is met.
+    assert_eq!((bytes(b""), bytes(b"7")), (record_bound(0), record_bound(1)));
+    assert_eq!(record_bound(usize::MAX), usize::MAX);
 }
 
 #[test]
@@ -103,7 +124,7 @@ fn the_example_of_each_refusal() {
         assert_eq!(refusal(script), answer);
         assert_eq!(measure(script), Err(Refusal { number: answer.0, place: answer.1 }));
         // The buffer keeps its values.
-        let mut lent = vec![0xAA; 17 * script.len() + 13];
+        let mut lent = vec![0xAA; record_bound(script.len())];
         assert_eq!(write(script, &mut lent), Err(Refusal { number: answer.0, place: answer.1 }));
         assert!(lent.iter().all(|&byte| byte == 0xAA));
     }
@@ -122,9 +143,9 @@ fn too_long() {
 
 #[test]
 fn short_buffer() {
-    let mut lent = [0xAA; 25];
+    let mut lent = [0xAA; BYTES_OF_A - 1];
     assert_eq!(write(b"a", &mut lent), Err(Refusal { number: 19, place: 0 }));
-    assert_eq!(lent, [0xAA; 25]);
+    assert_eq!(lent, [0xAA; BYTES_OF_A - 1]);
     // 19 comes last.
     assert_eq!(write(b"\"str", &mut []), Err(Refusal { number: 7, place: 4 }));
 }
