@@ -11,7 +11,8 @@ use native.Mathlib.Numerals.{add-one}
 use native.Mathlib.Omega.{arith}
 use borrow.Author.Tests.{eq-eqb, ne-eqb, eqb-true, leb-true, le-leb, lt-leb, lt-ltb, le-ltb}
 use Rattle.replay.specs.Cases.{numberAt, untouched, zeros, same, standsAt, isUntouched, holdsRecords, listedBytes, seenAt, lentAfter, asListed, agreesAt, cutShort, endAt, bytesAt, lentAt, nextAt, caseAt, bufferAt, placeOf, casesFrom, caseCount, differing, bufferAfter}
-use Rattle.token.specs.Host.{seen, bufferSeen, hostOf}
+use Rattle.entry.specs.paper.Host.{seen, bufferSeen}
+use Rattle.entry.specs.computed.Host.{hostOf}
 
 -- ---- equal lists
 

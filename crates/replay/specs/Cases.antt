@@ -4,7 +4,8 @@ use mathlib.Core.Bool.{Bool, true, false, cond, _&&_}
 use mathlib.Core.List.{List, [], _∷_, _++_}
 use lib.Dec.{eqb, leb, ltb}
 use lib.ListN.{length, take, drop, getD, replicate}
-use Rattle.token.specs.Host.{Seen, seen, bufferSeen, hostOf}
+use Rattle.entry.specs.paper.Host.{Seen, seen, bufferSeen}
+use Rattle.entry.specs.computed.Host.{hostOf}
 
 -- ---- lists of bytes
 

@@ -131,7 +131,7 @@ fn agrees(list: &[u8], at: usize, end: usize, bytes: usize, lent: &mut [u8]) -> 
     let start = at + HEAD_BYTES;
     let mut block = [UNTOUCHED; 16];
     fill(lent);
-    let number = token::host::ergo_tokenize(&list[start..end], lent, &mut block);
+    let number = ergo::ergo_tokenize(&list[start..end], lent, &mut block);
     if number as usize != number_at(list, at + 8) {
         return false;
     }
