@@ -1,4 +1,4 @@
--- What is proved for every script: the computed answer is what document 01 declares. Proved: proofs/Theorems.
+-- What is proved for every script: the computed answer is what document 01 declares. Proved: proofs/theorems.
 use Prim.Native.Nat.{ℕ, _≤_}
 use mathlib.Core.Path.{_≡_}
 use mathlib.Core.Logic.{_⊎_, _↔_}

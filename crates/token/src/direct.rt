@@ -1,6 +1,6 @@
-// Tokens that their ASCII bytes tell, which most tokens are: the nine signs, words of one run of ASCII id characters that prefix no string, and
-// runs of ASCII operator signs without `/`. They have no values, so that a kind's number makes the record. Numbers are told in `number`; what bytes do not tell goes
-// by `lexer::advance`.
+// Tokens that are recognised from their ASCII bytes, as most are: the nine signs, words of one run of ASCII id characters that prefix no string,
+// and runs of ASCII operator signs without `/`. They have no values, so that a kind's number makes the record. Numbers have a module of their own,
+// `number`; everything else falls back to `lexer::advance`.
 use crate::class_table::asks_more;
 use crate::class_table::begins_word;
 use crate::class_table::continues_word;
@@ -59,7 +59,7 @@ fn word_end(s: &[u8], t: &[u16; 256], at: usize) -> usize
 }
 
 // Where the run of operator signs ends that begins there; the place itself, where a `/` or a character past ASCII stands in it. At the script's
-// end too, which is rare and left to the others.
+// end too, which is rare and falls back to `advance`.
 fn run_end(s: &[u8], t: &[u16; 256], at: usize) -> usize
     requires { ⌜ (at < length (now s)) × ((ltb (getD (now s) at 0) 0x80 && isOpSign (getD (now s) at 0)) && not (eqb (getD (now s) at 0) 0x2F) ≡ true) × ByteClasses (now t) ⌝ }
     ensures { λ r. ⌜ DirectOr (now (s .entry)) at r ⌝ }
@@ -81,7 +81,7 @@ fn run_end(s: &[u8], t: &[u16; 256], at: usize) -> usize
     at
 }
 
-// Where the token ends that begins there, if its ASCII bytes tell it; else the place itself.
+// Where the token ends that begins there, if it is recognised from its ASCII bytes; else the place itself.
 pub fn direct_end(s: &[u8], t: &[u16; 256], at: usize) -> usize
     requires { ⌜ ByteClasses (now t) ⌝ }
     ensures { λ r. ⌜ DirectOr (now (s .entry)) at r ⌝ }

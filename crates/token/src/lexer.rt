@@ -31,8 +31,8 @@ pub enum Passed {
     Open,
 }
 
-// A token that is no single sign, number, backtick, string, character or symbol: an identifier, an operator, or nothing. ASCII is told by its
-// byte.
+// A token that is no single sign, number, backtick, string, character or symbol: an identifier, an operator, or nothing. ASCII is
+// recognised from its byte.
 fn lex_word(s: &[u8], c: Cursor) -> Piece
     requires { ⌜ (c .at < length (now s)) × (isAny wordless (from (now s) (c .at)) ≡ false) × (opensComment (from (now s) (c .at)) ≡ false) ⌝ }
     ensures { λ r. ⌜ r ≡ pieceOf (length (now (s .entry))) (scan (length (now (s .entry))) (from (now (s .entry)) (c .at))) ⌝ }
@@ -51,7 +51,7 @@ fn lex_word(s: &[u8], c: Cursor) -> Piece
     Piece::Refused(3, at)
 }
 
-// The same by the character that stands there. A Russian letter is told by its bytes.
+// The same by the character that stands there. A Russian letter is recognised from its bytes.
 fn lex_wide_word(s: &[u8], c: Cursor) -> Piece
     requires { ⌜ (c .at < length (now s)) × (isAny wordless (from (now s) (c .at)) ≡ false) × (opensComment (from (now s) (c .at)) ≡ false) ⌝ }
     ensures { λ r. ⌜ r ≡ pieceOf (length (now (s .entry))) (scan (length (now (s .entry))) (from (now (s .entry)) (c .at))) ⌝ }

@@ -1,4 +1,4 @@
-// Numbers that their bytes tell, which most are: all that are not refused, but for those of which all digits but the last make more than
+// Numbers that are recognised from their bytes, as most are: all that are not refused, but for those of which all digits but the last make more than
 // SAFE_MOST. The others go by `digits::lex_number`, which reads every number and refuses some. These readers are kept beside it, since its answer
 // is an enum and goes through memory: their answers are numbers that the walk keeps in registers.
 use crate::class_table::digit_by;
@@ -18,7 +18,7 @@ ghost use Rattle.token.specs.code.Digits.{digitIn, intOr};
 ghost use Rattle.token.specs.code.ClassTable.{ByteClasses};
 ghost use Rattle.token.specs.code.Number.{ReadTo, LiteralAs};
 
-// Where a number ends, its value, and whether it is a LongLit. Where the end is the number's own start, nothing is told.
+// Where a number ends, its value, and whether it is a LongLit. Where the end is the number's own start, none was recognised.
 pub struct Literal {
     pub end: usize,
     pub value: u64,
@@ -100,7 +100,7 @@ fn digits_at(s: &[u8], t: &[u16; 256], at: usize) -> DigitRun
     run_of(s, t, at, at, 10)
 }
 
-// The number that begins there, if its bytes tell it.
+// The number that begins there, if it is recognised from its bytes.
 pub fn literal_at(s: &[u8], t: &[u16; 256], at: usize) -> Literal
     requires { ⌜ (at ≤ length (now s)) × ByteClasses (now t) ⌝ }
     ensures { λ r. ⌜ LiteralAs at (pieceOf (length (now (s .entry))) (scan (length (now (s .entry))) (from (now (s .entry)) at))) r ⌝ }

@@ -71,8 +71,8 @@ fn finish(out: &mut [u8], w: usize, n: usize, last: usize, cut: bool) -> Measure
     Measured::Total(n, w + TokenKind::HEAD_LENGTH as usize)
 }
 
-// As far as tokens are told by their bytes, which most are: signs, words, operators, an LF, numbers. What else stands there, or the end, is left
-// to `advance`.
+// As far as tokens are recognised from their bytes, as most are: signs, words, operators, an LF, numbers. What else stands there, and the end,
+// falls back to `advance`.
 fn walk_direct(out: &mut [u8], s: &[u8], t: &[u16; 256], start: Walked) -> Walked
     requires { ⌜ ByteClasses (now t) × (length (now s) ≤ mostBytes) × (start .at ≤ length (now s)) × (start .count ≤ start .at) × (start .bytes ≤ mostLength * start .at) ⌝ }
     ensures { λ r. ⌜ Reaches (now (s .entry)) (start .at) (start .gap) (start .count) (start .bytes) (now (out .entry)) (r .at) (r .gap) (r .count) (r .bytes) (now (out .exit)) ⌝ }
@@ -116,7 +116,7 @@ fn walk_direct(out: &mut [u8], s: &[u8], t: &[u16; 256], start: Walked) -> Walke
 }
 
 // One walk over the script: it counts tokens and record bytes, and stores each record that fits. Where all fit, the buffer has them; where they
-// do not, or the script is refused, what it holds is not told.
+// do not, or the script is refused, nothing is promised of what it holds.
 fn walk_script(out: &mut [u8], s: &[u8], t: &[u16; 256]) -> Measured
     requires { ⌜ (length (now s) ≤ mostBytes) × ByteClasses (now t) ⌝ }
     ensures { λ r. ⌜ r ≡ measuredOf 0 0 (answer (now (s .entry))) ⌝ }

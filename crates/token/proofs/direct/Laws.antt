@@ -1,4 +1,4 @@
--- Tokens that their ASCII bytes tell are what the scanner finds.
+-- Tokens that are recognised from their ASCII bytes are what the scanner finds.
 use Prim.Native.Nat.{ℕ, _+_, _≤_, _<_}
 use mathlib.Core.Path.{_≡_, refl, sym, _∙_, ap}
 use mathlib.Core.Bool.{Bool, true, false, cond, not, _&&_, _||_}

@@ -174,7 +174,7 @@ block-end s i f d h q = go (ltb i (length s)) refl
     go true e = block-none s (i + 1) f d h (block-on s i f d (ltb-true i (length s) e) (λ m n. absurd (omega (arith, z))) (λ m n. absurd (omega (arith, z))) q)
     go false e = block-none s i f d (ltb-false i (length s) e) q
 
--- two bytes are told by the number that they make
+-- two bytes are known from the number that they make
 module _ (s : List ℕ) (i : ℕ) {p : ℕ} (l : getD s i 0 < 256) (e : p ≡ getD s i 0 + 256 * getD s (i + 1) 0) where
   pub slash-star : p ≡ 0x2A2F → Pair s i 0x2F 0x2A
   slash-star q = pair-of s i 0x2F 0x2A (omega arith) (omega arith) (omega arith) (omega arith) (omega arith) (omega arith)

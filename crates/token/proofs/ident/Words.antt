@@ -1,4 +1,4 @@
--- A keyword is told by the bytes at its start and by its length.
+-- A keyword is recognised from the bytes at its start and from its length.
 use Prim.Native.Nat.{ℕ, suc, _+_, _-_, _≤_, _<_}
 use mathlib.Core.Path.{_≡_, refl, sym, _∙_, ap}
 use mathlib.Core.Bool.{Bool, true, false, cond, _&&_, _||_, and-true, and-false, and-assoc}

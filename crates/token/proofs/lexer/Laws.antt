@@ -98,7 +98,7 @@ module _ (s : List ℕ) (i : ℕ) (h : i < length s) where
   pub operator-at : opensComment t ≡ false → opSign t ≡ true → scan n t ≡ scanAs n Start.operator t
   operator-at z e = scan-by n t Start.operator (starts-operator t (clear t z) e)
 
--- ---- ASCII, told by its byte
+-- ---- ASCII, recognised from its byte
 
 module _ (s : List ℕ) (i : ℕ) (h : i < length s) where
   pub ascii-head : (p : ℕ → Bool) → getD s i 0 < 0x80 → head p (from s i) ≡ p (getD s i 0)

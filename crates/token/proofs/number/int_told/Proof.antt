@@ -1,4 +1,4 @@
--- `number::int_told`: Too large is the test that the definition makes. Nothing is told where the end is the start.
+-- `number::int_told`: Too large is the test that the definition makes. Where the end is the start, nothing was recognised.
 use native.Mathlib.Omega.{arith}
 use borrow.Author.Tests.{le-leb}
 use Rattle.token.specs.code.Digits.{intOr}

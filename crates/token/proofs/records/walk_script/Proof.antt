@@ -1,4 +1,4 @@
--- The loop keeps that the walk comes from the script's start to its place: as far as bytes tell the tokens, then one step more.
+-- The loop keeps that the walk comes from the script's start to its place: as far as tokens are recognised from their bytes, then one step more.
 use Prim.Native.Nat.{_-_}
 use mathlib.Core.Path.{refl, sym, ap, _∙_}
 use native.Mathlib.Omega.{arith}
