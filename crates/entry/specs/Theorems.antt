@@ -1,4 +1,4 @@
--- What is proved of what the host sees, for every script, buffer and block. Proved: proofs/Hosts.
+-- What is proved of what the host sees, for every script, buffer and block. Proved: proofs/theorems/Hosts.
 use Prim.Native.Nat.{ℕ, _≤_}
 use mathlib.Core.Path.{_≡_}
 use mathlib.Core.Logic.{_↔_}

@@ -47,11 +47,6 @@ stands-is list part at e =
     let both = and-eq-true-iff (leb (at + length part) (length list)) (same (take (length part) (drop at list)) part) .0 e in
     (leb-true (at + length part) (length list) (both .0), same-is (take (length part) (drop at list)) part (both .1))
 
-pub is-stands : (list part : List ℕ) (at : ℕ) → at + length part ≤ length list → take (length part) (drop at list) ≡ part
-    → standsAt list at part ≡ true
-unfolding standsAt
-is-stands list part at fits e = rw e (simp (le-leb (at + length part) (length list) fits) (is-same part))
-
 -- ---- the loop of stands_at
 
 -- whether what is left of the part from i on stands in the list
@@ -342,7 +337,7 @@ turn-end {list} {records₀} {records} {at} {scripts} t h =
 
 -- ---- what agreement means
 
--- A case that agrees: the number is the one listed, the block is listed from the eighth byte on, the records are those listed from `end` on,
+-- There to be read. A case that agrees: the number is the one listed, the block is listed from the eighth byte on, the records are those listed from `end` on,
 -- and behind them each byte is as it was.
 pub agrees-means : (list : List ℕ) (at end bytes room : ℕ) {number : ℕ} {buffer block : List ℕ} → seen number buffer block ≡ seenAt list at end room
     → agreesAt list at end bytes room ≡ true

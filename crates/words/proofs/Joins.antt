@@ -3,7 +3,7 @@
 use Prim.Native.Nat.{ℕ, _+_, _*_, _/_, _%_, _≤_, _<_}
 use mathlib.Core.Path.{_≡_, refl, sym, _∙_, ap}
 use mathlib.Core.List.{List, [], _∷_, _++_, append-assoc}
-use lib.ListN.{getD, length, take, drop, length-append, length-drop}
+use lib.ListN.{length, take, drop, length-append, length-drop}
 use lib.Seq.{getD-drop, take-add, drop-at}
 use native.Mathlib.Nat.{add-zero, zero-add, add-assoc, mod-mod, mod-lt, mod-eq-of-lt, mod-add-div', div-eq-of-lt, div-lt-iff-lt-mul, div-div-eq-div-mul, add-mul-mod-self-right, add-mul-div-right, mul-le-mul-right}
 use native.Mathlib.Omega.{arith}
@@ -121,7 +121,7 @@ pub eights : Width le8 eightAt 8 18446744073709551616
 unfolding eightAt
 eights = double _ _ _ _ fours le8 eight-halves
 
--- ---- the laws by their names
+-- ---- the laws by their names, there to be read and cited by whoever reads stored numbers
 
 pub two-fits : (l : List ℕ) (i : ℕ) → Bytes l → twoAt l i < 65536
 two-fits = twos .fits

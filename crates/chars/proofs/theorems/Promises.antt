@@ -30,7 +30,7 @@ all-ascending (u ∷ ts) e t m =
     let k = and-eq-true-iff (ascendingFrom 0 u) (allAscend ts) .0 e in
     ⊎-elim (λ q. rw q (ascending u (k .0))) (λ r. all-ascending ts (k .1) t r) (List·Memᴰ·cases-cons m)
 
--- one computed test over the five
+-- There to be read: one computed test over the five.
 pub tables-ascend : TablesAscend
 tables-ascend = all-ascending tables refl
 

@@ -1,4 +1,4 @@
--- Definitions that only the code needs: what its shortcuts test.
+-- What `eights` tests: runs of bytes of a range, or other than some.
 use Prim.Native.Nat.{ℕ, _+_, _≤_, _<_}
 use mathlib.Core.Path.{_≡_}
 use mathlib.Core.Bool.{Bool, true, not, _&&_}

@@ -1,4 +1,4 @@
--- The refusal table's examples that are the host's, 17 to 21.
+-- The refusal table's examples that are the host's, 17 to 21, each there to be read.
 use Prim.Native.Nat.{ℕ}
 use mathlib.Core.Path.{_≡_, refl}
 use mathlib.Core.Bool.{true}

@@ -55,7 +55,3 @@ pub data Sees (script buffer block : List ℕ) : Seen → Type 0 where
   -- 0 if accepted. Bytes past the records keep their values.
   accepted : {ts : List Token} → Read script block ts → recordBytes ts ≤ length buffer
       → Sees script buffer block (seen 0 (records ts ++ drop (recordBytes ts) buffer) (blockOf 0 0 (tokenCount ts) (recordBytes ts)))
-
--- ---- computed
-
--- ---- token text

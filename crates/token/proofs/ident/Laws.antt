@@ -62,13 +62,6 @@ drop-later s (suc k) i h = go (ltb i (length s)) refl (drop-later s k (nextOf s 
 pub suffix-later : (s : List ℕ) (i : ℕ) (r : Text) → i ≤ length s → Suffix r (from s i) → i ≤ place (length s) r
 suffix-later s i r h v = rw (v .tail) (drop-later s (length (from s i) - length r) i h)
 
-place-within : (s : List ℕ) (i : ℕ) → place (length s) (from s i) ≤ length s
-place-within s i = go (ltb i (length s)) refl
-  where
-    go : (b : Bool) → ltb i (length s) ≡ b → place (length s) (from s i) ≤ length s
-    go true e = let l = ltb-true i (length s) e in let q = place-from s i (omega arith) in omega arith
-    go false e = rw (at-end s i (ltb-false i (length s) e)) (omega arith)
-
 -- two places in a text, the second past some of its characters
 pub left-to : (s : List ℕ) (i j : ℕ) (r : Text) → i ≤ length s → j ≤ length s → from s j ≡ r → Suffix r (from s i)
     → (i ≤ j) × (j ≤ length s) × LeftOf (from s i) (from s j)

@@ -296,9 +296,6 @@ unfolding scan
 scan-by n s x e = rw e
 
 -- a single sign
-sign-hit : (s : Text) (a : String) (k : TokenKind) → Type 0
-sign-hit s a k = isAny a s ≡ true → signOf s ≡ k
-
 pub sign-of : (s : Text) → isAny "()[]{},;." s ≡ true → (y : TokenType) × TokenShape y s (drop 1 s) × ((n : ℕ) → Valued n s (drop 1 s) y (signOf s))
 unfolding signOf TokenShape
 sign-of [] e = clash e

@@ -1,4 +1,4 @@
--- Document 01, "Twelve marked scripts", as one computed check over their list; the listing's example and the refusal table's examples.
+-- Document 01, "Twelve marked scripts", as one computed check over their list; the listing's example and the refusal table's examples. There to be read.
 use mathlib.Core.Path.{_≡_, refl}
 use mathlib.Core.Bool.{true}
 use mathlib.Core.List.{List, [], _∷_, _++_}
