@@ -2,6 +2,10 @@
 use crate::kinds::Form;
 use crate::kinds::TokenKind;
 use crate::kinds::bit_of;
+use words::read::eight;
+use words::read::four;
+use words::read::one;
+use words::read::two;
 use words::write::put2;
 use words::write::put4;
 use words::write::put8;
@@ -9,9 +13,9 @@ ghost use mathlib.Core.Path.{_≡_};
 ghost use Prim.Native.Nat.{_+_, _-_, _≤_};
 ghost use lib.ListN.{length, take};
 ghost use lib.Seq.{sets};
-ghost use Rattle.token.specs.paper.Records.{fieldsOf, headLength};
+ghost use Rattle.token.specs.paper.Records.{fieldsOf, headLength, mostLength};
 ghost use Rattle.words.specs.Words.{le8};
-ghost use Rattle.token.specs.code.Form.{Known, byForm};
+ghost use Rattle.token.specs.code.Form.{Known, byForm, valuesAt, heldAt, Bounds};
 ghost use Rattle.token.specs.code.Records.{storedIf};
 
 // Length, kind, start, end and cut.
@@ -61,5 +65,51 @@ pub fn put_if(out: &mut [u8], w: usize, form: Form, start: usize, end: usize, cu
     if w + form.length as usize <= out.len() {
         put_record(out, w, form, start, end, cut);
         return;
+    }
+}
+
+// A record as it stands in bytes.
+pub struct Held {
+    pub number: u64,
+    pub length: u64,
+    pub values: u64,
+    pub start: u64,
+    pub end: u64,
+    pub cut: u64,
+}
+
+const LINE_LENGTH: u64 = TokenKind::NEWLINE_LENGTH as u64;
+
+const INT_LENGTH: u64 = TokenKind::INT_LIT_LENGTH as u64;
+
+const LONG_LENGTH: u64 = TokenKind::LONG_LIT_LENGTH as u64;
+
+// The values as one number: as many bytes of them as the record's length has.
+fn read_values(bytes: &[u8], at: usize, size: u64) -> u64
+    requires { ⌜ at + 8 ≤ 18446744073709551615 ⌝ }
+    ensures { λ r. ⌜ r ≡ valuesAt (now (bytes .entry)) at size ⌝ }
+{
+    match size {
+        LINE_LENGTH => one(bytes, at),
+        INT_LENGTH => four(bytes, at),
+        LONG_LENGTH => eight(bytes, at),
+        _ => 0,
+    }
+}
+
+// Every record is read here. Every byte is allowed: past the end a byte counts as 0.
+pub fn read_record(bytes: &[u8], at: usize) -> Held
+    requires { ⌜ at + mostLength ≤ 18446744073709551615 ⌝ }
+    ensures { λ r. ⌜ r ≡ heldAt (now (bytes .entry)) at ⌝ }
+    ensures { λ r. ⌜ Bounds r ⌝ }
+{
+    let length = two(bytes, at);
+    Held {
+        number: two(bytes, at + 2),
+        length: length,
+        values: read_values(bytes, at + TokenKind::HEAD_LENGTH as usize, length),
+        start: four(bytes, at + 4),
+        end: four(bytes, at + 8),
+        cut: one(bytes, at + 12),
     }
 }

@@ -8,7 +8,7 @@ mod string; // strings and escapes
 mod ident; // identifiers, operators and backticks
 mod charsym; // characters and symbols
 mod lexer; // one step over a script: the gap, then one token
-mod form; // one record, stored and read back
+pub mod form; // one record, stored and read back
 mod class_table; // what a byte is, by a table
 mod direct; // signs, words and operators, recognised from their ASCII bytes
 mod number; // numbers, recognised from their bytes

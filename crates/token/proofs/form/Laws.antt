@@ -24,7 +24,7 @@ known-least Known.line = omega arith
 known-least Known.int = omega arith
 known-least Known.long = omega arith
 
-known-most : {n : ℕ} → Known n → n ≤ mostLength
+pub known-most : {n : ℕ} → Known n → n ≤ mostLength
 known-most Known.head = omega arith
 known-most Known.line = omega arith
 known-most Known.int = omega arith
@@ -70,7 +70,7 @@ lower-four : (q r : ℕ) → le4 (r + q * 4294967296) ≡ le4 r
 unfolding le4
 lower-four q r = rw (low-byte q r, second-byte q r, third-byte q r, fourth-byte q r)
 
-low-four : (v : ℕ) → le4 (v % 4294967296) ≡ le4 v
+pub low-four : (v : ℕ) → le4 (v % 4294967296) ≡ le4 v
 low-four v =
     let e : v % 4294967296 + v / 4294967296 * 4294967296 ≡ v = omega arith in
     sym (ap le4 (sym e) ∙ lower-four (v / 4294967296) (v % 4294967296))
@@ -85,11 +85,15 @@ two-fours a e =
     ap (λ n. le4 n ++ le4 (x / 4294967296)) p ∙ ap (λ n. le4 (a % 4294967296) ++ le4 n) q
     ∙ ap (λ l. l ++ le4 (e % 4294967296)) (low-four a) ∙ ap (λ l. le4 a ++ l) (low-four e)
 
-take-four : (v : ℕ) → take 4 (le8 v) ≡ le4 (v % 4294967296)
+pub take-one : (v : ℕ) → take 1 (le8 v) ≡ v % 256 ∷ []
+unfolding le8 le4
+take-one v = let a : v % 4294967296 % 256 ≡ v % 256 = omega arith in rw a
+
+pub take-four : (v : ℕ) → take 4 (le8 v) ≡ le4 (v % 4294967296)
 unfolding le8 le4
 take-four v = refl
 
-take-eight : (v : ℕ) → take 8 (le8 v) ≡ le8 v
+pub take-eight : (v : ℕ) → take 8 (le8 v) ≡ le8 v
 unfolding le8 le4
 take-eight v = refl
 
@@ -183,10 +187,7 @@ eof-form = refl
 -- ---- stores
 
 pub put-one : (l : List ℕ) (w v n : ℕ) → n ≡ lineLength → set l w (v % 256) ≡ sets l w (take (n - headLength) (le8 v))
-unfolding le8 le4
-put-one l w v n e =
-    let a : v % 4294967296 % 256 ≡ v % 256 = omega arith in
-    rw e (ap (set l w) (sym a))
+put-one l w v n e = rw e (ap (sets l w) (sym (take-one v)))
 
 pub put-some : (l m : List ℕ) (w v n : ℕ) → n ≡ intLength → m ≡ sets l w (le4 (v % 4294967296)) → m ≡ sets l w (take (n - headLength) (le8 v))
 put-some l m w v n e q = q ∙ ap (sets l w) (sym (ap (λ k. take (k - headLength) (le8 v)) e ∙ take-four v))

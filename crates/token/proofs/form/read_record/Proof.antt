@@ -1,0 +1,70 @@
+-- Each number is read at its place, the values by the length.
+use Rattle.token.specs.code.Form.{heldAt}
+use borrow.Author.Needs.{needs}
+use Rattle.token.proofs.form.read_record.Statement.{statement}
+use Rattle.token.proofs.form.read_record.Tie as tie
+
+two-requires : tie.Need-two-requires
+two-requires c κs = search needs
+
+add-two : tie.Need-add-two
+add-two c = search needs
+
+two-requires-2 : tie.Need-two-requires-2
+two-requires-2 c κs = search needs
+
+cast-read-values : tie.Need-cast-read-values
+cast-read-values c = search needs
+
+add-read-values : tie.Need-add-read-values
+add-read-values c = search needs
+
+read-values-requires : tie.Need-read-values-requires
+read-values-requires c κs = search needs
+
+add-four : tie.Need-add-four
+add-four c = search needs
+
+four-requires : tie.Need-four-requires
+four-requires c κs = search needs
+
+add-four-2 : tie.Need-add-four-2
+add-four-2 c = search needs
+
+four-requires-2 : tie.Need-four-requires-2
+four-requires-2 c κs = search needs
+
+add-one : tie.Need-add-one
+add-one c = search needs
+
+one-requires : tie.Need-one-requires
+one-requires c κs = search needs
+
+returns : tie.Need-returns
+unfolding heldAt
+returns c =
+    let length = c .before .before .before .before .before .two .ensures in
+    let number = c .before .before .before .before .two2 .ensures in
+    let values = c .before .before .before .read-values .ensures in
+    let start = c .before .before .four .ensures in
+    let end = c .before .four2 .ensures in
+    let cut = c .one .ensures in
+    (simp (values, length .0, number .0, start .0, end .0, cut .0), record { number = number .1; length = length .1; start = start .1; end = end .1; cut = cut .1 })
+
+pub read-record-spec : {M : Type 1} → statement M
+read-record-spec =
+    tie.close
+    (tie.spec
+    two-requires
+    add-two
+    two-requires-2
+    cast-read-values
+    add-read-values
+    read-values-requires
+    add-four
+    four-requires
+    add-four-2
+    four-requires-2
+    add-one
+    one-requires
+    returns)
