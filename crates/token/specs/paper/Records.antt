@@ -55,11 +55,9 @@ headLength = 13
 abbrev pub intLength : ℕ
 intLength = headLength + 4
 
+-- LongLit and Str
 abbrev pub longLength : ℕ
 longLength = headLength + 8
-
-abbrev pub strLength : ℕ
-strLength = headLength + 8
 
 abbrev pub lineLength : ℕ
 lineLength = headLength + 1
