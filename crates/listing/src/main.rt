@@ -4,20 +4,24 @@
 use libc::STDIN_FILENO;
 use libc::STDOUT_FILENO;
 ghost use mathlib.Core.Path.{_≡_};
+ghost use Prim.Native.Nat.{_+_};
 ghost use lib.ListN.{length};
+ghost use Rattle.listing_text.specs.Lines.{mostScript};
 
 // One byte more than a listing takes.
-fn script_space() -> [u8; 3001]
-    ensures { λ r. ⌜ 3001 ≡ length r ⌝ }
+const SCRIPT_BYTES: usize = listing_text::MOST_BYTES + 1;
+
+fn script_space() -> [u8; SCRIPT_BYTES]
+    ensures { λ r. ⌜ mostScript + 1 ≡ length r ⌝ }
 {
-    [0; 3001]
+    [0; SCRIPT_BYTES]
 }
 
 // It reads and writes, and no contract can say what; the text is `listing_text::listing`'s.
 fn main() {
     let mut script = script_space();
     let n = io::read_full(STDIN_FILENO, &mut script);
-    let mut text = [0u8; 510154];
+    let mut text = [0u8; listing_text::TEXT_BYTES];
     let length = listing_text::listing(&script[..n], &mut text);
     io::write_all(STDOUT_FILENO, &text[..length]);
 }

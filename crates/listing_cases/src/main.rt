@@ -4,6 +4,7 @@
 // Standard input holds cases, one directly after the other. A case is four decimal digits, the script's length, a line feed, and the script.
 use libc::STDIN_FILENO;
 use libc::STDOUT_FILENO;
+use listing_text::TEXT_BYTES;
 ghost use mathlib.Core.Path.{_≡_};
 ghost use lib.ListN.{length};
 ghost use Prim.Native.Nat.{_+_, _<_, _≤_};
@@ -59,7 +60,7 @@ fn case_end(list: &[u8], at: usize) -> usize
 }
 
 // The text of the case that starts at a place, after `earlier` others, at the start of out. The answer is the text's length.
-fn put_case(list: &[u8], at: usize, earlier: u64, out: &mut [u8; 510154]) -> usize
+fn put_case(list: &[u8], at: usize, earlier: u64, out: &mut [u8; TEXT_BYTES]) -> usize
     requires { ⌜ (at + 5 ≤ length (now list)) × (at ≡ casePlace (now list) earlier) × (earlier ≤ at) ⌝ }
     ensures { λ r. ⌜ r ≡ length (caseOf (now (list .entry)) earlier) ⌝ }
     ensures { λ r. ⌜ now (out .exit) ≡ sets (now (out .entry)) 0 (caseOf (now (list .entry)) earlier) ⌝ }
@@ -75,7 +76,7 @@ fn put_case(list: &[u8], at: usize, earlier: u64, out: &mut [u8; 510154]) -> usi
 fn write_cases(list: &[u8]) -> u64
     ensures { λ r. ⌜ r ≡ caseCount (now (list .entry)) ⌝ }
 {
-    let mut text = [0u8; 510154];
+    let mut text = [0u8; TEXT_BYTES];
     let mut at: usize = 0;
     let mut written: u64 = 0;
     while list.len() - at >= HEAD_BYTES {

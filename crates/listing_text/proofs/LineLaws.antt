@@ -7,9 +7,12 @@ use lib.ListN.{length, take, drop, length-drop}
 use lib.Seq.{drop-drop, take-all}
 use lib.Dec.{eqb, leb}
 use native.Mathlib.Omega.{arith}
-use borrow.Author.Tests.{lt-leb, leb-true, eqb-false, ne-eqb}
+use borrow.Author.Tests.{leb-true, eqb-false, ne-eqb}
 use Rattle.token.specs.computed.Listing.{spaced}
-use Rattle.listing_text.specs.Fields.{two, recordLength, lineOf}
+use Rattle.words.specs.Words.{twoAt}
+use Rattle.token.specs.paper.Records.{headLength}
+use Rattle.token.specs.code.Form.{heldAt}
+use Rattle.listing_text.specs.Fields.{recordLength, lineOf}
 use Rattle.listing_text.specs.Lines.{Puts, valuesText, lineText, linesFor, recordLines}
 use Rattle.listing_text.proofs.PutLaws.{put-none, put-on, put-as}
 use Rattle.listing_text.specs.declared.fields.Line.{Line}
@@ -36,24 +39,28 @@ two-values l p q = two-of (l .count) (l .first) (l .second) p q
 
 -- ---- a record's own length
 
-no-record : (b : List ℕ) → length b < 13 → recordLength b ≡ 0
+no-record : (b : List ℕ) → length b < headLength → recordLength b ≡ 0
 unfolding recordLength
-no-record b h = simp (lt-leb 13 (length b) h)
-
-pub at-least : (b : List ℕ) → (recordLength b ≡ 0 → ⊥) → 13 ≤ recordLength b
-unfolding recordLength
-at-least b h = go (leb 13 (length b)) (leb 13 (two b 0)) (leb (two b 0) (length b)) refl h
+no-record b h = go (leb headLength (twoAt b 0)) (leb (twoAt b 0) (length b)) refl refl
   where
-    go : (x y z : Bool) → leb 13 (two b 0) ≡ y → (cond x (cond y (cond z (two b 0) 0) 0) 0 ≡ 0 → ⊥) → 13 ≤ cond x (cond y (cond z (two b 0) 0) 0) 0
-    go false y z e p = absurd (p refl)
-    go true false z e p = absurd (p refl)
-    go true true false e p = absurd (p refl)
-    go true true true e p = leb-true 13 (two b 0) e
+    go : (x y : Bool) → leb headLength (twoAt b 0) ≡ x → leb (twoAt b 0) (length b) ≡ y → cond x (cond y (twoAt b 0) 0) 0 ≡ 0
+    go false y p q = refl
+    go true false p q = refl
+    go true true p q = absurd (omega (arith, leb-true headLength (twoAt b 0) p, leb-true (twoAt b 0) (length b) q))
+
+pub at-least : (b : List ℕ) → (recordLength b ≡ 0 → ⊥) → headLength ≤ recordLength b
+unfolding recordLength
+at-least b h = go (leb headLength (twoAt b 0)) (leb (twoAt b 0) (length b)) refl h
+  where
+    go : (x y : Bool) → leb headLength (twoAt b 0) ≡ x → (cond x (cond y (twoAt b 0) 0) 0 ≡ 0 → ⊥) → headLength ≤ cond x (cond y (twoAt b 0) 0) 0
+    go false y e p = absurd (p refl)
+    go true false e p = absurd (p refl)
+    go true true e p = leb-true headLength (twoAt b 0) e
 
 -- ---- lines, record by record
 
 abbrev first : List ℕ → List ℕ
-first b = lineText (lineOf (take (recordLength b) b))
+first b = lineText (lineOf (heldAt b 0))
 
 abbrev others : List ℕ → List ℕ
 others b = drop (recordLength b) b
@@ -97,8 +104,8 @@ from-on l i = take-all (length l - i) (drop i l) (omega (arith, length-drop i l)
 pub length-on : (l : List ℕ) (i n : ℕ) → n ≡ recordLength (take (length l - i) (drop i l)) → n ≡ recordLength (drop i l)
 length-on l i n e = e ∙ ap recordLength (from-on l i)
 
-pub line-on : (l : List ℕ) (i n : ℕ) (r : Line) → r ≡ lineOf (take (i + n - i) (drop i l)) → lineText r ≡ lineText (lineOf (take n (drop i l)))
-line-on l i n r e = let m : i + n - i ≡ n = omega arith in ap lineText (e ∙ ap (λ k. lineOf (take k (drop i l))) m)
+pub line-on : (l : List ℕ) (i : ℕ) (r : Line) → r ≡ lineOf (heldAt (take (length l - i) (drop i l)) 0) → lineText r ≡ first (drop i l)
+line-on l i r e = ap lineText (e ∙ ap (λ t. lineOf (heldAt t 0)) (from-on l i))
 
 -- the lines before the place `from` of the records are put, and the others are to come
 pub record Listed (records old : List ℕ) (at : ℕ) (new : List ℕ) (next from : ℕ) : Type 0 where
@@ -110,19 +117,18 @@ pub listed-start : (records old : List ℕ) (at : ℕ) → Listed records old at
 listed-start records old at = record { text = []; put = put-none old at; rest = refl }
 
 line-and-rest : (records : List ℕ) (from n : ℕ) → n ≡ recordLength (drop from records) → (n ≡ 0 → ⊥)
-    → lineText (lineOf (take n (drop from records))) ++ recordLines (drop (from + n) records) ≡ recordLines (drop from records)
+    → first (drop from records) ++ recordLines (drop (from + n) records) ≡ recordLines (drop from records)
 line-and-rest records from n e p =
     let b = drop from records in
-    ap (λ t. lineText (lineOf (take n b)) ++ recordLines t) (sym (drop-drop n from records))
-    ∙ ap (λ k. lineText (lineOf (take k b)) ++ recordLines (drop k b)) e
+    ap (λ t. first b ++ recordLines t) (sym (drop-drop n from records))
+    ∙ ap (λ k. first b ++ recordLines (drop k b)) e
     ∙ lines-turn b (λ z. p (e ∙ z))
 
 pub listed-turn : {records old new later : List ℕ} {at next then from n : ℕ} → Listed records old at new next from
-    → n ≡ recordLength (drop from records) → (n ≡ 0 → ⊥) → Puts new next (lineText (lineOf (take n (drop from records)))) later then
+    → n ≡ recordLength (drop from records) → (n ≡ 0 → ⊥) → Puts new next (first (drop from records)) later then
     → Listed records old at later then (from + n)
 listed-turn {records} {old} {new} {later} {at} {next} {then} {from} {n} h e p q =
-    let b = drop from records in
-    let line = lineText (lineOf (take n b)) in
+    let line = first (drop from records) in
     let to-come = recordLines (drop (from + n) records) in
     record {
       text = h .text ++ line;

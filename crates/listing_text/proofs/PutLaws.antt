@@ -7,7 +7,7 @@ use lib.Seq.{sets, length-take-le, take-suc, take-all}
 use native.Mathlib.Numerals.{add-one}
 use native.Mathlib.Omega.{arith}
 use Rattle.io.specs.Counts.{Counts}
-use Rattle.token.proofs.form.Stores.{after}
+use Rattle.words.proofs.Stores.{after}
 use Rattle.token.specs.computed.Listing.{decimal, spaced}
 use Rattle.listing_text.specs.Lines.{Puts}
 

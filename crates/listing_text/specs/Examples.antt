@@ -5,14 +5,19 @@ use mathlib.Core.List.{List, [], _∷_}
 use Prim.Native.Nat.{ℕ}
 use lib.ListN.{replicate}
 use Rattle.token.specs.paper.Tests.{same}
-use Rattle.token.specs.computed.Listing.{script, Example, _gives_, hosted}
+use Rattle.words.specs.Words.{twoAt, fourAt, eightAt}
+use Rattle.chars.specs.paper.Quoted.{codes}
+use Rattle.chars.specs.computed.Encoded.{script}
+use Rattle.token.specs.code.Form.{valuesAt, heldAt}
+use Rattle.token.specs.computed.Listing.{Example, _gives_}
 use Rattle.token.specs.computed.Examples.{marked, listingExample}
-use Rattle.listing_text.specs.Fields.{two, four, eight, recordLength, valueCount, firstValue, lineOf}
-use Rattle.listing_text.specs.Lines.{codes, headText, valuesText, lineText, linesFor, recordLines, refusedText, answerText, zeros, listing}
+use Rattle.entry.specs.computed.Listing.{hosted}
+use Rattle.listing_text.specs.Fields.{recordLength, valueCount, firstValue, lineOf}
+use Rattle.listing_text.specs.Lines.{headText, valuesText, lineText, linesFor, recordLines, answerText, zeros, listing}
 
 -- Where this is unfolded, all of the definition is.
 unfoldable pub made : List ℕ → List ℕ
-unfolding hosted two four eight recordLength valueCount firstValue lineOf headText valuesText lineText linesFor recordLines refusedText answerText zeros listing
+unfolding hosted twoAt fourAt eightAt valuesAt heldAt recordLength valueCount firstValue lineOf headText valuesText lineText linesFor recordLines answerText zeros listing
 made s = listing s
 
 abbrev pub holds : List Example → Bool

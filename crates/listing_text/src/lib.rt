@@ -4,5 +4,7 @@ mod lines;
 mod puts;
 mod text;
 
+pub use text::MOST_BYTES;
+pub use text::TEXT_BYTES;
 pub use text::case_text;
 pub use text::listing;

@@ -7,7 +7,8 @@ use crate::puts::put_number;
 use crate::puts::put_spaced;
 ghost use Prim.Native.Nat.{_+_, _*_, _≤_};
 ghost use lib.ListN.{length};
-ghost use Rattle.listing_text.specs.Lines.{Puts, headText, valuesText, lineText, recordLines, refusedText};
+ghost use Rattle.token.specs.computed.Listing.{refusedAt};
+ghost use Rattle.listing_text.specs.Lines.{Puts, headText, valuesText, lineText, recordLines};
 
 // Kind, start, end and cut: four numbers of at most 20 digits, and three spaces.
 fn put_head(out: &mut [u8], at: usize, line: Line) -> usize
@@ -50,7 +51,7 @@ fn put_line(out: &mut [u8], at: usize, line: Line) -> usize
 }
 
 // A line for each record, by its own length, up to the end or to where no whole record stands. A line has at most 126 bytes and a record
-// at least 13.
+// at least 13, so that ten bytes for each of theirs are enough.
 pub fn put_records(out: &mut [u8], at: usize, records: &[u8]) -> usize
     requires { ⌜ at + 10 * length (now records) ≤ length (now out) ⌝ }
     ensures { λ r. ⌜ Puts (now (out .entry)) at (recordLines (now (records .entry))) (now (out .exit)) r ⌝ }
@@ -63,17 +64,16 @@ pub fn put_records(out: &mut [u8], at: usize, records: &[u8]) -> usize
         if length == 0 {
             return next;
         }
-        let end = from + length;
-        let line = line_of(&records[from..end]);
+        let line = line_of(&records[from..]);
         next = put_line(out, next, line);
-        from = end;
+        from += length;
     }
     next
 }
 
 pub fn put_refused(out: &mut [u8], at: usize, number: u64, place: u64) -> usize
     requires { ⌜ at + 53 ≤ length (now out) ⌝ }
-    ensures { λ r. ⌜ Puts (now (out .entry)) at (refusedText number place) (now (out .exit)) r ⌝ }
+    ensures { λ r. ⌜ Puts (now (out .entry)) at (refusedAt number place) (now (out .exit)) r ⌝ }
     ensures { λ r. ⌜ r ≤ length (now (out .entry)) ⌝ }
 {
     let after_word = put_bytes(out, at, b"refused ");

@@ -1,26 +1,33 @@
 // The whole text of a listing. Document 01, "Host entry and text".
-use crate::fields::four;
 use crate::lines::put_records;
 use crate::lines::put_refused;
 use crate::puts::put_bytes;
 use crate::puts::put_number;
+use token::kinds::TokenKind;
+use words::read::four;
 ghost use mathlib.Core.Path.{_≡_};
 ghost use Prim.Native.Nat.{_+_, _≤_, min};
 ghost use lib.ListN.{length};
 ghost use lib.Seq.{sets};
 ghost use Rattle.io.specs.Counts.{Counts};
-ghost use Rattle.token.specs.Host.{seen};
-ghost use Rattle.listing_text.specs.Lines.{Puts, answerText, zeros, listing as listingOf, caseText};
+ghost use Rattle.entry.specs.paper.Host.{seen};
+ghost use Rattle.listing_text.specs.Lines.{Puts, answerText, zeros, recordsRoom, linesRoom, listing as listingOf, caseText};
 
 // The listing program takes up to 3,000 bytes.
-const MOST_BYTES: usize = 3000;
+pub const MOST_BYTES: usize = 3000;
 
-// 17 times 3,000 plus 13 bytes.
-fn records_space() -> [u8; 51013]
-    ensures { λ r. ⌜ r ≡ zeros 51013 ⌝ }
-    ensures { λ r. ⌜ 51013 ≡ length r ⌝ }
+// What the records of any such script need: 17 times 3,000 plus 13 bytes.
+const RECORDS_BYTES: usize = TokenKind::INT_LIT_LENGTH as usize * MOST_BYTES
+    + TokenKind::HEAD_LENGTH as usize;
+
+// Ten bytes for each of theirs, and 24 for a case's number, are enough for every script's text.
+pub const TEXT_BYTES: usize = 10 * RECORDS_BYTES + 24;
+
+fn records_space() -> [u8; RECORDS_BYTES]
+    ensures { λ r. ⌜ r ≡ zeros recordsRoom ⌝ }
+    ensures { λ r. ⌜ recordsRoom ≡ length r ⌝ }
 {
-    [0; 51013]
+    [0; RECORDS_BYTES]
 }
 
 fn block_space() -> [u8; 16]
@@ -36,7 +43,7 @@ fn least(a: u64, b: usize) -> usize
 }
 
 fn put_answer(out: &mut [u8], at: usize, number: u32, records: &[u8], block: &[u8]) -> usize
-    requires { ⌜ (at + 510130 ≤ length (now out)) × (length (now records) ≤ 51013) ⌝ }
+    requires { ⌜ (at + linesRoom ≤ length (now out)) × (length (now records) ≤ recordsRoom) ⌝ }
     ensures { λ r. ⌜ Puts (now (out .entry)) at (answerText (seen number (now (records .entry)) (now (block .entry)))) (now (out .exit)) r ⌝ }
     ensures { λ r. ⌜ r ≤ length (now (out .entry)) ⌝ }
 {
@@ -49,7 +56,7 @@ fn put_answer(out: &mut [u8], at: usize, number: u32, records: &[u8], block: &[u
 
 // The listing of a script; more than 3,000 bytes give `long`.
 fn put_listing(out: &mut [u8], at: usize, script: &[u8]) -> usize
-    requires { ⌜ at + 510130 ≤ length (now out) ⌝ }
+    requires { ⌜ at + linesRoom ≤ length (now out) ⌝ }
     ensures { λ r. ⌜ Puts (now (out .entry)) at (listingOf (now (script .entry))) (now (out .exit)) r ⌝ }
     ensures { λ r. ⌜ r ≤ length (now (out .entry)) ⌝ }
 {
@@ -58,13 +65,12 @@ fn put_listing(out: &mut [u8], at: usize, script: &[u8]) -> usize
     }
     let mut records = records_space();
     let mut block = block_space();
-    let number = token::host::ergo_tokenize(script, &mut records, &mut block);
+    let number = ergo::ergo_tokenize(script, &mut records, &mut block);
     put_answer(out, at, number, &records, &block)
 }
 
 // The listing of a script stands at the start of out, and every other byte is as it was. The answer is the listing's length.
-// Ten bytes for each of 51,013 record bytes, and 24 for a case's number, are enough for every script.
-pub fn listing(script: &[u8], out: &mut [u8; 510154]) -> usize
+pub fn listing(script: &[u8], out: &mut [u8; TEXT_BYTES]) -> usize
     ensures { λ r. ⌜ r ≡ length (listingOf (now (script .entry))) ⌝ }
     ensures { λ r. ⌜ now (out .exit) ≡ sets (now (out .entry)) 0 (listingOf (now (script .entry))) ⌝ }
     ensures { λ r. ⌜ Counts r (now (out .exit)) ⌝ }
@@ -73,7 +79,7 @@ pub fn listing(script: &[u8], out: &mut [u8; 510154]) -> usize
 }
 
 // The same with the line `-- K` before it, for one case of several.
-pub fn case_text(number: u64, script: &[u8], out: &mut [u8; 510154]) -> usize
+pub fn case_text(number: u64, script: &[u8], out: &mut [u8; TEXT_BYTES]) -> usize
     ensures { λ r. ⌜ r ≡ length (caseText number (now (script .entry))) ⌝ }
     ensures { λ r. ⌜ now (out .exit) ≡ sets (now (out .entry)) 0 (caseText number (now (script .entry))) ⌝ }
     ensures { λ r. ⌜ Counts r (now (out .exit)) ⌝ }

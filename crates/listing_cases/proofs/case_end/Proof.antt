@@ -1,5 +1,4 @@
 -- `listing_cases::case_end` meets its contract: the tests tell which of the two is less.
--- Assumes nothing.
 use native.Mathlib.Omega.{arith}
 use Rattle.listing_cases.specs.Cases.{caseEnd}
 use borrow.Author.Needs.{needs}

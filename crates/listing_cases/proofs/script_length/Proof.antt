@@ -1,5 +1,4 @@
 -- `listing_cases::script_length` meets its contract: its sum is that of the definition.
--- Assumes nothing.
 use native.Mathlib.Omega.{arith}
 use Rattle.listing_cases.specs.Cases.{scriptLength}
 use borrow.Author.Needs.{needs}

@@ -1,9 +1,10 @@
 -- `fields::record_length` meets its contract: each return is the case that its tests chose.
--- Assumes nothing.
 use lib.ListN.{length}
-use borrow.Author.Tests.{le-leb, lt-leb}
 use native.Mathlib.Omega.{arith}
-use Rattle.listing_text.specs.Fields.{two, recordLength}
+use borrow.Author.Tests.{le-leb, lt-leb}
+use Rattle.words.specs.Words.{twoAt}
+use Rattle.token.specs.paper.Records.{headLength}
+use Rattle.listing_text.specs.Fields.{recordLength}
 use borrow.Author.Needs.{needs}
 use Rattle.listing_text.proofs.fields.record_length.Statement.{statement}
 use Rattle.listing_text.proofs.fields.record_length.Tie as tie
@@ -11,30 +12,29 @@ use Rattle.listing_text.proofs.fields.record_length.Tie as tie
 two-requires : tie.Need-two-requires
 two-requires c κs = search needs
 
+cast-if1 : tie.Need-cast-if1
+cast-if1 c = search needs
+
 returns : tie.Need-returns
 unfolding recordLength
-returns c = (simp (lt-leb 13 _ (c .if1 .taken)), omega arith)
+returns c =
+    let bytes = c .before .before .before .args .bytes .now in
+    let e = c .before .two .ensures .0 in
+    (simp (lt-leb headLength (twoAt bytes 0) (omega (arith, e))), omega arith)
 
 returns-2 : tie.Need-returns-2
 unfolding recordLength
 returns-2 c =
-    let s = c .before .before .before .before .args .bytes .now in
+    let bytes = c .before .before .before .before .args .bytes .now in
     let e = c .before .before .two .ensures .0 in
-    (simp (le-leb 13 (length s) (c .before .if1 .left), lt-leb 13 (two s 0) (omega (arith, e))), omega (arith, e))
+    (simp (le-leb headLength (twoAt bytes 0) (omega (arith, e)), lt-leb (twoAt bytes 0) (length bytes) (omega (arith, e))), omega arith)
 
 returns-3 : tie.Need-returns-3
 unfolding recordLength
 returns-3 c =
-    let s = c .before .before .before .before .before .args .bytes .now in
-    let e = c .before .before .before .two .ensures .0 in
-    (simp (le-leb 13 (length s) (c .before .before .if1 .left), le-leb 13 (two s 0) (omega (arith, e)), lt-leb (two s 0) (length s) (omega (arith, e))), omega (arith, e))
-
-returns-4 : tie.Need-returns-4
-unfolding recordLength
-returns-4 c =
-    let s = c .before .before .before .before .before .args .bytes .now in
-    let e = c .before .before .before .two .ensures .0 in
-    (simp (le-leb 13 (length s) (c .before .before .if1 .left), le-leb 13 (two s 0) (omega (arith, e)), le-leb (two s 0) (length s) (omega (arith, e)), e), omega (arith, e))
+    let bytes = c .before .before .before .before .args .bytes .now in
+    let e = c .before .before .two .ensures .0 in
+    (simp (le-leb headLength (twoAt bytes 0) (omega (arith, e)), le-leb (twoAt bytes 0) (length bytes) (omega (arith, e))) e, omega arith)
 
 pub record-length-spec : {M : Type 1} → statement M
-record-length-spec = tie.close (tie.spec two-requires returns returns-2 returns-3 returns-4)
+record-length-spec = tie.close (tie.spec two-requires cast-if1 returns returns-2 returns-3)

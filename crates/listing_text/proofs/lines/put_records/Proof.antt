@@ -44,9 +44,6 @@ returns c =
     let e = length-on records (loop .from) _ (c .before .record-length .ensures .0) in
     (listed-end (loop .inv .3) (sym e ∙ c .if1 .taken), omega (arith, loop .inv .2))
 
-add-end : tie.Need-add-end Inv-loop μ-loop
-add-end c = search needs
-
 sub-line-of : tie.Need-sub-line-of Inv-loop μ-loop
 sub-line-of c = search needs
 
@@ -68,6 +65,9 @@ put-line-requires c κs =
     let least = at-least (drop (loop .from) records) (λ z. c .before .before .before .if1 .left (e ∙ z)) in
     omega (arith, e, least, size .ensures .1, length-drop (loop .from) records, loop .inv .1, loop .inv .2)
 
+add-from : tie.Need-add-from Inv-loop μ-loop
+add-from c = search needs
+
 loop-less : tie.Need-loop-less Inv-loop μ-loop
 loop-less c = search needs
 
@@ -82,7 +82,7 @@ loop-again c =
     let e = length-on records (loop .from) _ (size .ensures .0) in
     let least = at-least (drop (loop .from) records) (λ z. some (e ∙ z)) in
     let within : loop .from + size .result ≤ length records = omega (arith, size .ensures .1, length-drop (loop .from) records) in
-    let stands = put-as (line-on records (loop .from) (size .result) _ line) (put .ensures .0) in (
+    let stands = put-as (line-on records (loop .from) _ line) (put .ensures .0) in (
       within,
       put .kept .0 ∙ loop .inv .1,
       omega (arith, within, e, least, loop .inv .2, put .ensures .1),
@@ -110,12 +110,12 @@ put-records-spec =
     record-length-requires
     same-length
     returns
-    add-end
     sub-line-of
     part-line-of-start
     part-line-of-end
     line-of-requires
     put-line-requires
+    add-from
     loop-less
     loop-again
     same-length-2

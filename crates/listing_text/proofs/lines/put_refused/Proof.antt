@@ -1,6 +1,6 @@
 -- `lines::put_refused` meets its contract: each part stands behind the one before it.
 use native.Mathlib.Omega.{arith}
-use Rattle.listing_text.specs.Lines.{refusedText}
+use Rattle.token.specs.computed.Listing.{refusedAt}
 use Rattle.listing_text.proofs.PutLaws.{put-on}
 use borrow.Author.Needs.{needs}
 use Rattle.listing_text.proofs.lines.put_refused.Statement.{statement}
@@ -34,7 +34,7 @@ same-length : tie.Need-same-length
 same-length c = search needs
 
 returns : tie.Need-returns
-unfolding refusedText
+unfolding refusedAt
 returns c =
     let at-end = c .before .before in
     let at-place = at-end .before .before .before .before .before in
