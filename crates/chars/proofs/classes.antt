@@ -1,4 +1,4 @@
 pub mod Ranges
 pub mod Laws
-pub mod Russian
+pub mod Cyrillic
 pub mod IdRuns

@@ -6,7 +6,7 @@ use lib.ListN.{length, drop, getD}
 use Rattle.chars.specs.paper.Utf8.{width, codeOf}
 use Rattle.chars.specs.code.Utf8.{decodeAt}
 use Rattle.chars.specs.paper.Text.{from, place}
-use Rattle.chars.specs.code.Text.{nextOf}
+use Rattle.chars.specs.code.Text.{charEnd}
 use Rattle.chars.specs.declared.utf8.Decoded.the-variants as decoded
 use Rattle.chars.specs.paper.Ranges.{Range, Ascending}
 use Rattle.chars.specs.paper.Tables.{alphabeticTable, lowercaseTable, uppercaseTable, ndTable, alphaNotLetterTable}
@@ -39,10 +39,10 @@ pub record Decoding (s : List ℕ) (i : ℕ) : Type 0 where
 
 pub record Reads (s : List ℕ) (i : ℕ) : Type 0 where
   -- its first character, and the text from where that ends, which is further on and within the script
-  pub next : i < length s → (from s i ≡ record { code = codeOf (width (drop i s)) (drop i s); at = i } ∷ from s (nextOf s i)) × (i < nextOf s i) × (nextOf s i ≤ length s)
+  pub next : i < length s → (from s i ≡ record { code = codeOf (width (drop i s)) (drop i s); at = i } ∷ from s (charEnd s i)) × (i < charEnd s i) × (charEnd s i ≤ length s)
   -- nothing past the end
   pub none : length s ≤ i → from s i ≡ []
   -- it starts at i
   pub starts : i ≤ length s → place (length s) (from s i) ≡ i
   -- in valid UTF-8 the character is the one that is decoded
-  pub decoded-one : (c w : ℕ) → decoded.Char c w ≡ decodeAt s i → (codeOf (width (drop i s)) (drop i s) ≡ c) × (nextOf s i ≡ i + w)
+  pub decoded-one : (c w : ℕ) → decoded.Char c w ≡ decodeAt s i → (codeOf (width (drop i s)) (drop i s) ≡ c) × (charEnd s i ≡ i + w)

@@ -3,4 +3,4 @@ pub mod Utf8
 pub mod Text
 pub mod Tables
 pub mod Classes
-pub mod Eights
+pub mod Runs

@@ -20,7 +20,7 @@ ghost use Rattle.chars.specs.paper.Tables.{alphabeticTable, alphaNotLett
 ghost use Rattle.chars.specs.paper.Classes.{isIdStart, isIdChar, isOpSign, isPrintable, lowercase, uppercase, alphabetic, alphaNotLetter};
 ghost use Rattle.chars.specs.paper.Text.{from, place, idChar};
 ghost use Rattle.chars.specs.computed.Runs.{afterRun};
-ghost use Rattle.chars.specs.code.Classes.{bitIn, russianAt};
+ghost use Rattle.chars.specs.code.Classes.{bitIn, cyrillicAt};
 
 // The last code that the tables speak of.
 const LAST: u32 = 0xFFFF;
@@ -248,8 +248,8 @@ fn is_id_byte(b: u8) -> bool
 }
 
 // Whether a Russian letter stands at a place: U+0410 to U+044F.
-pub fn russian_at(s: &[u8], at: usize) -> bool
-    ensures { λ r. ⌜ r ≡ russianAt (now (s .entry)) at ⌝ }
+pub fn is_cyrillic_at(s: &[u8], at: usize) -> bool
+    ensures { λ r. ⌜ r ≡ cyrillicAt (now (s .entry)) at ⌝ }
 {
     if pair_in(s, at, 0xD0, 0xD0, 0x90, 0xBF) {
         return true;
@@ -270,8 +270,8 @@ pub fn id_run_end(s: &[u8], at: usize) -> usize
             if b < 0x80 {
                 return i;
             }
-            if !russian_at(s, i) {
-                return lend_run_end(s, i);
+            if !is_cyrillic_at(s, i) {
+                return id_run_end_by_tables(s, i);
             }
             i += 2;
         }
@@ -280,7 +280,7 @@ pub fn id_run_end(s: &[u8], at: usize) -> usize
 }
 
 // The same where a character needs the tables: lends them.
-fn lend_run_end(s: &[u8], at: usize) -> usize
+fn id_run_end_by_tables(s: &[u8], at: usize) -> usize
     ensures { λ r. ⌜ r ≡ place (length (now (s .entry))) (afterRun idChar (from (now (s .entry)) at)) ⌝ }
 {
     wide_run_end(s, at, &ALPHABETIC, &ALPHA_NOT_LETTER, &ND)

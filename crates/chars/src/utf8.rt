@@ -1,6 +1,6 @@
 // UTF-8 by the Unicode Standard, Table 3-7.
-use crate::eights::skip_eights;
-use crate::eights::skip_long;
+use crate::runs::skip_eights;
+use crate::runs::skip_long;
 ghost use mathlib.Core.Path.{_≡_};
 ghost use mathlib.Core.Bool.{cond};
 ghost use mathlib.Core.List.{[], _∷_};

@@ -12,7 +12,7 @@ ghost use Rattle.entry.specs.Theorems.{HostTheorems};
 pub const MOST_BYTES: usize = 16777216;
 
 // On the stack, for records that are stored before the script is known to be accepted: some 600 tokens.
-pub const SMALL_BYTES: usize = 8192;
+pub const SCRATCH_BYTES: usize = 8192;
 
 // A refusal's number and place; or token count and record bytes, which are more than is lent, or are not.
 pub enum Judged {
@@ -21,10 +21,10 @@ pub enum Judged {
     Fits(usize, usize),
 }
 
-// The refusals but 20, in their order: 17, 18, 1 to 16, 19. Where it answers `Fits`, and the records fit into `small`, it has them then.
-fn judge(small: &mut [u8], script: &[u8], room: usize) -> Judged
+// The refusals but 20, in their order: 17, 18, 1 to 16, 19. Where it answers `Fits`, and the records fit into `scratch`, it has them then.
+fn judge(scratch: &mut [u8], script: &[u8], room: usize) -> Judged
     ensures { λ r. ⌜ r ≡ judgedOf (verdict (now (script .entry)) room) ⌝ }
-    ensures { λ r. ⌜ Holds r (now (script .entry)) (now (small .exit)) ⌝ }
+    ensures { λ r. ⌜ Holds r (now (script .entry)) (now (scratch .exit)) ⌝ }
 {
     if MOST_BYTES < script.len() {
         return Judged::Refused(17, 0);
@@ -33,9 +33,9 @@ fn judge(small: &mut [u8], script: &[u8], room: usize) -> Judged
     if valid < script.len() {
         return Judged::Refused(18, valid);
     }
-    let found = measure(small, script);
+    let found = measure(scratch, script);
     match found {
-        Measured::Stopped(number, place) => {
+        Measured::Refused(number, place) => {
             return Judged::Refused(number, place);
         }
         Measured::Total(count, bytes) => {
@@ -57,8 +57,8 @@ pub fn tokenize(script: &[u8], records: &mut [u8], answer: &mut [u8]) -> u32
         return 20;
     }
     // A script whose records fit in here is walked once.
-    let mut small = [0u8; SMALL_BYTES];
-    let judged = judge(&mut small, script, records.len());
+    let mut scratch = [0u8; SCRATCH_BYTES];
+    let judged = judge(&mut scratch, script, records.len());
     match judged {
         Judged::Refused(number, place) => {
             put_block(answer, number as usize, place, 0, 0);
@@ -69,7 +69,7 @@ pub fn tokenize(script: &[u8], records: &mut [u8], answer: &mut [u8]) -> u32
             return 19;
         }
         Judged::Fits(count, bytes) => {
-            write(records, script, &small, bytes);
+            write(records, script, &scratch, bytes);
             put_block(answer, 0, 0, count, bytes);
             return 0;
         }

@@ -1,10 +1,10 @@
 // Token text: the part of a script from start to end. Document 01, "Host entry and text".
 ghost use mathlib.Core.Path.{_≡_};
-ghost use Rattle.entry.specs.paper.TokenText.{inside, hasText, textOf, textNumber};
+ghost use Rattle.entry.specs.paper.TokenText.{insideCharacter, hasText, tokenText, textNumber};
 
 // Does the place lie inside a character?
 fn is_inside(script: &[u8], at: usize) -> bool
-    ensures { λ r. ⌜ r ≡ inside (now (script .entry)) at ⌝ }
+    ensures { λ r. ⌜ r ≡ insideCharacter (now (script .entry)) at ⌝ }
 {
     if script.len() <= at {
         return false;
@@ -34,7 +34,7 @@ pub fn has_text(script: &[u8], start: usize, end: usize) -> bool
 
 // The part itself; where 21 is met the empty part at 0.
 pub fn token_text(script: &[u8], start: usize, end: usize) -> &[u8]
-    ensures { λ r. ⌜ now r ≡ textOf (now (script .entry)) start end ⌝ }
+    ensures { λ r. ⌜ now r ≡ tokenText (now (script .entry)) start end ⌝ }
 {
     if has_text(script, start, end) {
         return &script[start..end];

@@ -9,6 +9,6 @@ pub mod Charsym
 pub mod Lexer
 pub mod Form
 pub mod ClassTable
-pub mod Direct
+pub mod Ascii
 pub mod Number
 pub mod Records

@@ -311,7 +311,7 @@ pub fn in_run(t: &[u16; 256], b: u8) -> bool
 }
 
 // Past ASCII, a `_` or a quote? Behind an ASCII word it may go on with the word, or make it a string's prefix.
-pub fn asks_more(t: &[u16; 256], b: u8) -> bool
+pub fn may_extend_ident(t: &[u16; 256], b: u8) -> bool
     requires { ⌜ ByteClasses (now t) ⌝ }
     ensures { λ r. ⌜ r ≡ leb 0x80 b || oneOf "_\"" b ⌝ }
 {
@@ -319,7 +319,7 @@ pub fn asks_more(t: &[u16; 256], b: u8) -> bool
 }
 
 // A hex digit's value, 16 for any other byte.
-pub fn digit_by(t: &[u16; 256], b: u8) -> u64
+pub fn hex_value(t: &[u16; 256], b: u8) -> u64
     requires { ⌜ ByteClasses (now t) ⌝ }
     ensures { λ r. ⌜ r ≡ digitOf b ⌝ }
 {

@@ -93,7 +93,7 @@ fn skip_more(s: &[u8], at: usize) -> Cursor
     requires { ⌜ at ≤ length (now s) ⌝ }
     ensures { λ r. ⌜ (r .at ≤ length (now (s .entry))) × (at ≤ r .at) × (from (now (s .entry)) (r .at) ≡ afterRun (isAny " \t") (from (now (s .entry)) at)) ⌝ }
 {
-    let mut i = chars::eights::skip_eights(s, at, 0x20, 0x20);
+    let mut i = chars::runs::skip_eights(s, at, 0x20, 0x20);
     while i < s.len() {
         if !is_blank(s[i]) {
             return Cursor { at: i };

@@ -70,7 +70,7 @@ pub fn consume_digits(s: &[u8], c: Cursor, base: u64, most: usize) -> Cursor
 }
 
 // A value with one more digit. Most values are far from the limit, and only the others need a division.
-fn shifted(v: u64, d: u64, base: u64) -> Value
+fn push_digit(v: u64, d: u64, base: u64) -> Value
     requires { ⌜ (d < 16) × ((base ≡ 10) ⊎ (base ≡ 16)) ⌝ }
     ensures { λ r. ⌜ r ≡ valueOf (v * base + d) ⌝ }
 {
@@ -110,7 +110,7 @@ fn number_from(s: &[u8], start: usize, c: Cursor, base: u64) -> Piece
         if base <= d {
             return number_end(s, start, v, i);
         }
-        let more = shifted(v, d, base);
+        let more = push_digit(v, d, base);
         let Value::Of(w) = more else {
             return Piece::Refused(6, start);
         };

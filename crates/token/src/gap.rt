@@ -16,7 +16,7 @@ ghost use Rattle.token.specs.code.Gap.{closedOf, fourOpen};
 pub struct Gap {
     pub newline: bool, // a line end of the gap came
     pub comment: bool, // a comment came since its last line end
-    pub waits: bool, // a block comment came after a line end, and only blanks since
+    pub pending: bool, // a block comment came after a line end, and only blanks since
     pub cut: bool, // the cut is set
 }
 
@@ -33,7 +33,7 @@ impl Gap {
         Gap {
             newline: false,
             comment: false,
-            waits: false,
+            pending: false,
             cut: false,
         }
     }
@@ -44,7 +44,7 @@ impl Gap {
         Gap {
             newline: true,
             comment: false,
-            waits: false,
+            pending: false,
             cut: self.cut,
         }
     }
@@ -52,11 +52,11 @@ impl Gap {
     pub fn line_comment(self) -> Gap
         ensures { λ r. ⌜ r ≡ push GapKind.lineComment self ⌝ }
     {
-        let cut = either(self.cut, self.waits);
+        let cut = either(self.cut, self.pending);
         Gap {
             newline: self.newline,
             comment: true,
-            waits: false,
+            pending: false,
             cut: cut,
         }
     }
@@ -64,11 +64,11 @@ impl Gap {
     pub fn block_comment(self) -> Gap
         ensures { λ r. ⌜ r ≡ push GapKind.blockComment self ⌝ }
     {
-        let cut = either(self.cut, self.waits);
+        let cut = either(self.cut, self.pending);
         Gap {
             newline: self.newline,
             comment: true,
-            waits: self.newline,
+            pending: self.newline,
             cut: cut,
         }
     }
@@ -77,7 +77,7 @@ impl Gap {
     pub fn cut_of(self) -> bool
         ensures { λ r. ⌜ r ≡ cutOf self ⌝ }
     {
-        either(self.cut, self.waits)
+        either(self.cut, self.pending)
     }
 }
 
@@ -155,7 +155,7 @@ fn close_block(s: &[u8], at: usize, inner: usize) -> Closed
     requires { ⌜ (1 ≤ length (now s)) × (at ≤ length (now s)) × (inner ≤ at) ⌝ }
     ensures { λ r. ⌜ r ≡ closedOf (length (now (s .entry))) (close inner 0 (from (now (s .entry)) at)) ⌝ }
 {
-    let mut i = chars::eights::skip_neither(s, at, 0x2A, 0x2F);
+    let mut i = chars::runs::skip_except_two(s, at, 0x2A, 0x2F);
     let mut depth = inner;
     let last = s.len() - 1;
     while i < last {
@@ -182,7 +182,7 @@ impl Cursor {
         requires { ⌜ (self .at ≤ length (now s)) × (opensLine (from (now s) (self .at)) ≡ true) ⌝ }
         ensures { λ r. ⌜ (r .at ≤ length (now (s .entry))) × (from (now (s .entry)) (r .at) ≡ afterRun (λ t. not (endOfLine t)) (drop 2 (from (now (s .entry)) (self .at)))) ⌝ }
     {
-        let mut i = chars::eights::skip_eights(s, self.at + 2, 0x0E, 0xFF);
+        let mut i = chars::runs::skip_eights(s, self.at + 2, 0x0E, 0xFF);
         while i < s.len() {
             if line_ends_at(s, i) {
                 return Cursor { at: i };

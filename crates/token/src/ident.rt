@@ -14,11 +14,11 @@ ghost use mathlib.Core.Option.{some, none};
 ghost use Prim.Native.Nat.{_+_, _≤_};
 ghost use lib.ListN.{length, drop};
 ghost use Rattle.chars.specs.paper.Classes.{isIdStart};
-ghost use Rattle.chars.specs.paper.Text.{from, head};
-ghost use Rattle.chars.specs.code.Text.{nextOf};
+ghost use Rattle.chars.specs.paper.Text.{from, headIs};
+ghost use Rattle.chars.specs.code.Text.{charEnd};
 ghost use Rattle.chars.specs.computed.Runs.{afterRun};
 ghost use Rattle.token.specs.paper.Tests.{isAny, opSign, freeSign, opensComment};
-ghost use Rattle.token.specs.paper.Kinds.{wordOf, runOf, nineWords, fiveRuns};
+ghost use Rattle.token.specs.paper.Kinds.{wordOf, runOf, wordKeywords, symbolKeywords};
 ghost use Rattle.token.specs.computed.Answer.{afterIdent, codesTo, orPrefixed, scanIdent, scanOperator, scanBacktick};
 ghost use Rattle.token.specs.code.Piece.{pieceOf};
 ghost use Rattle.token.specs.code.Ident.{keywordOf, LeftOf, standsAt, keywordAt};
@@ -31,7 +31,7 @@ pub enum Keyword {
 
 // Where the operator sign at a place ends; the place itself, if none stands there. Past ASCII the one sign is U+21D2.
 fn sign_end(s: &[u8], at: usize) -> usize
-    ensures { λ r. ⌜ r ≡ cond (opSign (from (now (s .entry)) at)) (nextOf (now (s .entry)) at) at ⌝ }
+    ensures { λ r. ⌜ r ≡ cond (opSign (from (now (s .entry)) at)) (charEnd (now (s .entry)) at) at ⌝ }
 {
     let b = byte_at(s, at);
     if 0x80 <= b {
@@ -45,7 +45,7 @@ fn sign_end(s: &[u8], at: usize) -> usize
 
 // The same by the character that stands there.
 fn wide_sign_end(s: &[u8], at: usize) -> usize
-    ensures { λ r. ⌜ r ≡ cond (opSign (from (now (s .entry)) at)) (nextOf (now (s .entry)) at) at ⌝ }
+    ensures { λ r. ⌜ r ≡ cond (opSign (from (now (s .entry)) at)) (charEnd (now (s .entry)) at) at ⌝ }
 {
     let here = chars::text::char_at(s, at);
     let Step::Char { code, next } = here else {
@@ -95,7 +95,7 @@ fn consume_id_rest(s: &[u8], c: Cursor) -> Cursor
         chunk = i;
         loop {
             if byte_at(s, i) == 0x5F {
-                i = chars::eights::skip_eights(s, i + 1, 0x5F, 0x5F);
+                i = chars::runs::skip_eights(s, i + 1, 0x5F, 0x5F);
             } else {
                 let end = chars::classes::id_run_end(s, i);
                 if end == i {
@@ -180,7 +180,7 @@ pub fn word_keyword(s: &[u8], start: usize, end: usize) -> Keyword
 // The keyword of four bytes that stands at a place.
 fn word_of_four(s: &[u8], at: usize) -> Keyword
     requires { ⌜ at + 4 ≤ length (now s) ⌝ }
-    ensures { λ r. ⌜ r ≡ keywordOf (keywordAt nineWords 4 (now (s .entry)) at) ⌝ }
+    ensures { λ r. ⌜ r ≡ keywordOf (keywordAt wordKeywords 4 (now (s .entry)) at) ⌝ }
 {
     if four_at(s, at, b'c', b'a', b's', b'e') {
         return Keyword::Is(Kw::Case);
@@ -197,7 +197,7 @@ fn word_of_four(s: &[u8], at: usize) -> Keyword
 // The keyword of five bytes that stands at a place.
 fn word_of_five(s: &[u8], at: usize) -> Keyword
     requires { ⌜ at + 5 ≤ length (now s) ⌝ }
-    ensures { λ r. ⌜ r ≡ keywordOf (keywordAt nineWords 5 (now (s .entry)) at) ⌝ }
+    ensures { λ r. ⌜ r ≡ keywordOf (keywordAt wordKeywords 5 (now (s .entry)) at) ⌝ }
 {
     match byte_at(s, at + 4) {
         b'e' => keyword_if(four_at(s, at, b'f', b'a', b'l', b's'), Kw::False),
@@ -209,7 +209,7 @@ fn word_of_five(s: &[u8], at: usize) -> Keyword
 // The keyword of six bytes that stands at a place.
 fn word_of_six(s: &[u8], at: usize) -> Keyword
     requires { ⌜ at + 6 ≤ length (now s) ⌝ }
-    ensures { λ r. ⌜ r ≡ keywordOf (keywordAt nineWords 6 (now (s .entry)) at) ⌝ }
+    ensures { λ r. ⌜ r ≡ keywordOf (keywordAt wordKeywords 6 (now (s .entry)) at) ⌝ }
 {
     if four_at(s, at, b'r', b'e', b't', b'u') {
         return keyword_if(two_at(s, at + 4, b'r', b'n'), Kw::Return);
@@ -220,7 +220,7 @@ fn word_of_six(s: &[u8], at: usize) -> Keyword
 // The keyword of eight bytes that stands at a place.
 fn word_of_eight(s: &[u8], at: usize) -> Keyword
     requires { ⌜ at + 8 ≤ length (now s) ⌝ }
-    ensures { λ r. ⌜ r ≡ keywordOf (keywordAt nineWords 8 (now (s .entry)) at) ⌝ }
+    ensures { λ r. ⌜ r ≡ keywordOf (keywordAt wordKeywords 8 (now (s .entry)) at) ⌝ }
 {
     if four_at(s, at, b'f', b'u', b'n', b'c') {
         return keyword_if(four_at(s, at + 4, b't', b'i', b'o', b'n'), Kw::Function);
@@ -242,7 +242,7 @@ pub fn run_keyword(s: &[u8], start: usize, end: usize) -> Keyword
 
 // The keyword of one sign that stands at a place.
 fn sign_keyword(s: &[u8], at: usize) -> Keyword
-    ensures { λ r. ⌜ r ≡ keywordOf (keywordAt fiveRuns 1 (now (s .entry)) at) ⌝ }
+    ensures { λ r. ⌜ r ≡ keywordOf (keywordAt symbolKeywords 1 (now (s .entry)) at) ⌝ }
 {
     match byte_at(s, at) {
         b':' => Keyword::Is(Kw::Colon),
@@ -266,7 +266,7 @@ fn or_prefixed(s: &[u8], kind: TokenKind, start: usize, c: Cursor) -> Piece
 
 // An identifier, a keyword, or the string that an identifier prefixes. Its first character ends at `rest`.
 pub fn lex_ident(s: &[u8], c: Cursor, rest: Cursor) -> Piece
-    requires { ⌜ (c .at ≤ length (now s)) × (head isIdStart (from (now s) (c .at)) ≡ true) × (rest .at ≤ length (now s)) × (from (now s) (rest .at) ≡ drop 1 (from (now s) (c .at))) ⌝ }
+    requires { ⌜ (c .at ≤ length (now s)) × (headIs isIdStart (from (now s) (c .at)) ≡ true) × (rest .at ≤ length (now s)) × (from (now s) (rest .at) ≡ drop 1 (from (now s) (c .at))) ⌝ }
     ensures { λ r. ⌜ r ≡ pieceOf (length (now (s .entry))) (scanIdent (length (now (s .entry))) (from (now (s .entry)) (c .at))) ⌝ }
 {
     let end = skip_id_rest(s, rest);

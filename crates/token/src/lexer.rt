@@ -56,7 +56,7 @@ fn lex_wide_word(s: &[u8], c: Cursor) -> Piece
     requires { ⌜ (c .at < length (now s)) × (isAny wordless (from (now s) (c .at)) ≡ false) × (opensComment (from (now s) (c .at)) ≡ false) ⌝ }
     ensures { λ r. ⌜ r ≡ pieceOf (length (now (s .entry))) (scan (length (now (s .entry))) (from (now (s .entry)) (c .at))) ⌝ }
 {
-    if chars::classes::russian_at(s, c.at) {
+    if chars::classes::is_cyrillic_at(s, c.at) {
         return crate::ident::lex_ident(s, c, Cursor { at: c.at + 2 });
     }
     let here = c.peek(s);
@@ -163,7 +163,7 @@ fn pass_comment(s: &[u8], c: Cursor, g: Gap) -> Passed
 }
 
 // The next token, line end or end of script from c on, in the gap g.
-pub fn advance(s: &[u8], c: Cursor, g: Gap) -> Next
+pub fn next_token(s: &[u8], c: Cursor, g: Gap) -> Next
     requires { ⌜ c .at ≤ length (now s) ⌝ }
     ensures { λ r. ⌜ r ≡ nextOf (length (now (s .entry))) (seek (length (now (s .entry))) 0 g (from (now (s .entry)) (c .at))) ⌝ }
 {

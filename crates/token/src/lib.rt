@@ -10,6 +10,6 @@ mod charsym; // characters and symbols
 mod lexer; // one step over a script: the gap, then one token
 pub mod form; // one record, stored and read back
 mod class_table; // what a byte is, by a table
-mod direct; // signs, words and operators, recognised from their ASCII bytes
+mod ascii; // signs, words and operators, recognised from their ASCII bytes
 mod number; // numbers, recognised from their bytes
 pub mod records; // the records, counted, and stored where they fit

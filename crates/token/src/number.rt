@@ -1,7 +1,7 @@
 // Numbers that are recognised from their bytes, as most are: all that are not refused, but for those of which all digits but the last make more than
 // SAFE_MOST. The others go by `digits::lex_number`, which reads every number and refuses some. These readers are kept beside it, since its answer
 // is an enum and goes through memory: their answers are numbers that the walk keeps in registers.
-use crate::class_table::digit_by;
+use crate::class_table::hex_value;
 use crate::cursor::Cursor;
 use crate::cursor::byte_at;
 use crate::digits::Value;
@@ -73,7 +73,7 @@ fn run_of(s: &[u8], t: &[u16; 256], start: usize, at: usize, base: u64) -> Digit
     let mut v: u64 = 0;
     let mut i = at;
     while i < s.len() {
-        let d = digit_by(t, s[i]);
+        let d = hex_value(t, s[i]);
         if base <= d {
             return DigitRun { value: v, end: i };
         }
@@ -106,7 +106,7 @@ pub fn literal_at(s: &[u8], t: &[u16; 256], at: usize) -> Literal
     ensures { λ r. ⌜ LiteralAs at (pieceOf (length (now (s .entry))) (scan (length (now (s .entry))) (from (now (s .entry)) at))) r ⌝ }
     ensures { λ r. ⌜ (at < r .end → at < length (now (s .entry))) ⌝ }
 {
-    if 10 <= digit_by(t, byte_at(s, at)) {
+    if 10 <= hex_value(t, byte_at(s, at)) {
         return Literal {
             end: at,
             value: 0,

@@ -1,15 +1,15 @@
 // The records of a script: counted, and stored where they fit. Document 01, "Records".
+use crate::ascii::ascii_end;
+use crate::ascii::put_ascii_if;
 use crate::class_table::CLASSES;
 use crate::cursor::Cursor;
 use crate::cursor::byte_at;
-use crate::direct::direct_end;
-use crate::direct::put_direct_if;
 use crate::form::put_if;
 use crate::gap::Gap;
 use crate::kinds::Form;
 use crate::kinds::TokenKind;
 use crate::lexer::Next;
-use crate::lexer::advance;
+use crate::lexer::next_token;
 use crate::number::Literal;
 use crate::number::literal_at;
 use words::write::copy;
@@ -27,7 +27,7 @@ ghost use Rattle.token.specs.code.Records.{storedIf, measuredOf, total, 
 // What measuring finds: how many tokens and record bytes, or a refusal's number and place.
 pub enum Measured {
     Total(usize, usize),
-    Stopped(u32, usize),
+    Refused(u32, usize),
 }
 
 // Where a walk stands: its place, the gap there, and the tokens and record bytes before it.
@@ -72,8 +72,8 @@ fn finish(out: &mut [u8], w: usize, n: usize, last: usize, cut: bool) -> Measure
 }
 
 // As far as tokens are recognised from their bytes, as most are: signs, words, operators, an LF, numbers. What else stands there, and the end,
-// falls back to `advance`.
-fn walk_direct(out: &mut [u8], s: &[u8], t: &[u16; 256], start: Walked) -> Walked
+// falls back to `next_token`.
+fn walk_ascii(out: &mut [u8], s: &[u8], t: &[u16; 256], start: Walked) -> Walked
     requires { ⌜ ByteClasses (now t) × (length (now s) ≤ mostBytes) × (start .at ≤ length (now s)) × (start .count ≤ start .at) × (start .bytes ≤ mostLength * start .at) ⌝ }
     ensures { λ r. ⌜ Reaches (now (s .entry)) (start .at) (start .gap) (start .count) (start .bytes) (now (out .entry)) (r .at) (r .gap) (r .count) (r .bytes) (now (out .exit)) ⌝ }
 {
@@ -83,9 +83,9 @@ fn walk_direct(out: &mut [u8], s: &[u8], t: &[u16; 256], start: Walked) -> Walke
     let mut b = start.bytes;
     loop {
         let d = c.skip_blanks(s);
-        let e = direct_end(s, t, d.at);
+        let e = ascii_end(s, t, d.at);
         if d.at < e {
-            put_direct_if(out, s, b, d.at, e, g.cut_of());
+            put_ascii_if(out, s, b, d.at, e, g.cut_of());
             n += 1;
             b += TokenKind::HEAD_LENGTH as usize;
             c = Cursor { at: e };
@@ -127,7 +127,7 @@ fn walk_script(out: &mut [u8], s: &[u8], t: &[u16; 256]) -> Measured
     let mut n: usize = 0;
     let mut b: usize = 0;
     loop {
-        let w = walk_direct(
+        let w = walk_ascii(
             out,
             s,
             t,
@@ -139,7 +139,7 @@ fn walk_script(out: &mut [u8], s: &[u8], t: &[u16; 256]) -> Measured
             },
         );
         let gap = w.gap;
-        let step = advance(s, Cursor { at: w.at }, gap);
+        let step = next_token(s, Cursor { at: w.at }, gap);
         n = w.count + 1;
         match step {
             Next::Token(kind, start, end, cut) => {
@@ -156,28 +156,28 @@ fn walk_script(out: &mut [u8], s: &[u8], t: &[u16; 256]) -> Measured
                 g = h;
             }
             Next::End(cut) => return finish(out, w.bytes, n, s.len(), cut),
-            Next::Refused(number, place) => return Measured::Stopped(number, place),
+            Next::Refused(number, place) => return Measured::Refused(number, place),
         }
     }
 }
 
-// The tokens and record bytes of a script. Where the records fit into `small`, it has them then.
-pub fn measure(small: &mut [u8], s: &[u8]) -> Measured
+// The tokens and record bytes of a script. Where the records fit into `scratch`, it has them then.
+pub fn measure(scratch: &mut [u8], s: &[u8]) -> Measured
     requires { ⌜ length (now s) ≤ mostBytes ⌝ }
     ensures { λ r. ⌜ r ≡ measuredOf 0 0 (answer (now (s .entry))) ⌝ }
-    ensures { λ r. ⌜ (Fits (answer (now (s .entry))) (length (now (small .entry))) → now (small .exit) ≡ sets (now (small .entry)) 0 (records (tokensIn (answer (now (s .entry)))))) ⌝ }
+    ensures { λ r. ⌜ (Fits (answer (now (s .entry))) (length (now (scratch .entry))) → now (scratch .exit) ≡ sets (now (scratch .entry)) 0 (records (tokensIn (answer (now (s .entry)))))) ⌝ }
 {
-    walk_script(small, s, &CLASSES)
+    walk_script(scratch, s, &CLASSES)
 }
 
-// The records of a script that is accepted, from the buffer's start on: copied, where `small` has them, else by another walk.
-pub fn write(out: &mut [u8], s: &[u8], small: &[u8], bytes: usize)
+// The records of a script that is accepted, from the buffer's start on: copied, where `scratch` has them, else by another walk.
+pub fn write(out: &mut [u8], s: &[u8], scratch: &[u8], bytes: usize)
     requires { ⌜ (length (now s) ≤ mostBytes) × Fits (answer (now s)) (length (now out)) × (bytes ≡ recordBytes (tokensIn (answer (now s)))) ⌝ }
-    requires { ⌜ (bytes ≤ length (now small) → take bytes (now small) ≡ records (tokensIn (answer (now s)))) ⌝ }
+    requires { ⌜ (bytes ≤ length (now scratch) → take bytes (now scratch) ≡ records (tokensIn (answer (now s)))) ⌝ }
     ensures { λ r. ⌜ now (out .exit) ≡ sets (now (out .entry)) 0 (records (tokensIn (answer (now (s .entry))))) ⌝ }
 {
-    if bytes <= small.len() {
-        copy(out, small, bytes);
+    if bytes <= scratch.len() {
+        copy(out, scratch, bytes);
         return;
     }
     write_walk(out, s);

@@ -10,12 +10,12 @@ ghost use mathlib.Core.Path.{_≡_};
 ghost use mathlib.Core.Bool.{true, false};
 ghost use Prim.Native.Nat.{_+_, _≤_, _<_};
 ghost use lib.ListN.{length, drop};
-ghost use Rattle.chars.specs.paper.Text.{from, head};
+ghost use Rattle.chars.specs.paper.Text.{from, headIs};
 ghost use Rattle.chars.specs.computed.Runs.{afterRun};
 ghost use Rattle.token.specs.paper.Tests.{isAny, quote, threeQuotes};
-ghost use Rattle.token.specs.computed.Answer.{closed, inTriple, inString, prefixedOf, scanString, plainContent};
+ghost use Rattle.token.specs.computed.Answer.{closed, closeTriple, closeString, prefixedOf, scanString, plainContent};
 ghost use Rattle.token.specs.code.Piece.{pieceOf};
-ghost use Rattle.token.specs.code.String.{endedOf, escapeOf, hexesOf, isOrdinary, dollarOf, inSingle, Onward, lastOff, spanKind, eightsOff, SameContent};
+ghost use Rattle.token.specs.code.String.{endedOf, escapeOf, hexesOf, isOrdinary, dollarOf, closeSingle, Onward, lastOff, spanKind, eightsOff, SameContent};
 ghost use Rattle.token.specs.code.Ident.{LeftOf};
 
 // A string's content: where it starts and ends.
@@ -72,13 +72,13 @@ fn is_ordinary(b: u8) -> bool
 // escape, one byte tells it. A byte of 0x80 or more is never one of the four, so no character is decoded.
 fn skip_ordinary(s: &[u8], c: Cursor) -> Cursor
     requires { ⌜ c .at ≤ length (now s) ⌝ }
-    ensures { λ r. ⌜ (c .at ≤ r .at) × (r .at ≤ length (now (s .entry))) × (from (now (s .entry)) (r .at) ≡ afterRun (head isOrdinary) (from (now (s .entry)) (c .at))) ⌝ }
+    ensures { λ r. ⌜ (c .at ≤ r .at) × (r .at ≤ length (now (s .entry))) × (from (now (s .entry)) (r .at) ≡ afterRun (headIs isOrdinary) (from (now (s .entry)) (c .at))) ⌝ }
 {
     let at = c.at;
     if !is_ordinary(byte_at(s, at)) {
         return c;
     }
-    let mut i = chars::eights::skip_others(s, at, 0x0A, 0x22, 0x24, 0x5C);
+    let mut i = chars::runs::skip_except_four(s, at, 0x0A, 0x22, 0x24, 0x5C);
     while i < s.len() {
         if !is_ordinary(s[i]) {
             return Cursor { at: i };
@@ -103,7 +103,7 @@ fn consume_interp_dollar(s: &[u8], c: Cursor) -> Ended
 // One step in a single string, where no quote closes it.
 fn single_item(s: &[u8], c: Cursor, prefixed: bool) -> Ended
     requires { ⌜ (c .at < length (now s)) × (quote (from (now s) (c .at)) ≡ false) ⌝ }
-    ensures { λ r. ⌜ Onward (now (s .entry)) (inSingle prefixed) (c .at) r ⌝ }
+    ensures { λ r. ⌜ Onward (now (s .entry)) (closeSingle prefixed) (c .at) r ⌝ }
 {
     let at = c.at;
     let next = Cursor { at: at + 1 };
@@ -126,7 +126,7 @@ fn single_item(s: &[u8], c: Cursor, prefixed: bool) -> Ended
 // A single string from its quote on, up to the next quote outside an escape.
 fn lex_single_string(s: &[u8], c: Cursor, prefixed: bool) -> Ended
     requires { ⌜ (c .at ≤ length (now s)) × (quote (from (now s) (c .at)) ≡ true) ⌝ }
-    ensures { λ r. ⌜ r ≡ endedOf (length (now (s .entry))) (inSingle prefixed (drop 1 (from (now (s .entry)) (c .at)))) ⌝ }
+    ensures { λ r. ⌜ r ≡ endedOf (length (now (s .entry))) (closeSingle prefixed (drop 1 (from (now (s .entry)) (c .at)))) ⌝ }
 {
     let mut d = skip_ordinary(s, Cursor { at: c.at + 1 });
     while d.at < s.len() {
@@ -159,7 +159,7 @@ fn consume_quotes(s: &[u8], c: Cursor) -> Cursor
     requires { ⌜ c .at ≤ length (now s) ⌝ }
     ensures { λ r. ⌜ (r .at ≤ length (now (s .entry))) × (from (now (s .entry)) (r .at) ≡ afterRun quote (from (now (s .entry)) (c .at))) ⌝ }
 {
-    let mut i = chars::eights::skip_eights(s, c.at, 0x22, 0x22);
+    let mut i = chars::runs::skip_eights(s, c.at, 0x22, 0x22);
     while i < s.len() {
         if s[i] != 0x22 {
             return Cursor { at: i };
@@ -172,7 +172,7 @@ fn consume_quotes(s: &[u8], c: Cursor) -> Cursor
 // One step in a triple string, where no three quotes close it.
 fn triple_item(s: &[u8], c: Cursor, prefixed: bool) -> Ended
     requires { ⌜ (c .at < length (now s)) × (threeQuotes (from (now s) (c .at)) ≡ false) ⌝ }
-    ensures { λ r. ⌜ Onward (now (s .entry)) (inTriple prefixed) (c .at) r ⌝ }
+    ensures { λ r. ⌜ Onward (now (s .entry)) (closeTriple prefixed) (c .at) r ⌝ }
 {
     let at = c.at;
     let next = Cursor { at: at + 1 };
@@ -190,7 +190,7 @@ fn triple_item(s: &[u8], c: Cursor, prefixed: bool) -> Ended
 // A triple string from its three quotes on, with all quotes directly after the first three that close it.
 fn lex_triple_string(s: &[u8], c: Cursor, prefixed: bool) -> Ended
     requires { ⌜ (c .at ≤ length (now s)) × (threeQuotes (from (now s) (c .at)) ≡ true) ⌝ }
-    ensures { λ r. ⌜ r ≡ endedOf (length (now (s .entry))) (inTriple prefixed (drop 3 (from (now (s .entry)) (c .at)))) ⌝ }
+    ensures { λ r. ⌜ r ≡ endedOf (length (now (s .entry))) (closeTriple prefixed (drop 3 (from (now (s .entry)) (c .at)))) ⌝ }
 {
     let mut d = skip_ordinary(s, Cursor { at: c.at + 3 });
     while d.at < s.len() {
@@ -209,7 +209,7 @@ fn lex_triple_string(s: &[u8], c: Cursor, prefixed: bool) -> Ended
 // A string from its opening on.
 fn lex_string(s: &[u8], c: Cursor, prefixed: bool) -> Ended
     requires { ⌜ (c .at ≤ length (now s)) × (quote (from (now s) (c .at)) ≡ true) ⌝ }
-    ensures { λ r. ⌜ r ≡ endedOf (length (now (s .entry))) (inString prefixed (from (now (s .entry)) (c .at))) ⌝ }
+    ensures { λ r. ⌜ r ≡ endedOf (length (now (s .entry))) (closeString prefixed (from (now (s .entry)) (c .at))) ⌝ }
 {
     if three_quotes(s, c.at) {
         return lex_triple_string(s, c, prefixed);
@@ -239,8 +239,8 @@ fn eights_off(s: &[u8], start: usize, end: usize) -> bool
     if end - start < 16 {
         return false;
     }
-    if chars::eights::eight_in(s, start, 0x22, 0x22) {
-        return chars::eights::eight_in(s, end - 8, 0x22, 0x22);
+    if chars::runs::eight_in(s, start, 0x22, 0x22) {
+        return chars::runs::eight_in(s, end - 8, 0x22, 0x22);
     }
     false
 }
@@ -279,7 +279,7 @@ fn strip_many(s: &[u8], start: usize, end: usize) -> Span
 
 // The content of the plain string that stands from `start` to `end`. Most begin with one quote only.
 fn strip_quotes(s: &[u8], start: usize, end: usize) -> Span
-    requires { ⌜ (start ≤ end) × (end ≤ length (now s)) × (quote (from (now s) start) ≡ true) × (inString false (from (now s) start) ≡ closed (from (now s) end)) ⌝ }
+    requires { ⌜ (start ≤ end) × (end ≤ length (now s)) × (quote (from (now s) start) ≡ true) × (closeString false (from (now s) start) ≡ closed (from (now s) end)) ⌝ }
     ensures { λ r. ⌜ spanKind r ≡ plainContent (length (now (s .entry))) (from (now (s .entry)) start) (from (now (s .entry)) end) ⌝ }
 {
     let next = start + 1;
@@ -316,7 +316,7 @@ pub fn lex_plain_string(s: &[u8], c: Cursor) -> Piece
 // A string whose prefix stands from `start` to c.
 pub fn lex_prefixed_string(s: &[u8], start: usize, c: Cursor) -> Piece
     requires { ⌜ (start ≤ c .at) × (c .at ≤ length (now s)) × (quote (from (now s) (c .at)) ≡ true) ⌝ }
-    ensures { λ r. ⌜ r ≡ pieceOf (length (now (s .entry))) (prefixedOf (length (now (s .entry))) (from (now (s .entry)) start) (inString true (from (now (s .entry)) (c .at)))) ⌝ }
+    ensures { λ r. ⌜ r ≡ pieceOf (length (now (s .entry))) (prefixedOf (length (now (s .entry))) (from (now (s .entry)) start) (closeString true (from (now (s .entry)) (c .at)))) ⌝ }
 {
     let ended = lex_string(s, c, true);
     match ended {

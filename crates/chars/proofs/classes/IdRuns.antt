@@ -9,13 +9,13 @@ use native.Mathlib.Omega.{arith}
 use borrow.Author.Tests.{ltb-true, ltb-false, lt-ltb, le-ltb}
 use Rattle.chars.specs.paper.Classes.{isIdChar, alphabetic, alphaNotLetter, nd}
 use Rattle.chars.specs.paper.Text.{Text, from, place, idChar}
-use Rattle.chars.specs.code.Text.{nextOf}
+use Rattle.chars.specs.code.Text.{charEnd}
 use Rattle.chars.specs.computed.Runs.{afterRun}
 use Rattle.chars.specs.code.Classes.{asciiIdChar}
 use Rattle.chars.proofs.Bools.{clash, and-both}
 use Rattle.chars.proofs.text.Texts.{Suffix, suffix-refl, suffix-cons, text-suffix, text-place}
 use Rattle.chars.proofs.text.Places.{Ascii, head-byte, at-end, next-on, ascii-code, ascii-next, head-at, run-next, run-stop, run-end, runs-on, runs-out}
-use Rattle.chars.proofs.classes.Russian.{Russian}
+use Rattle.chars.proofs.classes.Cyrillic.{Russian}
 
 -- ---- any runs
 
@@ -53,11 +53,11 @@ module _ (p : Text → Bool) (s : List ℕ) where
   run-within : (n i : ℕ) → length s - i ≤ n → i ≤ length s
       → (i ≤ place (length s) (afterRun p (from s i))) × (place (length s) (afterRun p (from s i)) ≤ length s)
   run-within zero i m h = let e = run-end p s i (omega arith) in (omega arith, omega arith)
-  run-within (suc n) i m h = go (ltb i (length s)) refl (p (from s i)) refl (run-within n (nextOf s i))
+  run-within (suc n) i m h = go (ltb i (length s)) refl (p (from s i)) refl (run-within n (charEnd s i))
     where
       go : (b : Bool) → ltb i (length s) ≡ b → (d : Bool) → p (from s i) ≡ d
-          → (length s - nextOf s i ≤ n → nextOf s i ≤ length s
-          → (nextOf s i ≤ place (length s) (afterRun p (from s (nextOf s i)))) × (place (length s) (afterRun p (from s (nextOf s i))) ≤ length s))
+          → (length s - charEnd s i ≤ n → charEnd s i ≤ length s
+          → (charEnd s i ≤ place (length s) (afterRun p (from s (charEnd s i)))) × (place (length s) (afterRun p (from s (charEnd s i))) ≤ length s))
           → (i ≤ place (length s) (afterRun p (from s i))) × (place (length s) (afterRun p (from s i)) ≤ length s)
       go false e d f r = let k = ltb-false i (length s) e in let q = run-end p s i k in (omega arith, omega arith)
       go true e false f r = let q = run-stop p s i (ltb-true i (length s) e) f in (omega arith, omega arith)

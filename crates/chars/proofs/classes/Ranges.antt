@@ -9,7 +9,7 @@ use borrow.Author.Tests.{ltb-true, leb-true, leb-false, le-leb, lt-leb}
 use lib.Dec.{leb, ltb}
 use lib.ListN.{length, take, drop, getD}
 use Rattle.chars.specs.paper.Quoted.{between}
-use Rattle.chars.specs.paper.Ranges.{Range, _to_, low, high, at, inRanges, Ascending}
+use Rattle.chars.specs.paper.Ranges.{Range, _to_, low, high, rangeAt, inRanges, Ascending}
 use Rattle.chars.specs.code.Tables.{pairs}
 use Rattle.chars.specs.computed.Ascending.{ascendingFrom}
 use Rattle.chars.proofs.Bools.{clash}
@@ -91,7 +91,7 @@ head f a b t e =
     record { start = leb-true f a (l .0); ends = leb-true a b (l .1); rest = k .1 }
 
 -- every range begins at the bound or above
-low-from : (f : ℕ) (t : List Range) → ascendingFrom f t ≡ true → (k : ℕ) → k < length t → f ≤ low (at t k)
+low-from : (f : ℕ) (t : List Range) → ascendingFrom f t ≡ true → (k : ℕ) → k < length t → f ≤ low (rangeAt t k)
 low-from f [] e k h = absurd (not-suc-le-zero h)
 low-from f (_to_ a b ∷ t) e zero h = head f a b t e .start
 low-from f (_to_ a b ∷ t) e (suc k) h =
@@ -99,12 +99,12 @@ low-from f (_to_ a b ∷ t) e (suc k) h =
     let i = low-from (suc b) t (q .rest) k (le-of-suc-le-suc h) in
     omega arith
 
-ordered-from : (f : ℕ) (t : List Range) → ascendingFrom f t ≡ true → (k : ℕ) → k < length t → low (at t k) ≤ high (at t k)
+ordered-from : (f : ℕ) (t : List Range) → ascendingFrom f t ≡ true → (k : ℕ) → k < length t → low (rangeAt t k) ≤ high (rangeAt t k)
 ordered-from f [] e k h = absurd (not-suc-le-zero h)
 ordered-from f (_to_ a b ∷ t) e zero h = head f a b t e .ends
 ordered-from f (_to_ a b ∷ t) e (suc k) h = ordered-from (suc b) t (head f a b t e .rest) k (le-of-suc-le-suc h)
 
-disjoint-from : (f : ℕ) (t : List Range) → ascendingFrom f t ≡ true → (k : ℕ) → suc k < length t → high (at t k) < low (at t (suc k))
+disjoint-from : (f : ℕ) (t : List Range) → ascendingFrom f t ≡ true → (k : ℕ) → suc k < length t → high (rangeAt t k) < low (rangeAt t (suc k))
 disjoint-from f [] e k h = absurd (not-suc-le-zero h)
 disjoint-from f (_to_ a b ∷ t) e zero h = low-from (suc b) t (head f a b t e .rest) zero (le-of-suc-le-suc h)
 disjoint-from f (_to_ a b ∷ t) e (suc k) h = disjoint-from (suc b) t (head f a b t e .rest) k (le-of-suc-le-suc h)
@@ -116,7 +116,7 @@ ascending t e = record { ordered = ordered-from 0 t e; disjoint = disjoint-from 
 -- ---- what a search finds
 
 -- a code below the first range is in none
-outside : (f : ℕ) (t : List Range) (c : ℕ) → ascendingFrom f t ≡ true → (0 < length t → c < low (at t 0)) → inRanges t c ≡ false
+outside : (f : ℕ) (t : List Range) (c : ℕ) → ascendingFrom f t ≡ true → (0 < length t → c < low (rangeAt t 0)) → inRanges t c ≡ false
 outside f [] c e h = refl
 outside f (_to_ a b ∷ t) c e h =
     let q = head f a b t e in
@@ -125,7 +125,7 @@ outside f (_to_ a b ∷ t) c e h =
     rw y (outside (suc b) t c (q .rest) (λ n. let i = low-from (suc b) t (q .rest) 0 n in omega arith))
 
 -- a code from one range's low on and below the next one's is in the table where it is at most that range's high
-found : (f : ℕ) (t : List Range) (c k : ℕ) → ascendingFrom f t ≡ true → k < length t → low (at t k) ≤ c → (suc k < length t → c < low (at t (suc k))) → inRanges t c ≡ leb c (high (at t k))
+found : (f : ℕ) (t : List Range) (c k : ℕ) → ascendingFrom f t ≡ true → k < length t → low (rangeAt t k) ≤ c → (suc k < length t → c < low (rangeAt t (suc k))) → inRanges t c ≡ leb c (high (rangeAt t k))
 found f [] c k e h l n = absurd (not-suc-le-zero h)
 found f (_to_ a b ∷ t) c zero e h l n =
     let q = head f a b t e in
@@ -143,7 +143,7 @@ pairs-length [] = refl
 pairs-length (a ∷ []) = refl
 pairs-length (a ∷ b ∷ l) = let i = pairs-length l in omega arith
 
-pairs-low : (l : List ℕ) (k : ℕ) → k < length (pairs l) → low (at (pairs l) k) ≡ getD l (k * 2) 0
+pairs-low : (l : List ℕ) (k : ℕ) → k < length (pairs l) → low (rangeAt (pairs l) k) ≡ getD l (k * 2) 0
 pairs-low [] k h = absurd (not-suc-le-zero h)
 pairs-low (a ∷ []) k h = absurd (not-suc-le-zero h)
 pairs-low (a ∷ b ∷ l) zero h = refl
@@ -151,7 +151,7 @@ pairs-low (a ∷ b ∷ l) (suc k) h =
     let e : suc k * 2 ≡ suc (suc (k * 2)) = omega arith in
     rw e (pairs-low l k (le-of-suc-le-suc h))
 
-pairs-high : (l : List ℕ) (k : ℕ) → k < length (pairs l) → high (at (pairs l) k) ≡ getD l (suc (k * 2)) 0
+pairs-high : (l : List ℕ) (k : ℕ) → k < length (pairs l) → high (rangeAt (pairs l) k) ≡ getD l (suc (k * 2)) 0
 pairs-high [] k h = absurd (not-suc-le-zero h)
 pairs-high (a ∷ []) k h = absurd (not-suc-le-zero h)
 pairs-high (a ∷ b ∷ l) zero h = refl
@@ -170,7 +170,7 @@ module _ (l : List ℕ) (c : ℕ) (e : ascendingFrom 0 (pairs l) ≡ true) where
       let p = pairs-length l in
       let w : k < length (pairs l) = omega arith in
       let q = pairs-low l k w in
-      let y : low (at (pairs l) k) ≤ c = omega arith in
+      let y : low (rangeAt (pairs l) k) ≤ c = omega arith in
       found 0 (pairs l) c k e w y
       (λ m. let z = n (omega arith) in let r = pairs-low l (suc k) m in omega arith)
       ∙ ap (leb c) (pairs-high l k w)

@@ -11,8 +11,8 @@ use native.Mathlib.Nat.{add-zero}
 use native.Mathlib.Omega.{arith}
 use borrow.Author.Tests.{ltb-true, ltb-false}
 use Rattle.chars.specs.paper.Utf8.{width, codeOf}
-use Rattle.chars.specs.paper.Text.{Char, Text, charsAt, from, place, head}
-use Rattle.chars.specs.code.Text.{nextOf, stepAt}
+use Rattle.chars.specs.paper.Text.{Char, Text, charsAt, from, place, headIs}
+use Rattle.chars.specs.code.Text.{charEnd, stepAt}
 use Rattle.chars.specs.computed.Runs.{afterRun}
 use Rattle.chars.specs.declared.text.Step.the-variants as step
 use Rattle.chars.proofs.utf8.Rows as rows
@@ -30,8 +30,8 @@ module _ (s : List ℕ) (i : ℕ) where
   byte0 = getD-drop i s 0 0 ∙ ap (λ k. getD s k 0) (add-zero i)
 
   -- the text at i is its first character and the text from where that ends
-  pub at-char : i < length s → from s i ≡ record { code = codeAt s i; at = i } ∷ from s (nextOf s i)
-  unfolding from charsAt nextOf
+  pub at-char : i < length s → from s i ≡ record { code = codeAt s i; at = i } ∷ from s (charEnd s i)
+  unfolding from charsAt charEnd
   at-char h =
       let q = rows.here s i h in
       let w = width (drop i s) in
@@ -45,8 +45,8 @@ module _ (s : List ℕ) (i : ℕ) where
   unfolding from charsAt
   at-end h = rw (drop-of-length-le s h)
 
-  pub next-on : i < length s → (i < nextOf s i) × (nextOf s i ≤ length s)
-  unfolding nextOf
+  pub next-on : i < length s → (i < charEnd s i) × (charEnd s i ≤ length s)
+  unfolding charEnd
   next-on h = let a = width-within s i (omega arith) in (omega arith, omega arith)
 
   pub place-from : i ≤ length s → place (length s) (from s i) ≡ i
@@ -64,12 +64,12 @@ module _ (s : List ℕ) (i : ℕ) where
   pub ascii-code : i < length s → getD s i 0 < 0x80 → codeAt s i ≡ getD s i 0
   ascii-code h l = ap (λ w. codeOf w (drop i s)) (ascii-width h l) ∙ sym (code-one s i 1 (omega arith))
 
-  pub ascii-next : i < length s → getD s i 0 < 0x80 → nextOf s i ≡ i + 1
-  unfolding nextOf
+  pub ascii-next : i < length s → getD s i 0 < 0x80 → charEnd s i ≡ i + 1
+  unfolding charEnd
   ascii-next h l = let e = ascii-width h l in omega arith
 
   pub at-ascii : i < length s → getD s i 0 < 0x80 → from s i ≡ record { code = getD s i 0; at = i } ∷ from s (i + 1)
-  at-ascii h l = at-char h ∙ ap (λ c. record { code = c; at = i } ∷ from s (nextOf s i)) (ascii-code h l) ∙ ap (λ j. record { code = getD s i 0; at = i } ∷ from s j) (ascii-next h l)
+  at-ascii h l = at-char h ∙ ap (λ c. record { code = c; at = i } ∷ from s (charEnd s i)) (ascii-code h l) ∙ ap (λ j. record { code = getD s i 0; at = i } ∷ from s j) (ascii-next h l)
 
   -- ---- past ASCII
 
@@ -80,8 +80,8 @@ module _ (s : List ℕ) (i : ℕ) where
       none e = let q : codeAt s i ≡ getD s i 0 = ap (λ w. codeOf w (drop i s)) e ∙ sym (code-one s i 0 (omega arith)) in omega arith
 
   -- the bytes of a character after its first
-  pub wide-tail : i < length s → (j : ℕ) → i < j → j < nextOf s i → (0x80 ≤ getD s j 0) × (getD s j 0 ≤ 0xBF)
-  unfolding nextOf
+  pub wide-tail : i < length s → (j : ℕ) → i < j → j < charEnd s i → (0x80 ≤ getD s j 0) × (getD s j 0 ≤ 0xBF)
+  unfolding charEnd
   wide-tail h j l m = go (ltb (getD s i 0) 0x80) refl
     where
       one : width (drop i s) ≡ 0 → (0x80 ≤ getD s j 0) × (getD s j 0 ≤ 0xBF)
@@ -98,8 +98,8 @@ module _ (s : List ℕ) (i : ℕ) where
       go false e = ⊎-elim one more (wide (drop i s) (rw byte0 (ltb-false (getD s i 0) 0x80 e)))
 
   -- a byte of 0x80 to 0xBF stands alone
-  pub tail-next : i < length s → 0x80 ≤ getD s i 0 → getD s i 0 ≤ 0xBF → nextOf s i ≡ i + 1
-  unfolding nextOf
+  pub tail-next : i < length s → 0x80 ≤ getD s i 0 → getD s i 0 ≤ 0xBF → charEnd s i ≡ i + 1
+  unfolding charEnd
   tail-next h l m =
       let e : width (drop i s) ≡ 0 = ap width (rows.here s i h) ∙ sym (rows.none-low (getD s i 0) (drop (i + 1) s) l (omega arith)) in
       omega arith
@@ -110,23 +110,23 @@ pub record Ascii (p : ℕ → Bool) : Type 0 where
   pub none : p 0 ≡ false
   pub wide : (c : ℕ) → 0x80 ≤ c → p c ≡ false
 
-pub head-byte : (p : ℕ → Bool) → Ascii p → (s : List ℕ) (i : ℕ) → head p (from s i) ≡ p (getD s i 0)
+pub head-byte : (p : ℕ → Bool) → Ascii p → (s : List ℕ) (i : ℕ) → headIs p (from s i) ≡ p (getD s i 0)
 head-byte p a s i = go (ltb i (length s)) refl (ltb (getD s i 0) 0x80) refl
   where
-    go : (b : Bool) → ltb i (length s) ≡ b → (l : Bool) → ltb (getD s i 0) 0x80 ≡ l → head p (from s i) ≡ p (getD s i 0)
-    go false e l f = let h = ltb-false i (length s) e in ap (head p) (at-end s i h) ∙ sym (ap p (List·getD-eq-default s 0 h) ∙ a .none)
-    go true e true f = ap (head p) (at-ascii s i (ltb-true i (length s) e) (ltb-true (getD s i 0) 0x80 f))
+    go : (b : Bool) → ltb i (length s) ≡ b → (l : Bool) → ltb (getD s i 0) 0x80 ≡ l → headIs p (from s i) ≡ p (getD s i 0)
+    go false e l f = let h = ltb-false i (length s) e in ap (headIs p) (at-end s i h) ∙ sym (ap p (List·getD-eq-default s 0 h) ∙ a .none)
+    go true e true f = ap (headIs p) (at-ascii s i (ltb-true i (length s) e) (ltb-true (getD s i 0) 0x80 f))
     go true e false f =
         let k = ltb-false (getD s i 0) 0x80 f in
-        ap (head p) (at-char s i (ltb-true i (length s) e)) ∙ a .wide (codeAt s i) (wide-code s i k) ∙ sym (a .wide (getD s i 0) k)
+        ap (headIs p) (at-char s i (ltb-true i (length s) e)) ∙ a .wide (codeAt s i) (wide-code s i k) ∙ sym (a .wide (getD s i 0) k)
 
 -- ---- one step
 
-pub step-text : (s : List ℕ) (i code next : ℕ) → step.Char code next ≡ stepAt s i → (i < length s) × (codeAt s i ≡ code) × (nextOf s i ≡ next)
+pub step-text : (s : List ℕ) (i code next : ℕ) → step.Char code next ≡ stepAt s i → (i < length s) × (codeAt s i ≡ code) × (charEnd s i ≡ next)
 unfolding stepAt
 step-text s i code next e = go (ltb i (length s)) refl e
   where
-    go : (b : Bool) → ltb i (length s) ≡ b → step.Char code next ≡ cond b (step.Char (codeAt s i) (nextOf s i)) step.End → (i < length s) × (codeAt s i ≡ code) × (nextOf s i ≡ next)
+    go : (b : Bool) → ltb i (length s) ≡ b → step.Char code next ≡ cond b (step.Char (codeAt s i) (charEnd s i)) step.End → (i < length s) × (codeAt s i ≡ code) × (charEnd s i ≡ next)
     go true h e = (ltb-true i (length s) h, cc, cc)
     go false h e = absurd (let z : _≡_ {A = ℕ} 0 1 = cc in omega arith)
 
@@ -134,14 +134,14 @@ pub step-none : (s : List ℕ) (i : ℕ) → step.End ≡ stepAt s i → length 
 unfolding stepAt
 step-none s i e = go (ltb i (length s)) refl e
   where
-    go : (b : Bool) → ltb i (length s) ≡ b → step.End ≡ cond b (step.Char (codeAt s i) (nextOf s i)) step.End → length s ≤ i
+    go : (b : Bool) → ltb i (length s) ≡ b → step.End ≡ cond b (step.Char (codeAt s i) (charEnd s i)) step.End → length s ≤ i
     go true h e = absurd (let z : _≡_ {A = ℕ} 0 1 = cc in omega arith)
     go false h e = ltb-false i (length s) h
 
 -- ---- runs
 
 module _ (p : Text → Bool) (s : List ℕ) (i : ℕ) where
-  pub run-next : i < length s → p (from s i) ≡ true → afterRun p (from s (nextOf s i)) ≡ afterRun p (from s i)
+  pub run-next : i < length s → p (from s i) ≡ true → afterRun p (from s (charEnd s i)) ≡ afterRun p (from s i)
   unfolding afterRun
   run-next h e = let q = at-char s i h in sym (ap (afterRun p) q ∙ rw (sym (ap p q) ∙ e, afterRun))
 
@@ -156,33 +156,33 @@ module _ (p : Text → Bool) (s : List ℕ) (i : ℕ) where
 -- ---- where characters past ASCII are passed, one may go byte by byte, also inside them
 
 module _ {A : Type 0} (s : List ℕ) (f : Text → A) (pass : (c : Char) (u : Text) → 0x80 ≤ c .code → f (c ∷ u) ≡ f u) where
-  over : (i : ℕ) → i < length s → 0x80 ≤ getD s i 0 → f (from s i) ≡ f (from s (nextOf s i))
+  over : (i : ℕ) → i < length s → 0x80 ≤ getD s i 0 → f (from s i) ≡ f (from s (charEnd s i))
   over i h e = ap f (at-char s i h) ∙ pass _ _ (wide-code s i e)
 
-  back : (i k j : ℕ) → i < length s → j + k ≡ nextOf s i → i < j → f (from s j) ≡ f (from s (nextOf s i))
-  back i zero j h q l = ap (λ x. f (from s x)) (let z : j ≡ nextOf s i = omega arith in z)
+  back : (i k j : ℕ) → i < length s → j + k ≡ charEnd s i → i < j → f (from s j) ≡ f (from s (charEnd s i))
+  back i zero j h q l = ap (λ x. f (from s x)) (let z : j ≡ charEnd s i = omega arith in z)
   back i (suc k) j h q l =
       let n = next-on s i h in
-      let t = wide-tail s i h j l (let z : j < nextOf s i = omega arith in z) in
+      let t = wide-tail s i h j l (let z : j < charEnd s i = omega arith in z) in
       let b : j < length s = omega arith in
       over j b (t .0) ∙ ap (λ x. f (from s x)) (tail-next s j b (t .0) (t .1)) ∙ back i k (j + 1) h (omega arith) (omega arith)
 
   pub byte-by-byte : (i : ℕ) → i < length s → 0x80 ≤ getD s i 0 → f (from s (i + 1)) ≡ f (from s i)
   byte-by-byte i h e =
       let n = next-on s i h in
-      back i (nextOf s i - (i + 1)) (i + 1) h (omega arith) (omega arith) ∙ sym (over i h e)
+      back i (charEnd s i - (i + 1)) (i + 1) h (omega arith) (omega arith) ∙ sym (over i h e)
 
 -- a class at the character there
-pub head-at : (p : ℕ → Bool) (s : List ℕ) (i : ℕ) → i < length s → head p (from s i) ≡ p (codeAt s i)
-head-at p s i h = ap (head p) (at-char s i h)
+pub head-at : (p : ℕ → Bool) (s : List ℕ) (i : ℕ) → i < length s → headIs p (from s i) ≡ p (codeAt s i)
+head-at p s i h = ap (headIs p) (at-char s i h)
 
 -- a run that goes on past one character, or stops there; f: what the loop found at its start
 module _ (p : ℕ → Bool) (s : List ℕ) (i : ℕ) (f : Text) where
-  pub runs-on : i < length s → p (codeAt s i) ≡ true → afterRun (head p) (from s i) ≡ f → afterRun (head p) (from s (nextOf s i)) ≡ f
-  runs-on h e q = run-next (head p) s i h (head-at p s i h ∙ e) ∙ q
+  pub runs-on : i < length s → p (codeAt s i) ≡ true → afterRun (headIs p) (from s i) ≡ f → afterRun (headIs p) (from s (charEnd s i)) ≡ f
+  runs-on h e q = run-next (headIs p) s i h (head-at p s i h ∙ e) ∙ q
 
-  pub runs-out : i < length s → p (codeAt s i) ≡ false → afterRun (head p) (from s i) ≡ f → i ≡ place (length s) f
-  runs-out h e q = run-stop (head p) s i h (head-at p s i h ∙ e) ∙ ap (place (length s)) q
+  pub runs-out : i < length s → p (codeAt s i) ≡ false → afterRun (headIs p) (from s i) ≡ f → i ≡ place (length s) f
+  runs-out h e q = run-stop (headIs p) s i h (head-at p s i h ∙ e) ∙ ap (place (length s)) q
 
-  pub runs-end : length s ≤ i → afterRun (head p) (from s i) ≡ f → length s ≡ place (length s) f
-  runs-end h q = run-end (head p) s i h ∙ ap (place (length s)) q
+  pub runs-end : length s ≤ i → afterRun (headIs p) (from s i) ≡ f → length s ≡ place (length s) f
+  runs-end h q = run-end (headIs p) s i h ∙ ap (place (length s)) q

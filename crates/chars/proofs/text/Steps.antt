@@ -9,7 +9,7 @@ use native.Mathlib.Omega.{arith}
 use borrow.Author.Tests.{eqb-true, eqb-false, lt-ltb, le-ltb}
 use Rattle.chars.specs.paper.Utf8.{width, codeOf}
 use Rattle.chars.specs.code.Utf8.{decodeAt}
-use Rattle.chars.specs.code.Text.{nextOf, stepAt}
+use Rattle.chars.specs.code.Text.{charEnd, stepAt}
 use Rattle.chars.specs.declared.utf8.Decoded.the-variants as decoded
 use Rattle.chars.specs.declared.text.Step.the-variants as step
 use Rattle.chars.proofs.utf8.Codes.{code-one}
@@ -43,7 +43,7 @@ nothing-stands s i e = go (eqb (width (drop i s)) 0) refl e
 
 -- the step over a character, over a byte alone, and at the end
 pub step-char : (s : List ℕ) (i code w : ℕ) → i < length s → Stands s i code w → (i + w ≤ length s) × (step.Char code (i + w) ≡ stepAt s i)
-unfolding stepAt nextOf
+unfolding stepAt charEnd
 step-char s i code w h d =
     let a = width-within s i (omega arith) in
     let q = d .width-is in
@@ -52,7 +52,7 @@ step-char s i code w h d =
     (omega arith, sym (rw (lt-ltb i (length s) h, d .width-is, d .code-is, n)))
 
 pub step-byte : (s : List ℕ) (i : ℕ) → i < length s → width (drop i s) ≡ 0 → step.Char (getD s i 0) (i + 1) ≡ stepAt s i
-unfolding stepAt nextOf
+unfolding stepAt charEnd
 step-byte s i h e =
     let n : suc i + 0 ≡ i + 1 = omega arith in
     sym (rw (lt-ltb i (length s) h, e, n, ← code-one s i 0 (omega arith)))

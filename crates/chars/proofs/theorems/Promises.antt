@@ -10,7 +10,7 @@ use Rattle.chars.specs.paper.Ranges.{Range, Ascending}
 use Rattle.chars.specs.computed.Ascending.{ascendingFrom}
 use Rattle.chars.specs.paper.Utf8.{width, codeOf}
 use Rattle.chars.specs.code.Utf8.{decodeAt}
-use Rattle.chars.specs.code.Text.{nextOf}
+use Rattle.chars.specs.code.Text.{charEnd}
 use Rattle.chars.specs.Promises.{tables, TablesAscend, Decoding, Reads}
 use Rattle.chars.specs.declared.utf8.Decoded.the-variants as decoded
 use Rattle.chars.proofs.utf8.Rows.{here, inside, row-00, none-low, none-high}
@@ -36,8 +36,8 @@ tables-ascend = all-ascending tables refl
 
 -- ---- decoding
 
-next-end : (s : List ℕ) (i c w : ℕ) → Stands s i c w → nextOf s i ≡ i + w
-unfolding nextOf
+next-end : (s : List ℕ) (i c w : ℕ) → Stands s i c w → charEnd s i ≡ i + w
+unfolding charEnd
 next-end s i c w h = let a = h .width-is in let b = h .some in omega arith
 
 module _ (s : List ℕ) (i : ℕ) where
@@ -67,14 +67,14 @@ module _ (s : List ℕ) (i : ℕ) where
     wide = λ c w e l. let h = char-stands s i c w e in let k = wide-code s i l in let q : codeAt s i ≡ c = ap (λ v. codeOf v (drop i s)) (h .width-is) ∙ h .code-is in omega arith;
     others = λ c w j e l m.
         let h = char-stands s i c w e in
-        let n : nextOf s i ≡ i + w = next-is c w h in
+        let n : charEnd s i ≡ i + w = next-is c w h in
         wide-tail s i (ends c w e) j l (omega arith);
   }
     where
       empty : length s ≤ i → width (drop i s) ≡ 0
       empty h = let a = width-most (drop i s) in let b = length-drop i s in omega arith
 
-      next-is : (c w : ℕ) → Stands s i c w → nextOf s i ≡ i + w
+      next-is : (c w : ℕ) → Stands s i c w → charEnd s i ≡ i + w
       next-is c w h = next-end s i c w h
 
   pub reads : Reads s i

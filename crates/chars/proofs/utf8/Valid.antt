@@ -162,14 +162,14 @@ valid-char row t w f l = go t (row-long w) f l
 -- it is valid
 valid-good : (fuel : ℕ) (t : List ℕ) → length t ≤ fuel → (validPrefix t ≤ length t) × WellFormed (take (validPrefix t) t)
 unfolding validFrom
-valid-good zero [] l = (omega arith, WellFormed.none)
-valid-good (suc fuel) [] l = (omega arith, WellFormed.none)
+valid-good zero [] l = (omega arith, WellFormed.empty)
+valid-good (suc fuel) [] l = (omega arith, WellFormed.empty)
 valid-good zero (b ∷ s) l = absurd (omega arith)
 valid-good (suc fuel) (b ∷ s) l = go (width-found (b ∷ s)) (λ t h. valid-good fuel t h)
   where
     go : (width (b ∷ s) ≡ 0) ⊎ ((row : List Range) × Row table37 row × (fits row (b ∷ s) ≡ true) × (width (b ∷ s) ≡ length row)) → ((t : List ℕ) → length t ≤ fuel → (validPrefix t ≤ length t) × WellFormed (take (validPrefix t) t))
         → (validPrefix (b ∷ s) ≤ length (b ∷ s)) × WellFormed (take (validPrefix (b ∷ s)) (b ∷ s))
-    go (inl e) below = let z = valid-stop b s e in (omega arith, rw z WellFormed.none)
+    go (inl e) below = let z = valid-stop b s e in (omega arith, rw z WellFormed.empty)
     go (inr (row, w, f, e)) below =
         let k = row-long w in
         let a = take-fits row (b ∷ s) (length (b ∷ s)) (fits-take row (b ∷ s) (length (b ∷ s)) f (fit-length row (b ∷ s) f)) in
@@ -182,9 +182,9 @@ valid-good (suc fuel) (b ∷ s) l = go (width-found (b ∷ s)) (λ t h. valid-go
 
 -- none that is valid is longer
 valid-most : {u : List ℕ} → WellFormed u → (m : ℕ) (t : List ℕ) → m ≤ length t → u ≡ take m t → m ≤ validPrefix t
-valid-most WellFormed.none zero t l e = omega arith
-valid-most WellFormed.none (suc m) [] l e = absurd (omega arith)
-valid-most WellFormed.none (suc m) (b ∷ t) l e = absurd (let z : _≡_ {A = ℕ} 0 (suc (length (take m t))) = ap length e in omega arith)
+valid-most WellFormed.empty zero t l e = omega arith
+valid-most WellFormed.empty (suc m) [] l e = absurd (omega arith)
+valid-most WellFormed.empty (suc m) (b ∷ t) l e = absurd (let z : _≡_ {A = ℕ} 0 (suc (length (take m t))) = ap length e in omega arith)
 valid-most (WellFormed.char {row} w f g) m t l e =
     let a = take-fits row t m (ap (fits row) (sym e) ∙ f) in
     let v = valid-char row t w (a .0) (a .2) in

@@ -12,7 +12,7 @@ use borrow.Author.Tests.{leb-true}
 use Rattle.chars.specs.paper.Ranges.{Range, _to_}
 use Rattle.chars.specs.paper.Utf8.{table37, fits, Row, here, later, width}
 use Rattle.chars.specs.computed.Valid.{validFrom}
-use Rattle.chars.specs.code.Eights.{AllIn}
+use Rattle.chars.specs.code.Runs.{AllIn}
 use Rattle.chars.proofs.Bools.{and-both}
 use Rattle.chars.proofs.utf8.Rows as rows
 use Rattle.chars.proofs.utf8.Valid.{width-found, width-fit, fit-length, fit-within}

@@ -7,7 +7,7 @@ use lib.Dec.{eqb, ltb}
 use Rattle.chars.specs.paper.Ranges.{_to_}
 use Rattle.chars.specs.paper.Utf8.{fits}
 use Rattle.chars.specs.paper.Classes.{isIdChar}
-use Rattle.chars.specs.paper.Text.{Text, head}
+use Rattle.chars.specs.paper.Text.{Text, headIs}
 
 -- is the code's bit set, up to 0x3F in low, from 0x40 to 0x7F in high?
 unfoldable pub bitIn : ℕ → ℕ → ℕ → Bool
@@ -15,8 +15,8 @@ bitIn low high c = cond (ltb c 0x40) (eqb (low / 2 ^ c % 2) 1) (ltb c 0x80 && eq
 
 -- does the text begin with an id character of ASCII?
 abbrev pub asciiIdChar : Text → Bool
-asciiIdChar t = head (λ c. ltb c 0x80 && isIdChar c) t
+asciiIdChar t = headIs (λ c. ltb c 0x80 && isIdChar c) t
 
 -- does a Russian letter, U+0410 to U+044F, stand at the place i?
-unfoldable pub russianAt : List ℕ → ℕ → Bool
-russianAt s i = fits (0xD0 to 0xD0 ∷ 0x90 to 0xBF ∷ []) (drop i s) || fits (0xD1 to 0xD1 ∷ 0x80 to 0x8F ∷ []) (drop i s)
+unfoldable pub cyrillicAt : List ℕ → ℕ → Bool
+cyrillicAt s i = fits (0xD0 to 0xD0 ∷ 0x90 to 0xBF ∷ []) (drop i s) || fits (0xD1 to 0xD1 ∷ 0x80 to 0x8F ∷ []) (drop i s)

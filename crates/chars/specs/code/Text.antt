@@ -10,11 +10,11 @@ use Rattle.chars.specs.declared.text.Step.the-variants as step
 use Rattle.chars.specs.paper.Text.{Char}
 
 -- where the character at i ends
-unfoldable pub nextOf : List ℕ → ℕ → ℕ
-nextOf s i = suc i + (width (drop i s) - 1)
+unfoldable pub charEnd : List ℕ → ℕ → ℕ
+charEnd s i = suc i + (width (drop i s) - 1)
 
 -- the first character of the text from the place i on: its code, and where it ends
 unfoldable pub stepAt : List ℕ → ℕ → Step
 stepAt s i =
     let t = drop i s in
-    cond (ltb i (length s)) (step.Char (codeOf (width t) t) (nextOf s i)) step.End
+    cond (ltb i (length s)) (step.Char (codeOf (width t) t) (charEnd s i)) step.End

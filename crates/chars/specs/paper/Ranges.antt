@@ -22,12 +22,12 @@ inRanges [] c = false
 inRanges (_to_ a b ∷ t) c = between a b c || inRanges t c
 
 -- the range at an index
-abbrev pub at : List Range → ℕ → Range
-at [] k = 0 to 0
-at (r ∷ t) zero = r
-at (r ∷ t) (suc k) = at t k
+abbrev pub rangeAt : List Range → ℕ → Range
+rangeAt [] k = 0 to 0
+rangeAt (r ∷ t) zero = r
+rangeAt (r ∷ t) (suc k) = rangeAt t k
 
 -- Document 01: no high is below its low, and every low above the high before it.
 pub record Ascending (t : List Range) : Type 0 where
-  pub ordered : (k : ℕ) → k < length t → low (at t k) ≤ high (at t k)
-  pub disjoint : (k : ℕ) → suc k < length t → high (at t k) < low (at t (suc k))
+  pub ordered : (k : ℕ) → k < length t → low (rangeAt t k) ≤ high (rangeAt t k)
+  pub disjoint : (k : ℕ) → suc k < length t → high (rangeAt t k) < low (rangeAt t (suc k))

@@ -32,9 +32,9 @@ place n [] = n
 place n (c ∷ s) = c .at
 
 -- does the text begin with a character of the class?
-abbrev pub head : (ℕ → Bool) → Text → Bool
-head p [] = false
-head p (c ∷ s) = p (c .code)
+abbrev pub headIs : (ℕ → Bool) → Text → Bool
+headIs p [] = false
+headIs p (c ∷ s) = p (c .code)
 
 abbrev pub idChar : Text → Bool
-idChar s = head isIdChar s
+idChar s = headIs isIdChar s

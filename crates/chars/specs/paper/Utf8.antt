@@ -37,7 +37,7 @@ pub data Row : List (List Range) → List Range → Type 0 where
 
 -- characters end to end, each a row of the table
 pub data WellFormed : List ℕ → Type 0 where
-  none : WellFormed []
+  empty : WellFormed []
   char : {row : List Range} {s : List ℕ} → Row table37 row → fits row s ≡ true → WellFormed (drop (length row) s) → WellFormed s
 
 -- n is the length of the longest valid prefix

@@ -16,15 +16,15 @@ use Rattle.token.specs.paper.Refusals.{BadEscape, Met}
 use Rattle.token.specs.paper.Records.{records, tokenCount, recordBytes, mostBytes}
 use Rattle.token.specs.computed.Answer.{Answer, answer}
 use Rattle.entry.specs.paper.Host.{Seen, seen, numberSeen, bufferSeen, Sized, Clean, Read, Sees}
-use Rattle.entry.specs.computed.Host.{good, bad, short, Verdict, judge, verdict, seenOf, hostOf}
+use Rattle.entry.specs.computed.Host.{granted, rejected, lacking, Verdict, byRoom, verdict, seenOf, hostOf}
 use Rattle.words.specs.Words.{blockOf}
 use Rattle.entry.specs.Theorems.{HostTheorems, Lends, Accepts}
-use Rattle.entry.proofs.host.Verdicts.{verdict-17, verdict-18, verdict-rest, judge-good, judge-short, judge-bad}
+use Rattle.entry.proofs.host.Verdicts.{verdict-17, verdict-18, verdict-rest, room-granted, room-lacking, room-rejected}
 use Rattle.token.proofs.theorems.Theorems.{complete, refusal, need, answer-tokens, tokens-answer}
 
 -- ---- the order, computed
 
-verdict-judge : (script block : List ℕ) (room : ℕ) → Clean script block → verdict script room ≡ judge room (answer script)
+verdict-judge : (script block : List ℕ) (room : ℕ) → Clean script block → verdict script room ≡ byRoom room (answer script)
 verdict-judge script block room h = let e = valid-all script (h .utf8) in verdict-rest script room (h .sized .short) (omega arith)
 
 -- the numbers of the table's first sixteen rows
@@ -62,18 +62,18 @@ module _ (script buffer block : List ℕ) where
   pub sees-only : {x : Seen} → Sees script buffer block x → hostOf script buffer block ≡ x
   unfolding seenOf
   sees-only (Sees.twenty n) = host-20 n
-  sees-only (Sees.seventeen e l) = host-16 e (bad 17 0) (verdict-17 script (length buffer) l)
+  sees-only (Sees.seventeen e l) = host-16 e (rejected 17 0) (verdict-17 script (length buffer) l)
   sees-only (Sees.eighteen {n} z v m) =
       let q : validPrefix script ≡ n = longest-one (valid script) v in
-      host-16 (z .sixteen) (bad 18 n) (verdict-18 script (length buffer) (z .short) (omega arith) ∙ ap (bad 18) q)
+      host-16 (z .sixteen) (rejected 18 n) (verdict-18 script (length buffer) (z .short) (omega arith) ∙ ap (rejected 18) q)
   sees-only (Sees.refused {j} {a} c h) =
-      host-16 (c .sized .sixteen) (bad j a) (verdict-judge script block (length buffer) c ∙ judge-bad (length buffer) (answer script) j a (refusal script j a .1 h))
+      host-16 (c .sized .sixteen) (rejected j a) (verdict-judge script block (length buffer) c ∙ room-rejected (length buffer) (answer script) j a (refusal script j a .1 h))
   sees-only (Sees.nineteen {ts} r m) =
-      host-16 (r .clean .sized .sixteen) (short ts)
-      (verdict-judge script block (length buffer) (r .clean) ∙ judge-short (length buffer) (answer script) ts (answer-tokens script ts (r .tokensOf)) m)
+      host-16 (r .clean .sized .sixteen) (lacking ts)
+      (verdict-judge script block (length buffer) (r .clean) ∙ room-lacking (length buffer) (answer script) ts (answer-tokens script ts (r .tokensOf)) m)
   sees-only (Sees.accepted {ts} r m) =
-      host-16 (r .clean .sized .sixteen) (good ts)
-      (verdict-judge script block (length buffer) (r .clean) ∙ judge-good (length buffer) (answer script) ts (answer-tokens script ts (r .tokensOf)) m)
+      host-16 (r .clean .sized .sixteen) (granted ts)
+      (verdict-judge script block (length buffer) (r .clean) ∙ room-granted (length buffer) (answer script) ts (answer-tokens script ts (r .tokensOf)) m)
 
   put : {x : Seen} → Sees script buffer block x → Sees script buffer block (hostOf script buffer block)
   put h = rw (sees-only h) h

@@ -9,16 +9,16 @@ use Rattle.chars.specs.paper.Quoted.{codes}
 use Rattle.chars.specs.computed.Encoded.{script}
 use Rattle.token.specs.paper.Records.{mostBytes}
 use Rattle.entry.specs.paper.Host.{seen}
-use Rattle.entry.specs.computed.Host.{bad, verdict}
-use Rattle.entry.specs.paper.TokenText.{hasText, textOf, textNumber}
+use Rattle.entry.specs.computed.Host.{rejected, verdict}
+use Rattle.entry.specs.paper.TokenText.{hasText, tokenText, textNumber}
 use Rattle.entry.specs.computed.Listing.{entered, hosted}
 
 -- 17, for every script that is so long
-pub too-long : (s : List ℕ) (room : ℕ) → ltb mostBytes (length s) ≡ true → verdict s room ≡ bad 17 0
+pub too-long : (s : List ℕ) (room : ℕ) → ltb mostBytes (length s) ≡ true → verdict s room ≡ rejected 17 0
 unfolding verdict
 too-long s room long = rw long
 
--- 18: 61 C0 80 hex: 1. Surrogates, what is over U+10FFFF, and a character cut short are no UTF-8 either.
+-- 18: 61 C0 80 hex: 1. Surrogates, what is over U+10FFFF, and a character cut lacking are no UTF-8 either.
 abbrev pub illFormed : List (List ℕ)
 illFormed = (0x61 ∷ 0xC0 ∷ 0x80 ∷ []) ∷ (0xED ∷ 0xA0 ∷ 0x80 ∷ []) ∷ (0x61 ∷ 0xF4 ∷ 0x90 ∷ 0x80 ∷ 0x80 ∷ []) ∷ (0x22 ∷ 0xE4 ∷ 0xB8 ∷ []) ∷ []
 
@@ -49,6 +49,6 @@ pub text-21 : textNumber (script "ab") 1 3 ≡ 21
 unfolding hasText
 text-21 = refl
 
-pub text-ok : textOf (script "ab") 1 2 ≡ script "b"
-unfolding textOf hasText
+pub text-ok : tokenText (script "ab") 1 2 ≡ script "b"
+unfolding tokenText hasText
 text-ok = refl

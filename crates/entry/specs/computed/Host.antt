@@ -13,27 +13,27 @@ use Rattle.entry.specs.paper.Host.{seen, Seen}
 
 -- the answer with `room` bytes lent: accepted, a refusal's number and place, or 19 with both counts
 pub data Verdict : Type 0 where
-  good : List Token → Verdict
-  bad : ℕ → ℕ → Verdict
-  short : List Token → Verdict
+  granted : List Token → Verdict
+  rejected : ℕ → ℕ → Verdict
+  lacking : List Token → Verdict
 
 -- 19: records need more than lent
-unfoldable pub judge : ℕ → Answer → Verdict
-judge room (Answer.accepted ts) = cond (leb (recordBytes ts) room) (good ts) (short ts)
-judge room (Answer.refused j a) = bad j a
+unfoldable pub byRoom : ℕ → Answer → Verdict
+byRoom room (Answer.accepted ts) = cond (leb (recordBytes ts) room) (granted ts) (lacking ts)
+byRoom room (Answer.refused j a) = rejected j a
 
 unfoldable pub verdict : List ℕ → ℕ → Verdict
 verdict script room =
     let valid = validPrefix script in
-    let judged = judge room (answer script) in
-    let checked = cond (ltb valid (length script)) (bad 18 valid) judged in
-    cond (ltb mostBytes (length script)) (bad 17 0) checked
+    let judged = byRoom room (answer script) in
+    let checked = cond (ltb valid (length script)) (rejected 18 valid) judged in
+    cond (ltb mostBytes (length script)) (rejected 17 0) checked
 
 -- the number, the buffer and the block that follow from it
 unfoldable pub seenOf : Verdict → List ℕ → Seen
-seenOf (good ts) buffer = seen 0 (records ts ++ drop (recordBytes ts) buffer) (blockOf 0 0 (tokenCount ts) (recordBytes ts))
-seenOf (bad j a) buffer = seen j buffer (blockOf j a 0 0)
-seenOf (short ts) buffer = seen 19 buffer (blockOf 19 0 (tokenCount ts) (recordBytes ts))
+seenOf (granted ts) buffer = seen 0 (records ts ++ drop (recordBytes ts) buffer) (blockOf 0 0 (tokenCount ts) (recordBytes ts))
+seenOf (rejected j a) buffer = seen j buffer (blockOf j a 0 0)
+seenOf (lacking ts) buffer = seen 19 buffer (blockOf 19 0 (tokenCount ts) (recordBytes ts))
 
 unfoldable pub hostOf : List ℕ → List ℕ → List ℕ → Seen
 hostOf script buffer block =

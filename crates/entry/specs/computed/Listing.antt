@@ -10,12 +10,12 @@ use Rattle.chars.specs.computed.Valid.{validFrom}
 use Rattle.token.specs.paper.Records.{values, mostNeed, recordLength, fieldsOf, headOf, recordOf, records, recordBytes}
 use Rattle.token.specs.computed.Listing.{shown, refusedAt, listed}
 use Rattle.entry.specs.paper.Host.{Seen}
-use Rattle.entry.specs.computed.Host.{good, bad, short, Verdict, judge, verdict, seenOf, hostOf}
+use Rattle.entry.specs.computed.Host.{granted, rejected, lacking, Verdict, byRoom, verdict, seenOf, hostOf}
 
 unfoldable pub listing : Verdict → List ℕ
-listing (good ts) = shown ts
-listing (bad j a) = refusedAt j a
-listing (short ts) = refusedAt 19 0
+listing (granted ts) = shown ts
+listing (rejected j a) = refusedAt j a
+listing (lacking ts) = refusedAt 19 0
 
 -- It takes up to 3,000 bytes on standard input (more prints `long`), and lends as many bytes as any script of that length needs.
 unfoldable pub printed : List ℕ → List ℕ
@@ -25,7 +25,7 @@ printed s =
 
 -- Where these are unfolded, all of the computed definition is: the listing of any script, and what a host sees.
 unfoldable pub entered : List ℕ → List ℕ
-unfolding listed validFrom values recordLength recordBytes le4 le8 judge verdict listing
+unfolding listed validFrom values recordLength recordBytes le4 le8 byRoom verdict listing
 entered s = listing (verdict s (mostNeed (length s)))
 
 unfoldable pub hosted : List ℕ → List ℕ → List ℕ → Seen

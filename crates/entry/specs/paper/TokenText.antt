@@ -7,16 +7,16 @@ use lib.Dec.{leb, ltb}
 use Rattle.chars.specs.paper.Quoted.{between}
 
 -- A byte 0x80 to 0xBF at a place inside the script puts that place inside a character.
-abbrev pub inside : List ℕ → ℕ → Bool
-inside script i = ltb i (length script) && between 0x80 0xBF (getD script i 0)
+abbrev pub insideCharacter : List ℕ → ℕ → Bool
+insideCharacter script i = ltb i (length script) && between 0x80 0xBF (getD script i 0)
 
 -- 21: start past end, end past script, or either inside a character. The separate yes or no.
 unfoldable pub hasText : List ℕ → ℕ → ℕ → Bool
-hasText script a e = leb a e && leb e (length script) && not (inside script a) && not (inside script e)
+hasText script a e = leb a e && leb e (length script) && not (insideCharacter script a) && not (insideCharacter script e)
 
 -- Token text is the script's bytes from start to end, as a part; at 21 the empty part at 0.
-unfoldable pub textOf : List ℕ → ℕ → ℕ → List ℕ
-textOf script a e = cond (hasText script a e) (take (e - a) (drop a script)) []
+unfoldable pub tokenText : List ℕ → ℕ → ℕ → List ℕ
+tokenText script a e = cond (hasText script a e) (take (e - a) (drop a script)) []
 
 -- the number for hosts
 abbrev pub textNumber : List ℕ → ℕ → ℕ → ℕ

@@ -16,7 +16,7 @@ use Rattle.chars.proofs.classes.Laws.{sign-no-semi}
 use Rattle.chars.proofs.text.Texts.{TextOf, text-drop, text-place}
 use Rattle.chars.proofs.text.Places.{at-end, place-from}
 use Rattle.token.specs.paper.Tests.{begins, backslash, apostrophe, opSign, freeSign, opensComment, plainChar}
-use Rattle.token.specs.computed.Answer.{Found, Esc, good, bad, afterSlash, afterIdent, tickNext, escapedOf, scanCharSym}
+use Rattle.token.specs.computed.Answer.{Found, Esc, unbroken, broken, afterSlash, afterIdent, tickNext, escapedOf, scanCharSym}
 use Rattle.token.specs.code.Cursor.{cursorAt}
 use Rattle.token.specs.code.Piece.{pieceOf}
 use Rattle.token.specs.code.String.{escEnd, escapeOf}
@@ -74,21 +74,21 @@ module _ (s : List ℕ) (i : ℕ) where
   escape-ends end e = go (afterSlash (from s i)) e
     where
       go : (a : Esc) → ended.At end ≡ escEnd (length s) (from s i) a → (end .at ≤ length s) × (tickNext (from s (end .at)) ≡ escapedOf (from s i) a)
-      go (good k) e =
+      go (unbroken k) e =
           let t = text-drop s k (from s i) (i, refl) in
           let y : end ≡ cursorAt (place (length s) (drop k (from s i))) = cc in
           let z : end .at ≡ place (length s) (drop k (from s i)) = ap (λ d. d .at) y in
           let w = text-within s (drop k (from s i)) t in
           (omega arith, ap (λ j. tickNext (from s j)) z ∙ ap tickNext (text-place s (drop k (from s i)) t))
-      go (bad j q) e = zero-one (cc)
+      go (broken j q) e = zero-one (cc)
 
   pub escape-wrong : (j at : ℕ) → ended.Refused j at ≡ escapeOf (length s) (from s i) → piece.Refused j at ≡ pieceOf (length s) (escapedChar (from s i))
   unfolding escapeOf pieceOf
   escape-wrong j at e = go (afterSlash (from s i)) e
     where
       go : (a : Esc) → ended.Refused j at ≡ escEnd (length s) (from s i) a → piece.Refused j at ≡ pieceOf (length s) (escapedOf (from s i) a)
-      go (good k) e = zero-one (cc)
-      go (bad k q) e = cc
+      go (unbroken k) e = zero-one (cc)
+      go (broken k q) e = cc
 
 -- ---- a symbol, by the first character of its name
 

@@ -10,7 +10,7 @@ use borrow.Author.Tests.{leb-true, ltb-true}
 use Rattle.chars.specs.paper.Quoted.{codes, oneOf}
 use Rattle.chars.specs.paper.Text.{Text, from}
 use Rattle.chars.specs.computed.Runs.{afterRun}
-use Rattle.chars.specs.code.Eights.{AllIn, Within}
+use Rattle.chars.specs.code.Runs.{AllIn, Within}
 use Rattle.chars.proofs.Carry.{carry}
 use Rattle.chars.proofs.text.Places.{at-ascii}
 use Rattle.chars.proofs.classes.IdRuns.{run-stays}

@@ -10,7 +10,7 @@ use native.Mathlib.Omega.{arith}
 use borrow.Author.Tests.{leb-true, ltb-true, ltb-false, ne-eqb}
 use Rattle.chars.specs.paper.Quoted.{codes, member, oneOf}
 use Rattle.chars.specs.paper.Text.{from}
-use Rattle.chars.specs.code.Text.{nextOf}
+use Rattle.chars.specs.code.Text.{charEnd}
 use Rattle.chars.proofs.Bools.{and-both}
 use Rattle.chars.proofs.Carry.{every}
 use Rattle.chars.proofs.text.Places.{Ascii, head-byte, at-ascii, at-end, at-char, wide-code, codeAt}
@@ -69,7 +69,7 @@ starts-byte x xs a b s i = go (ltb i (length s)) refl (ltb (getD s i 0) 0x80) re
         let k = ltb-false (getD s i 0) 0x80 f in
         let w = wide-code s i k in
         ap (startsWith (x ∷ xs)) (at-char s i (ltb-true i (length s) e))
-        ∙ ap (λ b. b && startsWith xs (from s (nextOf s i))) (ne-eqb (codeAt s i) x (λ q. absurd (omega arith)))
+        ∙ ap (λ b. b && startsWith xs (from s (charEnd s i))) (ne-eqb (codeAt s i) x (λ q. absurd (omega arith)))
         ∙ sym (ap (λ b. b && startsWith xs (from s (i + 1))) (ne-eqb (getD s i 0) x (λ q. absurd (omega arith))))
 
 -- two of them

@@ -8,9 +8,9 @@ use lib.Dec.{ltb}
 use native.Mathlib.Omega.{arith}
 use borrow.Author.Tests.{ltb-true, ltb-false}
 use Rattle.chars.specs.paper.Text.{Char, Text, from, place}
-use Rattle.chars.specs.code.Text.{nextOf, stepAt}
+use Rattle.chars.specs.code.Text.{charEnd, stepAt}
 use Rattle.chars.specs.computed.Runs.{afterRun}
-use Rattle.chars.specs.code.Eights.{Each}
+use Rattle.chars.specs.code.Runs.{Each}
 use Rattle.chars.specs.declared.text.Step.the-variants as step
 use Rattle.chars.proofs.text.Places.{at-char, at-end, place-from, next-on, step-text, step-none, codeAt}
 use Rattle.token.specs.code.Cursor.{cursorAt, peekedOf, peekAt}
@@ -30,7 +30,7 @@ here s i code next e =
     let t = step-text s i code next e in
     let n = next-on s i (t .0) in
     record {
-      text = at-char s i (t .0) ∙ ap (λ c. record { code = c; at = i } ∷ from s (nextOf s i)) (t .1) ∙ ap (λ j. record { code = code; at = i } ∷ from s j) (t .2);
+      text = at-char s i (t .0) ∙ ap (λ c. record { code = c; at = i } ∷ from s (charEnd s i)) (t .1) ∙ ap (λ j. record { code = code; at = i } ∷ from s j) (t .2);
       in-script = t .0;
       on = omega (arith, t .2);
       within = omega (arith, t .2);
@@ -56,12 +56,12 @@ peeked-char s i code next e = go (ltb i (length s)) refl
         let h = ltb-true i (length s) q in
         let t = at-char s i h in
         let n = next-on s i h in
-        let p = place-from s (nextOf s i) (n .1) in
-        let f : peeked.Char code (cursorAt next) ≡ peeked.Char (codeAt s i) (cursorAt (place (length s) (from s (nextOf s i)))) = e ∙ ap (peekedOf (length s)) t in
+        let p = place-from s (charEnd s i) (n .1) in
+        let f : peeked.Char code (cursorAt next) ≡ peeked.Char (codeAt s i) (cursorAt (place (length s) (from s (charEnd s i)))) = e ∙ ap (peekedOf (length s)) t in
         let a : code ≡ codeAt s i = cc in
-        let b : cursorAt next ≡ cursorAt (place (length s) (from s (nextOf s i))) = cc in
-        let d : next ≡ nextOf s i = ap (λ (c : Cursor). c .at) b ∙ p in
-        record { text = t ∙ ap (λ c. record { code = c; at = i } ∷ from s (nextOf s i)) (sym a) ∙ ap (λ j. record { code = code; at = i } ∷ from s j) (sym d); in-script = h; on = omega arith; within = omega arith }
+        let b : cursorAt next ≡ cursorAt (place (length s) (from s (charEnd s i))) = cc in
+        let d : next ≡ charEnd s i = ap (λ (c : Cursor). c .at) b ∙ p in
+        record { text = t ∙ ap (λ c. record { code = c; at = i } ∷ from s (charEnd s i)) (sym a) ∙ ap (λ j. record { code = code; at = i } ∷ from s j) (sym d); in-script = h; on = omega arith; within = omega arith }
     go false q =
         let f : peeked.Char code (cursorAt next) ≡ peeked.End = e ∙ ap (peekedOf (length s)) (at-end s i (ltb-false i (length s) q)) in
         zero-one (cc)
@@ -73,7 +73,7 @@ peeked-end s i e = go (ltb i (length s)) refl
     go : (b : Bool) → ltb i (length s) ≡ b → length s ≤ i
     go false q = ltb-false i (length s) q
     go true q =
-        let f : peeked.End ≡ peeked.Char (codeAt s i) (cursorAt (place (length s) (from s (nextOf s i)))) = e ∙ ap (peekedOf (length s)) (at-char s i (ltb-true i (length s) q)) in
+        let f : peeked.End ≡ peeked.Char (codeAt s i) (cursorAt (place (length s) (from s (charEnd s i)))) = e ∙ ap (peekedOf (length s)) (at-char s i (ltb-true i (length s) q)) in
         zero-one (cc)
 
 -- ---- a run of bytes: what the loop found at its start is f

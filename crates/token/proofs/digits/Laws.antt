@@ -10,7 +10,7 @@ use native.Mathlib.Nat.{le-div-iff-mul-le, div-lt-iff-lt-mul, le-mul-of-pos-righ
 use native.Mathlib.Omega.{arith}
 use borrow.Author.Tests.{ltb-true, ltb-false, lt-ltb, le-ltb, leb-true, leb-false, le-leb, lt-leb, eqb-true}
 use Rattle.chars.specs.paper.Quoted.{between, codes, oneOf}
-use Rattle.chars.specs.paper.Text.{Text, from, place, head}
+use Rattle.chars.specs.paper.Text.{Text, from, place, headIs}
 use Rattle.chars.specs.computed.Runs.{afterRun}
 use Rattle.chars.proofs.Bools.{clash, and-both}
 use Rattle.chars.proofs.classes.Ranges.{between-in, between-out, in-between, not-between}
@@ -144,7 +144,7 @@ module _ (base b : ℕ) (h : (base ≡ 10) ⊎ (base ≡ 16)) where
 -- ---- runs of a class
 
 module _ (p : ℕ → Bool) where
-  none-up : (m : ℕ) (t : Text) → head p t ≡ false → upTo p m t ≡ t
+  none-up : (m : ℕ) (t : Text) → headIs p t ≡ false → upTo p m t ≡ t
   unfolding upTo
   none-up zero t e = refl
   none-up (suc m) [] e = refl
@@ -155,7 +155,7 @@ module _ (p : ℕ → Bool) where
   up-full zero t h = refl
   up-full (suc m) t h = absurd (omega arith)
 
-  read-none : (base v : ℕ) (t : Text) → head p t ≡ false → readDigits p base v t ≡ read v t
+  read-none : (base v : ℕ) (t : Text) → headIs p t ≡ false → readDigits p base v t ≡ read v t
   unfolding readDigits
   read-none base v [] e = refl
   read-none base v (c ∷ t) e = rw (e, readDigits)
@@ -294,7 +294,7 @@ module _ (s : List ℕ) (start : ℕ) (h : start ≤ length s) where
       → piece.Refused 6 start ≡ pieceOf (length s) (numberOf (from s start) (readDigits p base v t))
   over-read p base some v t k =
       let l = no-less p base some t v in
-      over-piece (valueFrom p base v t) (afterRun (head p) t) (omega arith)
+      over-piece (valueFrom p base v t) (afterRun (headIs p) t) (omega arith)
       ∙ ap (λ r. pieceOf (length s) (numberOf (from s start) r)) (sym (read-is p base v t))
 
 -- ---- `0x`
@@ -323,7 +323,7 @@ module _ (s : List ℕ) (i : ℕ) where
   hex-bytes = go zeroX refl
     where
       go : (t : Bool) → zeroX ≡ t → begins "0x" (from s i) && hexDigit (drop 2 (from s i)) ≡ zeroX && digitIn 16 (getD s (i + 2) 0)
-      go true e = rw (zero-x, e) (ap (head (digitIn 16)) (past-zero-x e .1) ∙ head-byte (digitIn 16) (digits-ascii 16) s (i + 2))
+      go true e = rw (zero-x, e) (ap (headIs (digitIn 16)) (past-zero-x e .1) ∙ head-byte (digitIn 16) (digits-ascii 16) s (i + 2))
       go false e = rw (zero-x, e)
 
   pub hex-text : hexAhead (from s i) ≡ true → (i + 2 ≤ length s) × (drop 2 (from s i) ≡ from s (i + 2))

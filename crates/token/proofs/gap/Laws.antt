@@ -10,7 +10,7 @@ use native.Mathlib.Omega.{arith}
 use borrow.Author.Tests.{ltb-true, ltb-false, leb-true, le-leb, lt-leb, eqb-true, eq-eqb, ne-eqb}
 use Rattle.chars.specs.paper.Text.{Char, Text, from}
 use Rattle.chars.specs.computed.Runs.{afterRun}
-use Rattle.chars.specs.code.Eights.{AllIn, Within, NeitherOf, Neither}
+use Rattle.chars.specs.code.Runs.{AllIn, Within, NeitherOf, Neither}
 use Rattle.chars.proofs.Bools.{and-both}
 use Rattle.chars.proofs.text.Places.{at-char, at-ascii, at-end, place-from, byte-by-byte}
 use Rattle.token.specs.paper.Tests.{startsWith, begins, endsLine, endOfLine, opensLine, opensBlock, closesBlock}

@@ -9,10 +9,10 @@ use lib.Dec.{eqb, ltb}
 use native.Mathlib.Omega.{arith}
 use borrow.Author.Tests.{ltb-true, ltb-false, eqb-true, ne-eqb}
 use Rattle.chars.specs.paper.Quoted.{oneOf}
-use Rattle.chars.specs.paper.Text.{Char, Text, from, place, head, idChar}
-use Rattle.chars.specs.code.Text.{nextOf}
+use Rattle.chars.specs.paper.Text.{Char, Text, from, place, headIs, idChar}
+use Rattle.chars.specs.code.Text.{charEnd}
 use Rattle.chars.specs.computed.Runs.{afterRun}
-use Rattle.chars.specs.code.Eights.{AllIn, Within}
+use Rattle.chars.specs.code.Runs.{AllIn, Within}
 use Rattle.chars.specs.paper.Classes.{isIdStart, isIdChar}
 use Rattle.chars.proofs.Bools.{clash}
 use Rattle.chars.proofs.classes.Laws.{under-no-id}
@@ -21,7 +21,7 @@ use Rattle.chars.proofs.text.Texts.{Suffix, suffix-trans, drop-suffix}
 use Rattle.chars.proofs.text.Places.{at-char, at-ascii, at-end, next-on, place-from, byte-by-byte}
 use Rattle.token.specs.paper.Tests.{isAny, begins, quote, opSign, freeSign, opensComment, notBacktick}
 use Rattle.token.specs.paper.Kinds.{wordOf, runOf}
-use Rattle.token.specs.computed.Answer.{Found, afterIdent, orPrefixed, prefixedOf, inString, codesTo, wordOr, scanIdent, runOr, scanOperator, backtickOr, scanBacktick}
+use Rattle.token.specs.computed.Answer.{Found, afterIdent, orPrefixed, prefixedOf, closeString, codesTo, wordOr, scanIdent, runOr, scanOperator, backtickOr, scanBacktick}
 use Rattle.token.specs.code.Cursor.{cursorAt}
 use Rattle.token.specs.code.Piece.{pieceOf}
 use Rattle.token.specs.code.Ident.{LeftOf}
@@ -38,19 +38,19 @@ use Rattle.token.proofs.theorems.Idents.{ident-finds, start-rest, rest-
 -- ---- places
 
 -- where a character stands the script goes on
-pub head-inside : (p : ℕ → Bool) (s : List ℕ) (i : ℕ) → head p (from s i) ≡ true → i < length s
+pub head-inside : (p : ℕ → Bool) (s : List ℕ) (i : ℕ) → headIs p (from s i) ≡ true → i < length s
 head-inside p s i e = go (ltb i (length s)) refl
   where
     go : (b : Bool) → ltb i (length s) ≡ b → i < length s
     go true h = ltb-true i (length s) h
-    go false h = clash (sym (ap (head p) (at-end s i (ltb-false i (length s) h))) ∙ e)
+    go false h = clash (sym (ap (headIs p) (at-end s i (ltb-false i (length s) h))) ∙ e)
 
 -- what is left of a text stands no earlier
 drop-later : (s : List ℕ) (k i : ℕ) → i ≤ length s → i ≤ place (length s) (drop k (from s i))
 drop-later s zero i h = let e = place-from s i h in omega arith
-drop-later s (suc k) i h = go (ltb i (length s)) refl (drop-later s k (nextOf s i))
+drop-later s (suc k) i h = go (ltb i (length s)) refl (drop-later s k (charEnd s i))
   where
-    go : (b : Bool) → ltb i (length s) ≡ b → (nextOf s i ≤ length s → nextOf s i ≤ place (length s) (drop k (from s (nextOf s i))))
+    go : (b : Bool) → ltb i (length s) ≡ b → (charEnd s i ≤ length s → charEnd s i ≤ place (length s) (drop k (from s (charEnd s i))))
         → i ≤ place (length s) (drop (suc k) (from s i))
     go true e ih =
         let l = ltb-true i (length s) e in
@@ -91,31 +91,31 @@ after-moves p (c ∷ t) z e = go (p (c ∷ t)) refl
 
 module _ (p : ℕ → Bool) (s : List ℕ) (i : ℕ) where
   -- below 0x80 the byte decides; past the end it counts as 0
-  pub head-low : p 0 ≡ false → getD s i 0 < 0x80 → head p (from s i) ≡ p (getD s i 0)
+  pub head-low : p 0 ≡ false → getD s i 0 < 0x80 → headIs p (from s i) ≡ p (getD s i 0)
   head-low z l = go (ltb i (length s)) refl
     where
-      go : (b : Bool) → ltb i (length s) ≡ b → head p (from s i) ≡ p (getD s i 0)
-      go true e = ap (head p) (at-ascii s i (ltb-true i (length s) e) l)
-      go false e = let h = ltb-false i (length s) e in ap (head p) (at-end s i h) ∙ sym (ap p (List·getD-eq-default s 0 h) ∙ z)
+      go : (b : Bool) → ltb i (length s) ≡ b → headIs p (from s i) ≡ p (getD s i 0)
+      go true e = ap (headIs p) (at-ascii s i (ltb-true i (length s) e) l)
+      go false e = let h = ltb-false i (length s) e in ap (headIs p) (at-end s i h) ∙ sym (ap p (List·getD-eq-default s 0 h) ∙ z)
 
-  pub past-on : (j : ℕ) → head p (from s i) ≡ true → j ≡ nextOf s i → j ≡ cond (head p (from s i)) (nextOf s i) i
+  pub past-on : (j : ℕ) → headIs p (from s i) ≡ true → j ≡ charEnd s i → j ≡ cond (headIs p (from s i)) (charEnd s i) i
   past-on j e q = rw e q
 
-  pub past-off : head p (from s i) ≡ false → i ≡ cond (head p (from s i)) (nextOf s i) i
+  pub past-off : headIs p (from s i) ≡ false → i ≡ cond (headIs p (from s i)) (charEnd s i) i
   past-off e = rw e
 
   -- the code's test, whether that is the place itself
-  pub past-same : i ≡ cond (head p (from s i)) (nextOf s i) i → head p (from s i) ≡ false
-  past-same e = go (head p (from s i)) refl e
+  pub past-same : i ≡ cond (headIs p (from s i)) (charEnd s i) i → headIs p (from s i) ≡ false
+  past-same e = go (headIs p (from s i)) refl e
     where
-      go : (b : Bool) → head p (from s i) ≡ b → i ≡ cond b (nextOf s i) i → b ≡ false
+      go : (b : Bool) → headIs p (from s i) ≡ b → i ≡ cond b (charEnd s i) i → b ≡ false
       go false h e = refl
       go true h e = let n = next-on s i (head-inside p s i h) in absurd (omega arith)
 
-  pub past-other : (j : ℕ) → j ≡ cond (head p (from s i)) (nextOf s i) i → (j ≡ i → ⊥) → (i < length s) × (head p (from s i) ≡ true) × (nextOf s i ≡ j)
-  past-other j e n = go (head p (from s i)) refl e
+  pub past-other : (j : ℕ) → j ≡ cond (headIs p (from s i)) (charEnd s i) i → (j ≡ i → ⊥) → (i < length s) × (headIs p (from s i) ≡ true) × (charEnd s i ≡ j)
+  past-other j e n = go (headIs p (from s i)) refl e
     where
-      go : (b : Bool) → head p (from s i) ≡ b → j ≡ cond b (nextOf s i) i → (i < length s) × (head p (from s i) ≡ true) × (nextOf s i ≡ j)
+      go : (b : Bool) → headIs p (from s i) ≡ b → j ≡ cond b (charEnd s i) i → (i < length s) × (headIs p (from s i) ≡ true) × (charEnd s i ≡ j)
       go true h e = (head-inside p s i h, h, sym e)
       go false h e = absurd (n e)
 
@@ -204,7 +204,7 @@ pass-unders s i u e r l h a =
 
 -- ---- what is left of a text
 
-pub ident-left : (t : Text) → head isIdStart t ≡ true → Suffix (afterIdent false (drop 1 t)) t
+pub ident-left : (t : Text) → headIs isIdStart t ≡ true → Suffix (afterIdent false (drop 1 t)) t
 ident-left t e = suffix-trans (rest-suffix (drop 1 t) (afterIdent false (drop 1 t)) (start-rest t (afterIdent false (drop 1 t)) (ident-finds t e .0) .1)) (drop-suffix 1 t)
 
 -- what is found, by the text that is left and the keyword
@@ -280,7 +280,7 @@ tick-inside s i e = head-inside (oneOf "`") s i e
 
 -- ---- the code's answers
 
-pub is-prefixed : (n : ℕ) (k : TokenKind) (s r : Text) → quote r ≡ true → orPrefixed n k s r ≡ prefixedOf n s (inString true r)
+pub is-prefixed : (n : ℕ) (k : TokenKind) (s r : Text) → quote r ≡ true → orPrefixed n k s r ≡ prefixedOf n s (closeString true r)
 unfolding orPrefixed
 is-prefixed n k s r e = rw e
 

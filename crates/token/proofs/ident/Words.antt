@@ -11,12 +11,12 @@ use native.Mathlib.Omega.{arith}
 use borrow.Author.Tests.{ltb-true, ltb-false, eqb-true, eqb-false, eq-eqb, ne-eqb}
 use Rattle.chars.specs.paper.Quoted.{codes, member}
 use Rattle.chars.specs.paper.Text.{Char, Text, from, place}
-use Rattle.chars.specs.code.Text.{nextOf}
+use Rattle.chars.specs.code.Text.{charEnd}
 use Rattle.chars.proofs.Bools.{clash, and-both, or-neither}
 use Rattle.chars.proofs.text.Texts.{Suffix, suffix-refl, suffix-same}
 use Rattle.chars.proofs.text.Places.{at-char, place-from, ascii-code, ascii-next, wide-code, codeAt}
 use Rattle.token.specs.paper.Tests.{same}
-use Rattle.token.specs.paper.Kinds.{Word, word, keyword, wordOf, runOf, nineWords, fiveRuns}
+use Rattle.token.specs.paper.Kinds.{Word, word, keyword, wordOf, runOf, wordKeywords, symbolKeywords}
 use Rattle.token.specs.computed.Answer.{codesTo}
 use Rattle.token.specs.code.Ident.{LeftOf, standsAt, keywordAt, keywordOf}
 use Rattle.token.specs.declared.kinds.Kw.{Kw}
@@ -44,26 +44,26 @@ suffix-tail c r s h k =
     record { within = k; tail = h .tail ∙ ap (λ n. drop n (c ∷ s)) e }
 
 -- what is left from a later place on is left past the first character too
-suffix-next : (s : List ℕ) (a b : ℕ) → a < b → b ≤ length s → Suffix (from s b) (from s a) → Suffix (from s b) (from s (nextOf s a))
+suffix-next : (s : List ℕ) (a b : ℕ) → a < b → b ≤ length s → Suffix (from s b) (from s a) → Suffix (from s b) (from s (charEnd s a))
 suffix-next s a b h k w =
     let e = at-char s a (omega arith) in
-    let v : Suffix (from s b) (record { code = codeAt s a; at = a } ∷ from s (nextOf s a)) = rw e at w in
-    suffix-tail (record { code = codeAt s a; at = a }) (from s b) (from s (nextOf s a)) v (go (ltb (length (from s b)) (suc (length (from s (nextOf s a))))) refl v)
+    let v : Suffix (from s b) (record { code = codeAt s a; at = a } ∷ from s (charEnd s a)) = rw e at w in
+    suffix-tail (record { code = codeAt s a; at = a }) (from s b) (from s (charEnd s a)) v (go (ltb (length (from s b)) (suc (length (from s (charEnd s a))))) refl v)
   where
-    go : (t : Bool) → ltb (length (from s b)) (suc (length (from s (nextOf s a)))) ≡ t
-        → Suffix (from s b) (record { code = codeAt s a; at = a } ∷ from s (nextOf s a)) → length (from s b) ≤ length (from s (nextOf s a))
-    go true e v = let l = ltb-true (length (from s b)) (suc (length (from s (nextOf s a)))) e in omega arith
+    go : (t : Bool) → ltb (length (from s b)) (suc (length (from s (charEnd s a)))) ≡ t
+        → Suffix (from s b) (record { code = codeAt s a; at = a } ∷ from s (charEnd s a)) → length (from s b) ≤ length (from s (charEnd s a))
+    go true e v = let l = ltb-true (length (from s b)) (suc (length (from s (charEnd s a)))) e in omega arith
     go false e v =
-        let l = ltb-false (length (from s b)) (suc (length (from s (nextOf s a)))) e in
+        let l = ltb-false (length (from s b)) (suc (length (from s (charEnd s a)))) e in
         let m = v .within in
         let q = suffix-same v (suffix-refl _) (omega arith) in
         let z : b ≡ a = sym (place-from s b k) ∙ ap (place (length s)) q in
         absurd (omega arith)
 
 codes-next : (s : List ℕ) (a b : ℕ) → a < b → b ≤ length s → Suffix (from s b) (from s a)
-    → codesTo (from s a) (from s b) ≡ codeAt s a ∷ codesTo (from s (nextOf s a)) (from s b)
+    → codesTo (from s a) (from s b) ≡ codeAt s a ∷ codesTo (from s (charEnd s a)) (from s b)
 codes-next s a b h k w =
-    ap (λ t. codesTo t (from s b)) (at-char s a (omega arith)) ∙ codes-more _ (from s (nextOf s a)) (from s b) (suffix-next s a b h k w .within)
+    ap (λ t. codesTo t (from s b)) (at-char s a (omega arith)) ∙ codes-more _ (from s (charEnd s a)) (from s b) (suffix-next s a b h k w .within)
 
 -- ---- a text of ASCII characters
 
@@ -118,7 +118,7 @@ same-stands (x ∷ w) p s a b h k v =
         let n = ascii-next s a i m in
         let u = rw n at (suffix-next s a b l k v) in
         ap (same (x ∷ w)) (codes-next s a b l k v)
-        ∙ ap (λ c. eqb x c && same w (codesTo (from s (nextOf s a)) (from s b))) (ascii-code s a i m)
+        ∙ ap (λ c. eqb x c && same w (codesTo (from s (charEnd s a)) (from s b))) (ascii-code s a i m)
         ∙ ap (λ j. eqb x (getD s a 0) && same w (codesTo (from s j) (from s b))) n
         ∙ ap (λ z. z && same w (codesTo (from s (a + 1)) (from s b))) (eqb-flip x (getD s a 0))
         ∙ ap (λ z. eqb (getD s a 0) x && z) (ih (a + 1) (omega arith) u)
@@ -130,7 +130,7 @@ same-stands (x ∷ w) p s a b h k v =
         let c = wide-code s a m in
         let d = less in
         ap (same (x ∷ w)) (codes-next s a b l k v)
-        ∙ ap (λ z. z && same w (codesTo (from s (nextOf s a)) (from s b))) (ne-eqb x (codeAt s a) (λ q. absurd (omega arith)))
+        ∙ ap (λ z. z && same w (codesTo (from s (charEnd s a)) (from s b))) (ne-eqb x (codeAt s a) (λ q. absurd (omega arith)))
         ∙ sym (ap (λ z. eqb (b - a) (suc (length w)) && (z && standsAt w s (a + 1))) (ne-eqb (getD s a 0) x (λ q. absurd (omega arith))) ∙ and-false (eqb (b - a) (suc (length w))))
 
 -- ---- keywords
@@ -149,13 +149,13 @@ keyword-at (word w j ∷ ws) p s a b h k v =
     ∙ ap (λ z. cond (eqb (b - a) (length (codes w)) && standsAt (codes w) s a) (some j) z) (keyword-at ws (q .1) s a b h k v)
 
 module _ (s : List ℕ) (a b : ℕ) (h : a ≤ b) (k : b ≤ length s) (l : LeftOf (from s a) (from s b)) where
-  pub word-at : wordOf (codesTo (from s a) (from s b)) ≡ keywordAt nineWords (b - a) s a
+  pub word-at : wordOf (codesTo (from s a) (from s b)) ≡ keywordAt wordKeywords (b - a) s a
   unfolding wordOf
-  word-at = keyword-at nineWords refl s a b h k (left-suffix (from s b) (from s a) l)
+  word-at = keyword-at wordKeywords refl s a b h k (left-suffix (from s b) (from s a) l)
 
-  pub run-at : runOf (codesTo (from s a) (from s b)) ≡ keywordAt fiveRuns (b - a) s a
+  pub run-at : runOf (codesTo (from s a) (from s b)) ≡ keywordAt symbolKeywords (b - a) s a
   unfolding runOf
-  run-at = keyword-at fiveRuns refl s a b h k (left-suffix (from s b) (from s a) l)
+  run-at = keyword-at symbolKeywords refl s a b h k (left-suffix (from s b) (from s a) l)
 
 -- ---- what the code compares
 
@@ -219,11 +219,11 @@ first-none ks ws n s i h e = none-at (startsIn ks) ws n s i h go
         ∙ and-false (eqb n (suc (length w)))
 
 module _ (s : List ℕ) (i : ℕ) where
-  pub of-two : keywordAt nineWords 2 s i ≡ cond (standsAt (codes "if") s i) (some kw.If) none
+  pub of-two : keywordAt wordKeywords 2 s i ≡ cond (standsAt (codes "if") s i) (some kw.If) none
   unfolding keywordAt
   of-two = refl
 
-  pub of-four : keywordAt nineWords 4 s i
+  pub of-four : keywordAt wordKeywords 4 s i
       ≡ cond (standsAt (codes "case") s i) (some kw.Case)
       (cond (standsAt (codes "else") s i) (some kw.Else)
       (cond (standsAt (codes "then") s i) (some kw.Then)
@@ -231,7 +231,7 @@ module _ (s : List ℕ) (i : ℕ) where
   unfolding keywordAt
   of-four = refl
 
-  of-five : keywordAt nineWords 5 s i
+  of-five : keywordAt wordKeywords 5 s i
       ≡ cond (standsAt (codes "fals") s i && standsAt (codes "e") s (i + 4)) (some kw.False)
       (cond (standsAt (codes "matc") s i && standsAt (codes "h") s (i + 4)) (some kw.Match) none)
   unfolding keywordAt
@@ -240,24 +240,24 @@ module _ (s : List ℕ) (i : ℕ) where
       ∙ ap (λ z. cond (standsAt (codes "fals") s i && standsAt (codes "e") s (i + 4)) (some kw.False) (cond z (some kw.Match) none))
       (stands-append (codes "matc") (codes "h") s i (i + 4) refl)
 
-  pub of-six : keywordAt nineWords 6 s i ≡ cond (standsAt (codes "retu") s i && standsAt (codes "rn") s (i + 4)) (some kw.Return) none
+  pub of-six : keywordAt wordKeywords 6 s i ≡ cond (standsAt (codes "retu") s i && standsAt (codes "rn") s (i + 4)) (some kw.Return) none
   unfolding keywordAt
   of-six = ap (λ z. cond z (some kw.Return) none) (stands-append (codes "retu") (codes "rn") s i (i + 4) refl)
 
-  pub of-eight : keywordAt nineWords 8 s i ≡ cond (standsAt (codes "func") s i && standsAt (codes "tion") s (i + 4)) (some kw.Function) none
+  pub of-eight : keywordAt wordKeywords 8 s i ≡ cond (standsAt (codes "func") s i && standsAt (codes "tion") s (i + 4)) (some kw.Function) none
   unfolding keywordAt
   of-eight = ap (λ z. cond z (some kw.Function) none) (stands-append (codes "func") (codes "tion") s i (i + 4) refl)
 
   -- the last byte leaves one word of five
-  pub five-e : getD s (i + 4) 0 ≡ 0x65 → keywordAt nineWords 5 s i ≡ cond (standsAt (codes "fals") s i) (some kw.False) none
+  pub five-e : getD s (i + 4) 0 ≡ 0x65 → keywordAt wordKeywords 5 s i ≡ cond (standsAt (codes "fals") s i) (some kw.False) none
   five-e e =
       of-five ∙ rw (byte-is s (i + 4) 0x65 0x65 e, byte-is s (i + 4) 0x65 0x68 e, and-true (standsAt (codes "fals") s i), and-false (standsAt (codes "matc") s i))
 
-  pub five-h : getD s (i + 4) 0 ≡ 0x68 → keywordAt nineWords 5 s i ≡ cond (standsAt (codes "matc") s i) (some kw.Match) none
+  pub five-h : getD s (i + 4) 0 ≡ 0x68 → keywordAt wordKeywords 5 s i ≡ cond (standsAt (codes "matc") s i) (some kw.Match) none
   five-h e =
       of-five ∙ rw (byte-is s (i + 4) 0x68 0x65 e, byte-is s (i + 4) 0x68 0x68 e, and-false (standsAt (codes "fals") s i), and-true (standsAt (codes "matc") s i))
 
-  pub five-none : member (0x65 ∷ 0x68 ∷ []) (getD s (i + 4) 0) ≡ false → keywordAt nineWords 5 s i ≡ none
+  pub five-none : member (0x65 ∷ 0x68 ∷ []) (getD s (i + 4) 0) ≡ false → keywordAt wordKeywords 5 s i ≡ none
   five-none e =
       let a = or-neither (eqb (getD s (i + 4) 0) 0x65) (eqb (getD s (i + 4) 0) 0x68 || false) e in
       let b = or-neither (eqb (getD s (i + 4) 0) 0x68) false (a .1) in
@@ -265,12 +265,12 @@ module _ (s : List ℕ) (i : ℕ) where
       ∙ rw (sym (one-stands 0x65 s (i + 4)) ∙ a .0, sym (one-stands 0x68 s (i + 4)) ∙ b .0, and-false (standsAt (codes "fals") s i), and-false (standsAt (codes "matc") s i))
 
   -- runs
-  pub one-sign : (x : ℕ) → getD s i 0 ≡ x → keywordAt fiveRuns 1 s i
+  pub one-sign : (x : ℕ) → getD s i 0 ≡ x → keywordAt symbolKeywords 1 s i
       ≡ cond (eqb x 0x3A) (some kw.Colon) (cond (eqb x 0x3D) (some kw.Assign) (cond (eqb x 0x23) (some kw.Hash) (cond (eqb x 0x40) (some kw.At) none)))
   unfolding keywordAt
   one-sign x e = rw (byte-is s i x 0x3A e, byte-is s i x 0x3D e, byte-is s i x 0x23 e, byte-is s i x 0x40 e)
 
-  pub run-two : keywordAt fiveRuns 2 s i ≡ cond (standsAt (codes "=>") s i) (some kw.FatArrow) none
+  pub run-two : keywordAt symbolKeywords 2 s i ≡ cond (standsAt (codes "=>") s i) (some kw.FatArrow) none
   unfolding keywordAt
   run-two = refl
 

@@ -10,8 +10,8 @@ use native.Mathlib.Omega.{arith}
 use borrow.Author.Tests.{ltb-true, ltb-false, lt-ltb, ne-eqb, lt-leb}
 use Rattle.chars.specs.paper.Quoted.{between, codes, oneOf}
 use Rattle.chars.specs.paper.Classes.{isIdStart}
-use Rattle.chars.specs.paper.Text.{Char, Text, from, place, head}
-use Rattle.chars.specs.code.Text.{nextOf as charEnd}
+use Rattle.chars.specs.paper.Text.{Char, Text, from, place, headIs}
+use Rattle.chars.specs.code.Text.{charEnd}
 use Rattle.chars.specs.computed.Runs.{afterRun}
 use Rattle.chars.proofs.Bools.{clash, and-both}
 use Rattle.chars.proofs.Carry.{every, carry, no-member}
@@ -19,7 +19,7 @@ use Rattle.chars.proofs.classes.Ranges.{between-in, between-out}
 use Rattle.chars.proofs.text.Places.{Ascii, head-byte, at-char, at-end, at-ascii, place-from, next-on}
 use Rattle.token.specs.paper.Tests.{isAny, begins, digit, isDigit, quote, apostrophe, opSign, opensLine, opensBlock, opensComment, wordless, isHexDigit, hexAhead, longSuffix, notBacktick, freeSign, backslash, plainChar, endOfLine}
 use Rattle.token.specs.computed.Flags.{GapKind, push, cutOf}
-use Rattle.token.specs.computed.Answer.{Found, Start, startOf, signOf, scan, scanAs, scanReturn, scanLine, scanBlock, blockOr, close, Read, read, readDigits, numberOf, scanNumber, Inside, closed, wrong, inString, prefixedOf, plainOf, orPrefixed, afterIdent, codesTo, wordOr, scanIdent, runOr, scanOperator, backtickOr, scanBacktick, scanString, Esc, good, bad, afterSlash, escapedOf, scanCharSym}
+use Rattle.token.specs.computed.Answer.{Found, Start, startOf, signOf, scan, scanAs, scanReturn, scanLine, scanBlock, blockOr, close, Read, read, readDigits, numberOf, scanNumber, Closing, closed, wrong, closeString, prefixedOf, plainOf, orPrefixed, afterIdent, codesTo, wordOr, scanIdent, runOr, scanOperator, backtickOr, scanBacktick, scanString, Esc, unbroken, broken, afterSlash, escapedOf, scanCharSym}
 use Rattle.token.specs.code.Cursor.{cursorAt}
 use Rattle.token.specs.code.Piece.{pieceOf}
 use Rattle.token.specs.code.Gap.{closedOf}
@@ -92,7 +92,7 @@ module _ (s : List ℕ) (i : ℕ) (h : i < length s) where
   pub charsym-at : apostrophe t ≡ true → scan n t ≡ scanAs n Start.charSym t
   charsym-at e = scan-by n t Start.charSym (starts-tick t (clear-head (oneOf "'") refl t e) e)
 
-  pub word-at : opensComment t ≡ false → head isIdStart t ≡ true → scan n t ≡ scanAs n Start.word t
+  pub word-at : opensComment t ≡ false → headIs isIdStart t ≡ true → scan n t ≡ scanAs n Start.word t
   word-at z e = scan-by n t Start.word (starts-word t (clear t z) e)
 
   pub operator-at : opensComment t ≡ false → opSign t ≡ true → scan n t ≡ scanAs n Start.operator t
@@ -101,18 +101,18 @@ module _ (s : List ℕ) (i : ℕ) (h : i < length s) where
 -- ---- ASCII, recognised from its byte
 
 module _ (s : List ℕ) (i : ℕ) (h : i < length s) where
-  pub ascii-head : (p : ℕ → Bool) → getD s i 0 < 0x80 → head p (from s i) ≡ p (getD s i 0)
-  ascii-head p l = ap (head p) (at-ascii s i h l)
+  pub ascii-head : (p : ℕ → Bool) → getD s i 0 < 0x80 → headIs p (from s i) ≡ p (getD s i 0)
+  ascii-head p l = ap (headIs p) (at-ascii s i h l)
 
   -- an identifier's first character, and the text behind it
   pub ascii-start : ltb (getD s i 0) 0x80 && isIdStart (getD s i 0) ≡ true
-      → (head isIdStart (from s i) ≡ true) × (i + 1 ≤ length s) × (from s (i + 1) ≡ drop 1 (from s i))
+      → (headIs isIdStart (from s i) ≡ true) × (i + 1 ≤ length s) × (from s (i + 1) ≡ drop 1 (from s i))
   ascii-start e =
       let k = and-both (ltb (getD s i 0) 0x80) (isIdStart (getD s i 0)) e in
       let t = at-ascii s i h (ltb-true (getD s i 0) 0x80 (k .0)) in
-      (ap (head isIdStart) t ∙ k .1, omega arith, sym (ap (drop 1) t))
+      (ap (headIs isIdStart) t ∙ k .1, omega arith, sym (ap (drop 1) t))
 
-  pub ascii-no-start : getD s i 0 < 0x80 → ltb (getD s i 0) 0x80 && isIdStart (getD s i 0) ≡ false → head isIdStart (from s i) ≡ false
+  pub ascii-no-start : getD s i 0 < 0x80 → ltb (getD s i 0) 0x80 && isIdStart (getD s i 0) ≡ false → headIs isIdStart (from s i) ≡ false
   ascii-no-start l e = ascii-head isIdStart l ∙ (rw (lt-ltb (getD s i 0) 0x80 l) at e)
 
 -- a sub-list of codes of which none stands there
@@ -133,7 +133,7 @@ no-digit (c ∷ s) e = go (isDigit (c .code)) refl
     go true q = clash (sym e ∙ carry (oneOf wordless) (codes "0123456789") (c .code) refl (digit-one (c .code) q))
 
 -- nothing starts there
-pub other-at : (n : ℕ) (s : Text) → opensComment s ≡ false → isAny wordless s ≡ false → head isIdStart s ≡ false → opSign s ≡ false → scan n s ≡ Found.stuck 3 s
+pub other-at : (n : ℕ) (s : Text) → opensComment s ≡ false → isAny wordless s ≡ false → headIs isIdStart s ≡ false → opSign s ≡ false → scan n s ≡ Found.stuck 3 s
 unfolding startOf
 other-at n s z e a b =
     let k = clear s z in
@@ -177,13 +177,13 @@ number-gapless s = go (cond (hexAhead s) (readDigits isHexDigit 16 0 (drop 2 s))
     go : (x : Read) → gapless (numberOf s x) ≡ true
     go (read v r) = pick-gapless (longSuffix r) _ _ (pick-gapless (leb v 9223372036854775807) _ _ refl refl) (pick-gapless (leb v 2147483647) _ _ refl refl)
 
-prefixed-gapless : (n : ℕ) (s : Text) (x : Inside) → gapless (prefixedOf n s x) ≡ true
+prefixed-gapless : (n : ℕ) (s : Text) (x : Closing) → gapless (prefixedOf n s x) ≡ true
 prefixed-gapless n s (closed r) = refl
 prefixed-gapless n s (wrong j q) = refl
 
 or-gapless : (n : ℕ) (k : TokenKind) (s r : Text) → gapless (orPrefixed n k s r) ≡ true
 unfolding orPrefixed
-or-gapless n k s r = pick-gapless (quote r) _ _ (prefixed-gapless n s (inString true r)) refl
+or-gapless n k s r = pick-gapless (quote r) _ _ (prefixed-gapless n s (closeString true r)) refl
 
 word-gapless : (n : ℕ) (s : Text) → gapless (scanIdent n s) ≡ true
 unfolding scanIdent
@@ -211,9 +211,9 @@ backtick-gapless n s = pick-gapless (isAny "`" (drop 1 s)) _ _ refl (go (afterRu
 
 string-gapless : (n : ℕ) (s : Text) → gapless (scanString n s) ≡ true
 unfolding scanString
-string-gapless n s = go (inString false s)
+string-gapless n s = go (closeString false s)
   where
-    go : (x : Inside) → gapless (plainOf n s x) ≡ true
+    go : (x : Closing) → gapless (plainOf n s x) ≡ true
     go (closed r) = refl
     go (wrong j q) = refl
 
@@ -222,13 +222,13 @@ unfolding scanCharSym
 charsym-gapless s =
     pick-gapless (backslash (drop 1 s)) _ _ (go (afterSlash (drop 1 (drop 1 s))))
     (pick-gapless (plainChar (drop 1 s) && apostrophe (drop 1 (drop 1 s))) _ _ refl
-    (pick-gapless (head isIdStart (drop 1 s)) _ _ refl
+    (pick-gapless (headIs isIdStart (drop 1 s)) _ _ refl
     (pick-gapless (freeSign (drop 1 s)) _ _ refl
     (pick-gapless (isAny ";" (drop 1 s) && not (opSign (drop 1 (drop 1 s)))) _ _ refl refl))))
   where
     go : (x : Esc) → gapless (escapedOf (drop 1 (drop 1 s)) x) ≡ true
-    go (good k) = pick-gapless (apostrophe (drop k (drop 1 (drop 1 s)))) _ _ refl refl
-    go (bad j q) = refl
+    go (unbroken k) = pick-gapless (apostrophe (drop k (drop 1 (drop 1 s)))) _ _ refl refl
+    go (broken j q) = refl
 
 -- ---- comments
 

@@ -12,7 +12,7 @@ use Rattle.chars.proofs.text.Texts.{Suffix, suffix-refl, suffix-trans}
 use Rattle.chars.proofs.text.Places.{at-end}
 use Rattle.token.specs.paper.Kinds.{Token}
 use Rattle.token.specs.computed.Flags.{GapKind, fresh, push}
-use Rattle.token.specs.computed.Answer.{Found, scan, accepted, refused, before, walk}
+use Rattle.token.specs.computed.Answer.{Found, scan, accepted, refused, prepend, walk}
 use Rattle.token.specs.code.Cursor.{cursorAt}
 use Rattle.token.specs.code.Lexer.{Sought, seek, nextOf}
 use Rattle.token.specs.declared.gap.Gap.{Gap}
@@ -31,9 +31,9 @@ use Rattle.token.proofs.lexer.Laws.{later-place}
 -- what the search found is the answer's next step
 pub data Meets (n : ℕ) (g : Gap) (s : Text) : Sought → Type 0 where
   token : {k : TokenKind} {a r : Text} {cut : Bool} → Suffix a s → Strict r s
-      → walk n 0 g s ≡ before (record { kind = k; start = place n a; end = place n r; cut = cut }) (walk n 0 fresh r) → Meets n g s (Sought.token k a r cut)
+      → walk n 0 g s ≡ prepend (record { kind = k; start = place n a; end = place n r; cut = cut }) (walk n 0 fresh r) → Meets n g s (Sought.token k a r cut)
   lineEnd : {a r : Text} {mark : Bool} {h : Gap} → Suffix a s → Strict r s
-      → walk n 0 g s ≡ before (record { kind = tk.Newline mark; start = place n a; end = place n r; cut = false }) (walk n 0 h r) → Meets n g s (Sought.lineEnd a r mark h)
+      → walk n 0 g s ≡ prepend (record { kind = tk.Newline mark; start = place n a; end = place n r; cut = false }) (walk n 0 h r) → Meets n g s (Sought.lineEnd a r mark h)
   ends : {cut : Bool} → walk n 0 g s ≡ accepted (record { kind = tk.Eof; start = n; end = n; cut = cut } ∷ []) → Meets n g s (Sought.ends cut)
   stuck : {j : ℕ} {q : Text} → walk n 0 g s ≡ refused j (place n q) → Meets n g s (Sought.stuck j q)
 
@@ -78,7 +78,7 @@ meets n (suc fuel) (c ∷ s) g l = meets-one n fuel c s g (omega arith) (meets n
 -- ---- at places of a script
 
 pub record Turn (s : List ℕ) (i : ℕ) (g : Gap) (t : Token) (e : ℕ) (h : Gap) : Type 0 where
-  pub walked : walk (length s) 0 g (from s i) ≡ before t (walk (length s) 0 h (from s e))
+  pub walked : walk (length s) 0 g (from s i) ≡ prepend t (walk (length s) 0 h (from s e))
   pub on : i < e
   pub within : e ≤ length s
 
@@ -112,11 +112,11 @@ module _ (s : List ℕ) (i : ℕ) (g : Gap) where
           let o = later-place s i r (some-left s i r h) h in
           record {
             walked =
-                w ∙ ap (λ z. before (record { kind = z; start = place n p; end = place n r; cut = d }) (walk n 0 fresh r)) b1
-                ∙ ap (λ z. before (record { kind = k; start = z; end = place n r; cut = d }) (walk n 0 fresh r)) b2
-                ∙ ap (λ z. before (record { kind = k; start = a; end = z; cut = d }) (walk n 0 fresh r)) b5
-                ∙ ap (λ z. before (record { kind = k; start = a; end = e .at; cut = z }) (walk n 0 fresh r)) b4
-                ∙ ap (λ z. before (record { kind = k; start = a; end = e .at; cut = cut }) (walk n 0 fresh z)) (sym (left-at s i r (h .0)) ∙ ap (from s) b5);
+                w ∙ ap (λ z. prepend (record { kind = z; start = place n p; end = place n r; cut = d }) (walk n 0 fresh r)) b1
+                ∙ ap (λ z. prepend (record { kind = k; start = z; end = place n r; cut = d }) (walk n 0 fresh r)) b2
+                ∙ ap (λ z. prepend (record { kind = k; start = a; end = z; cut = d }) (walk n 0 fresh r)) b5
+                ∙ ap (λ z. prepend (record { kind = k; start = a; end = e .at; cut = z }) (walk n 0 fresh r)) b4
+                ∙ ap (λ z. prepend (record { kind = k; start = a; end = e .at; cut = cut }) (walk n 0 fresh z)) (sym (left-at s i r (h .0)) ∙ ap (from s) b5);
             on = omega arith;
             within = omega arith;
           }
@@ -139,11 +139,11 @@ module _ (s : List ℕ) (i : ℕ) (g : Gap) where
           let o = later-place s i r (some-left s i r y) y in
           record {
             walked =
-                w ∙ ap (λ z. before (record { kind = tk.Newline z; start = place n p; end = place n r; cut = false }) (walk n 0 v r)) b4
-                ∙ ap (λ z. before (record { kind = tk.Newline mark; start = z; end = place n r; cut = false }) (walk n 0 v r)) b2
-                ∙ ap (λ z. before (record { kind = tk.Newline mark; start = a; end = z; cut = false }) (walk n 0 v r)) b5
-                ∙ ap (λ z. before (record { kind = tk.Newline mark; start = a; end = e .at; cut = false }) (walk n 0 z r)) b6
-                ∙ ap (λ z. before (record { kind = tk.Newline mark; start = a; end = e .at; cut = false }) (walk n 0 h z)) (sym (left-at s i r (y .0)) ∙ ap (from s) b5);
+                w ∙ ap (λ z. prepend (record { kind = tk.Newline z; start = place n p; end = place n r; cut = false }) (walk n 0 v r)) b4
+                ∙ ap (λ z. prepend (record { kind = tk.Newline mark; start = z; end = place n r; cut = false }) (walk n 0 v r)) b2
+                ∙ ap (λ z. prepend (record { kind = tk.Newline mark; start = a; end = z; cut = false }) (walk n 0 v r)) b5
+                ∙ ap (λ z. prepend (record { kind = tk.Newline mark; start = a; end = e .at; cut = false }) (walk n 0 z r)) b6
+                ∙ ap (λ z. prepend (record { kind = tk.Newline mark; start = a; end = e .at; cut = false }) (walk n 0 h z)) (sym (left-at s i r (y .0)) ∙ ap (from s) b5);
             on = omega arith;
             within = omega arith;
           }

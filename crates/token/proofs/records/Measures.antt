@@ -10,7 +10,7 @@ use Rattle.chars.specs.paper.Text.{from}
 use Rattle.chars.proofs.Bools.{clash}
 use Rattle.token.specs.paper.Kinds.{Token}
 use Rattle.token.specs.computed.Flags.{fresh}
-use Rattle.token.specs.computed.Answer.{Answer, accepted, refused, before, walk, answer}
+use Rattle.token.specs.computed.Answer.{Answer, accepted, refused, prepend, walk, answer}
 use Rattle.token.specs.paper.Records.{values, headLength, intLength, longLength, lineLength, mostLength, recordLength, recordOf, records, recordBytes}
 use Rattle.words.specs.Words.{le4, le8}
 use Rattle.token.specs.code.Records.{measuredOf, isAccepted, tokensIn, Fits, Writing}
@@ -62,7 +62,7 @@ eof-length = refl
 
 -- ---- measuring
 
-pub measured-turn : (v w : Answer) (t : Token) (c b l : ℕ) → v ≡ before t w → l ≡ recordLength (t .kind) → measuredOf (c + 1) (b + l) w ≡ measuredOf c b v
+pub measured-turn : (v w : Answer) (t : Token) (c b l : ℕ) → v ≡ prepend t w → l ≡ recordLength (t .kind) → measuredOf (c + 1) (b + l) w ≡ measuredOf c b v
 unfolding measuredOf recordBytes
 measured-turn v (accepted ts) t c b l e q =
     let x : c + 1 + length ts ≡ c + suc (length ts) = omega arith in
@@ -76,18 +76,18 @@ measured-end v t c b l e q =
     let y : b + l ≡ b + (recordLength (t .kind) + 0) = omega arith in
     ap (measured.Total (c + 1)) y ∙ sym (ap (measuredOf c b) e)
 
-pub measured-stop : (v : Answer) (j a c b : ℕ) → v ≡ refused j a → measured.Stopped j a ≡ measuredOf c b v
+pub measured-stop : (v : Answer) (j a c b : ℕ) → v ≡ refused j a → measured.Refused j a ≡ measuredOf c b v
 unfolding measuredOf
 measured-stop v j a c b e = sym (ap (measuredOf c b) e)
 
 -- ---- writing
 
-pub writing-room : (v u : Answer) (t : Token) (all out : List ℕ) (w : ℕ) → v ≡ before t u → Writing v all out w → w + recordLength (t .kind) ≤ length out
+pub writing-room : (v u : Answer) (t : Token) (all out : List ℕ) (w : ℕ) → v ≡ prepend t u → Writing v all out w → w + recordLength (t .kind) ≤ length out
 unfolding recordBytes
 writing-room v (accepted ts) t all out w e h = let a = h .room in let b = ap (λ x. recordBytes (tokensIn x)) e in omega arith
 writing-room v (refused j a) t all out w e h = clash (sym (ap isAccepted e) ∙ h .accepts)
 
-pub writing-turn : (v u : Answer) (t : Token) (all out next : List ℕ) (w l : ℕ) → v ≡ before t u → Writing v all out w → next ≡ sets out w (recordOf t) → l ≡ recordLength (t .kind)
+pub writing-turn : (v u : Answer) (t : Token) (all out next : List ℕ) (w l : ℕ) → v ≡ prepend t u → Writing v all out w → next ≡ sets out w (recordOf t) → l ≡ recordLength (t .kind)
     → Writing u all next (w + l)
 unfolding recordBytes records
 writing-turn v (accepted ts) t all out next w l e h q p =

@@ -28,7 +28,7 @@ use Rattle.token.proofs.lexer.Seeks.{blank-scan, gap-strict}
 use Rattle.token.proofs.form.Stores.{length-record, stored-in, stored-length}
 use Rattle.token.proofs.lexer.Turns.{Turn, turn-token}
 use Rattle.token.proofs.theorems.Walks.{walk-gap}
-use Rattle.token.proofs.direct.Laws.{next-blanks}
+use Rattle.token.proofs.ascii.Laws.{next-blanks}
 use Rattle.token.proofs.records.Measures.{record-most, int-length, long-length, measured-turn, measured-end, measured-stop, writing-turn, writing-end, writing-last, writing-stop, turn-room}
 
 -- ---- a record that fits is stored
@@ -118,7 +118,7 @@ module _ {s : List ℕ} {i : ℕ} {g : Gap} {n b : ℕ} {out : List ℕ} where
           writing-end _ t all mid next d e a (q ∙ stored-record mid d t (writing-last _ t all mid d e a))
 
     -- a refusal
-    pub reach-stop : (j₁ a : ℕ) → walk (length s) 0 h (from s j) ≡ refused j₁ a → measured.Stopped j₁ a ≡ measuredOf n b (walk (length s) 0 g (from s i))
+    pub reach-stop : (j₁ a : ℕ) → walk (length s) 0 h (from s j) ≡ refused j₁ a → measured.Refused j₁ a ≡ measuredOf n b (walk (length s) 0 g (from s i))
     reach-stop j₁ a e = measured-stop _ j₁ a m d e ∙ r .counted
 
     pub reach-refused : (j₁ a : ℕ) → walk (length s) 0 h (from s j) ≡ refused j₁ a → (all : List ℕ) → Writing (walk (length s) 0 g (from s i)) all out b → ⊥

@@ -10,12 +10,12 @@ use lib.Dec.{ltb}
 use native.Mathlib.Omega.{arith}
 use borrow.Author.Tests.{ltb-true, ltb-false, le-leb, lt-leb}
 use Rattle.chars.specs.paper.Quoted.{oneOf}
-use Rattle.chars.specs.paper.Text.{Char, Text, from, place, head}
-use Rattle.chars.specs.code.Text.{nextOf}
+use Rattle.chars.specs.paper.Text.{Char, Text, from, place, headIs}
+use Rattle.chars.specs.code.Text.{charEnd}
 use Rattle.chars.proofs.Bools.{clash}
 use Rattle.chars.proofs.text.Places.{Ascii, head-byte, at-ascii, at-end, at-char, place-from, codeAt}
 use Rattle.token.specs.paper.Tests.{isDigit, isHexDigit, isAny, digit}
-use Rattle.token.specs.computed.Answer.{good, bad, hexes, digitsUpTo, afterSlash}
+use Rattle.token.specs.computed.Answer.{unbroken, broken, hexes, digitsUpTo, afterSlash}
 use Rattle.token.specs.code.Cursor.{cursorAt}
 use Rattle.token.specs.code.String.{escEnd, escapeOf, hexesOf}
 use Rattle.token.specs.code.Digits.{digitIn, upTo}
@@ -61,12 +61,12 @@ module _ (p : ℕ → Bool) (a : Ascii p) where
 pub same-place : (s : List ℕ) (i e : ℕ) → i ≤ length s → e ≤ length s → from s e ≡ from s i → e ≡ i
 same-place s i e h k q = sym (place-from s e k) ∙ ap (place (length s)) q ∙ place-from s i h
 
-upto-stop : (p : ℕ → Bool) (m : ℕ) (t : Text) → head p t ≡ false → upTo p (suc m) t ≡ t
+upto-stop : (p : ℕ → Bool) (m : ℕ) (t : Text) → headIs p t ≡ false → upTo p (suc m) t ≡ t
 unfolding upTo
 upto-stop p m [] e = refl
 upto-stop p m (c ∷ t) e = rw e
 
-hexes-stop : (m k : ℕ) (t : Text) → head isHexDigit t ≡ false → hexes (suc m) k t ≡ bad 13 t
+hexes-stop : (m k : ℕ) (t : Text) → headIs isHexDigit t ≡ false → hexes (suc m) k t ≡ broken 13 t
 unfolding hexes
 hexes-stop m k [] e = refl
 hexes-stop m k (c ∷ t) e = rw e
@@ -79,12 +79,12 @@ hexes-next m k c t e = (rw e, rw e)
 
 abbrev Hexes : List ℕ → ℕ → ℕ → ℕ → ℕ → Type 0
 Hexes s e m k i =
-    ((e < i + m) × (hexes m k (from s i) ≡ bad 13 (from s e))) ⊎ ((e ≡ i + m) × (hexes m k (from s i) ≡ good (k + m)) × (drop m (from s i) ≡ from s e))
+    ((e < i + m) × (hexes m k (from s i) ≡ broken 13 (from s e))) ⊎ ((e ≡ i + m) × (hexes m k (from s i) ≡ unbroken (k + m)) × (drop m (from s i) ≡ from s e))
 
 module _ (s : List ℕ) (e : ℕ) (within : e ≤ length s) where
   hexes-read : (m k i : ℕ) → i ≤ length s → from s e ≡ upTo isHexDigit m (from s i) → Hexes s e m k i
   unfolding upTo hexes
-  hexes-read zero k i h q = inr (let z = same-place s i e h within q in (omega arith, ap good (omega arith), sym q))
+  hexes-read zero k i h q = inr (let z = same-place s i e h within q in (omega arith, ap unbroken (omega arith), sym q))
   hexes-read (suc m) k i h q = go (isHexDigit (getD s i 0)) refl (λ l w. hexes-read m (suc k) (i + 1) l w)
     where
       go : (b : Bool) → isHexDigit (getD s i 0) ≡ b → (i + 1 ≤ length s → from s e ≡ upTo isHexDigit m (from s (i + 1)) → Hexes s e m (suc k) (i + 1)) → Hexes s e (suc m) k i
@@ -94,13 +94,13 @@ module _ (s : List ℕ) (e : ℕ) (within : e ≤ length s) where
           let w = hexes-next m k c (from s (i + 1)) x in
           ⊎-elim
           (λ l. inl (omega (arith, l .0), ap (hexes (suc m) k) (n .1) ∙ w .0 ∙ l .1))
-          (λ l. inr (omega (arith, l .0), ap (hexes (suc m) k) (n .1) ∙ w .0 ∙ l .1 ∙ ap good (omega arith), ap (drop (suc m)) (n .1) ∙ l .2))
+          (λ l. inr (omega (arith, l .0), ap (hexes (suc m) k) (n .1) ∙ w .0 ∙ l .1 ∙ ap unbroken (omega arith), ap (drop (suc m)) (n .1) ∙ l .2))
           (below (n .0) (q ∙ ap (upTo isHexDigit (suc m)) (n .1) ∙ w .1))
       go false x below =
           let f = head-byte isHexDigit hex-ascii s i ∙ x in
           let r = q ∙ upto-stop isHexDigit m (from s i) f in
           let z = same-place s i e h within r in
-          inl (omega arith, hexes-stop m k (from s i) f ∙ ap (bad 13) (sym r))
+          inl (omega arith, hexes-stop m k (from s i) f ∙ ap (broken 13) (sym r))
 
   module _ (i : ℕ) (inside : i ≤ length s) (read : from s e ≡ upTo (digitIn 16) 4 (from s i)) where
     pub hexes-short : e - i < 4 → ended.Refused 13 e ≡ hexesOf (length s) (from s i)
@@ -139,12 +139,12 @@ hexes-shift n (suc m) k c x (d ∷ t) = go (isHexDigit (d .code)) refl (hexes-sh
     go true q below = rw (q, hexes) below
     go false q below = rw (q, hexes)
 
-slash-simple : (t : Text) → isAny "btnfr'\"]" t ≡ true → afterSlash t ≡ good 1
+slash-simple : (t : Text) → isAny "btnfr'\"]" t ≡ true → afterSlash t ≡ unbroken 1
 unfolding afterSlash
 slash-simple [] e = clash e
 slash-simple (c ∷ t) e = rw e
 
-slash-digits : (t : Text) → digit t ≡ true → afterSlash t ≡ good (digitsUpTo 2 1 (drop 1 t))
+slash-digits : (t : Text) → digit t ≡ true → afterSlash t ≡ unbroken (digitsUpTo 2 1 (drop 1 t))
 unfolding afterSlash
 slash-digits [] e = clash e
 slash-digits (c ∷ t) e = rw (digit-no-simple (c .code) e, e)
@@ -154,7 +154,7 @@ unfolding afterSlash escapeOf hexesOf
 slash-hexes n [] e = clash e
 slash-hexes n (c ∷ t) e = let o = u-other (c .code) e in rw (o .0, o .1, e) (hexes-shift n 4 0 c t t)
 
-slash-other : (c : Char) (t : Text) → isAny "btnfr'\"]" (c ∷ t) ≡ false → digit (c ∷ t) ≡ false → isAny "u" (c ∷ t) ≡ false → afterSlash (c ∷ t) ≡ bad 14 (c ∷ t)
+slash-other : (c : Char) (t : Text) → isAny "btnfr'\"]" (c ∷ t) ≡ false → digit (c ∷ t) ≡ false → isAny "u" (c ∷ t) ≡ false → afterSlash (c ∷ t) ≡ broken 14 (c ∷ t)
 unfolding afterSlash
 slash-other c t x y z = rw (x, y, z)
 
@@ -191,5 +191,5 @@ module _ (s : List ℕ) (i : ℕ) where
         let b = sym (ap digit q) ∙ head-byte isDigit digit-ascii s i ∙ y in
         let c = sym (ap (isAny "u") q) ∙ any-byte "u" refl s i ∙ z in
         let k : Char = record { code = codeAt s i; at = i } in
-        let u = from s (nextOf s i) in
+        let u = from s (charEnd s i) in
         sym (ap (λ t. escEnd (length s) t (afterSlash t)) q ∙ ap (escEnd (length s) (k ∷ u)) (slash-other k u a b c))

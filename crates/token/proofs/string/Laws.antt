@@ -9,20 +9,20 @@ use lib.Dec.{eqb, ltb}
 use native.Mathlib.Omega.{arith}
 use borrow.Author.Tests.{ltb-true, ltb-false, ne-eqb, eq-eqb, eqb-true}
 use Rattle.chars.specs.paper.Quoted.{oneOf}
-use Rattle.chars.specs.paper.Text.{Char, Text, from, place, head}
-use Rattle.chars.specs.code.Text.{nextOf}
+use Rattle.chars.specs.paper.Text.{Char, Text, from, place, headIs}
+use Rattle.chars.specs.code.Text.{charEnd}
 use Rattle.chars.specs.computed.Runs.{afterRun}
-use Rattle.chars.specs.code.Eights.{Within, AllIn, Other, NoneOf}
+use Rattle.chars.specs.code.Runs.{Within, AllIn, Other, NoneOf}
 use Rattle.chars.proofs.Bools.{clash, and-both, or-neither, not-true}
 use Rattle.chars.proofs.text.Texts.{Suffix}
 use Rattle.chars.proofs.text.Places.{at-ascii, at-end, at-char, place-from, next-on, wide-code, codeAt, byte-by-byte}
 use Rattle.token.specs.paper.Tests.{isAny, begins, quote, threeQuotes, backslash, dollarBrace, opensComment}
 use Rattle.token.specs.paper.Kinds.{Kind, TokenType, isComment}
 use Rattle.token.specs.paper.Shapes.{singleChar, Single, tripleChar, Stands, HasShape, TokenShape}
-use Rattle.token.specs.computed.Answer.{good, bad, afterSlash, Inside, closed, wrong, inPlain, inTriple, inString, plainContent, plainOf, scanString, prefixedOf}
+use Rattle.token.specs.computed.Answer.{unbroken, broken, afterSlash, Closing, closed, wrong, closePlain, closeTriple, closeString, plainContent, plainOf, scanString, prefixedOf}
 use Rattle.token.specs.code.Cursor.{cursorAt}
 use Rattle.token.specs.code.Piece.{pieceOf}
-use Rattle.token.specs.code.String.{endedOf, escEnd, escapeOf, inSingle, isOrdinary, dollarOf, Onward}
+use Rattle.token.specs.code.String.{endedOf, escEnd, escapeOf, closeSingle, isOrdinary, dollarOf, Onward}
 use Rattle.token.specs.declared.cursor.Cursor.{Cursor}
 use Rattle.token.specs.declared.piece.Ended.{Ended}
 use Rattle.token.specs.declared.piece.Ended.the-variants as ended
@@ -54,7 +54,7 @@ reach s (suc k) i h = go (ltb i (length s)) refl (reach s k)
     go true e below =
         let l = ltb-true i (length s) e in
         let n = next-on s i l in
-        let r = below (nextOf s i) (n .1) in
+        let r = below (charEnd s i) (n .1) in
         record { at = r .at; on = omega (arith, n .0, r .on); within = r .within; is = r .is ∙ sym (ap (drop (suc k)) (at-char s i l)) }
     go false e below =
         let l = ltb-false i (length s) e in
@@ -160,7 +160,7 @@ module _ (s : List ℕ) (i : ℕ) where
   pub quotes-stop : i < length s → (getD s i 0 ≡ 0x22 → ⊥) → from s i ≡ afterRun quote (from s i)
   quotes-stop h b =
       let q = at-char s i h in
-      q ∙ sym (ap (afterRun quote) q ∙ after-stop quote _ (from s (nextOf s i)) (sym (ap quote q) ∙ quote-byte s i ∙ ne-eqb (getD s i 0) 0x22 b))
+      q ∙ sym (ap (afterRun quote) q ∙ after-stop quote _ (from s (charEnd s i)) (sym (ap quote q) ∙ quote-byte s i ∙ ne-eqb (getD s i 0) 0x22 b))
 
   pub quotes-end : length s ≤ i → from s i ≡ afterRun quote (from s i)
   unfolding afterRun
@@ -189,14 +189,14 @@ module _ (c : ℕ) where
   wide-ordinary h =
       other-ordinary ((λ e. absurd (omega arith)), (λ e. absurd (omega arith)), (λ e. absurd (omega arith)), (λ e. absurd (omega arith)))
 
-pub ordinary-byte : (s : List ℕ) (i : ℕ) → i < length s → head isOrdinary (from s i) ≡ isOrdinary (getD s i 0)
+pub ordinary-byte : (s : List ℕ) (i : ℕ) → i < length s → headIs isOrdinary (from s i) ≡ isOrdinary (getD s i 0)
 ordinary-byte s i h = go (ltb (getD s i 0) 0x80) refl
   where
-    go : (b : Bool) → ltb (getD s i 0) 0x80 ≡ b → head isOrdinary (from s i) ≡ isOrdinary (getD s i 0)
-    go true e = ap (head isOrdinary) (at-ascii s i h (ltb-true (getD s i 0) 0x80 e))
+    go : (b : Bool) → ltb (getD s i 0) 0x80 ≡ b → headIs isOrdinary (from s i) ≡ isOrdinary (getD s i 0)
+    go true e = ap (headIs isOrdinary) (at-ascii s i h (ltb-true (getD s i 0) 0x80 e))
     go false e =
         let w = ltb-false (getD s i 0) 0x80 e in
-        ap (head isOrdinary) (at-char s i h) ∙ wide-ordinary (codeAt s i) (wide-code s i w) ∙ sym (wide-ordinary (getD s i 0) w)
+        ap (headIs isOrdinary) (at-char s i h) ∙ wide-ordinary (codeAt s i) (wide-code s i w) ∙ sym (wide-ordinary (getD s i 0) w)
 
 -- a walk that passes a character where the test holds, and the test holds of ordinary ones
 pub record Walk {A : Type 0} (f : Text → A) (test : Text → Bool) : Type 0 where
@@ -215,41 +215,41 @@ module _ {A : Type 0} (f : Text → A) (test : Text → Bool) (w : Walk f test) 
       go false e = byte-by-byte s f (λ c u k. w .pass c u (w .plain c u (wide-ordinary (c .code) k))) i h (ltb-false (getD s i 0) 0x80 e)
 
   -- past all ordinary characters
-  pub walk-run : (t : Text) → f (afterRun (head isOrdinary) t) ≡ f t
+  pub walk-run : (t : Text) → f (afterRun (headIs isOrdinary) t) ≡ f t
   unfolding afterRun
   walk-run [] = refl
   walk-run (c ∷ t) = go (isOrdinary (c .code)) refl (walk-run t)
     where
-      go : (b : Bool) → isOrdinary (c .code) ≡ b → f (afterRun (head isOrdinary) t) ≡ f t → f (afterRun (head isOrdinary) (c ∷ t)) ≡ f (c ∷ t)
-      go true e below = ap f (after-next (head isOrdinary) c t e) ∙ below ∙ sym (w .pass c t (w .plain c t e))
-      go false e below = ap f (after-stop (head isOrdinary) c t e)
+      go : (b : Bool) → isOrdinary (c .code) ≡ b → f (afterRun (headIs isOrdinary) t) ≡ f t → f (afterRun (headIs isOrdinary) (c ∷ t)) ≡ f (c ∷ t)
+      go true e below = ap f (after-next (headIs isOrdinary) c t e) ∙ below ∙ sym (w .pass c t (w .plain c t e))
+      go false e below = ap f (after-stop (headIs isOrdinary) c t e)
 
   -- what the skipping of ordinary characters leaves
-  pub walk-skip : (s : List ℕ) (i e : ℕ) → from s e ≡ afterRun (head isOrdinary) (from s i) → f (from s e) ≡ f (from s i)
+  pub walk-skip : (s : List ℕ) (i e : ℕ) → from s e ≡ afterRun (headIs isOrdinary) (from s i) → f (from s e) ≡ f (from s i)
   walk-skip s i e q = ap f q ∙ walk-run (from s i)
 
-pub skips : Walk (afterRun (head isOrdinary)) (head isOrdinary)
-skips = record { pass = λ c u e. after-next (head isOrdinary) c u e; plain = λ c u e. e }
+pub skips : Walk (afterRun (headIs isOrdinary)) (headIs isOrdinary)
+skips = record { pass = λ c u e. after-next (headIs isOrdinary) c u e; plain = λ c u e. e }
 
 -- ordinary bytes that are passed together
 pub skip-past : (s : List ℕ) (i r : ℕ) → i ≤ r → r ≤ length s → NoneOf 0x0A 0x22 0x24 0x5C s i r
-    → afterRun (head isOrdinary) (from s r) ≡ afterRun (head isOrdinary) (from s i)
+    → afterRun (headIs isOrdinary) (from s r) ≡ afterRun (headIs isOrdinary) (from s i)
 skip-past s =
-    all-past (afterRun (head isOrdinary)) s (Other 0x0A 0x22 0x24 0x5C) (λ k h o. walk-on _ _ skips s k h (ordinary-byte s k h ∙ other-ordinary _ o))
+    all-past (afterRun (headIs isOrdinary)) s (Other 0x0A 0x22 0x24 0x5C) (λ k h o. walk-on _ _ skips s k h (ordinary-byte s k h ∙ other-ordinary _ o))
 
-pub skip-stop : (s : List ℕ) (i : ℕ) → i < length s → isOrdinary (getD s i 0) ≡ false → from s i ≡ afterRun (head isOrdinary) (from s i)
+pub skip-stop : (s : List ℕ) (i : ℕ) → i < length s → isOrdinary (getD s i 0) ≡ false → from s i ≡ afterRun (headIs isOrdinary) (from s i)
 skip-stop s i h e =
     let q = at-char s i h in
-    let t = sym (ap (head isOrdinary) q) ∙ ordinary-byte s i h ∙ e in
-    q ∙ sym (ap (afterRun (head isOrdinary)) q ∙ after-stop (head isOrdinary) _ (from s (nextOf s i)) t)
+    let t = sym (ap (headIs isOrdinary) q) ∙ ordinary-byte s i h ∙ e in
+    q ∙ sym (ap (afterRun (headIs isOrdinary)) q ∙ after-stop (headIs isOrdinary) _ (from s (charEnd s i)) t)
 
-pub skip-end : (s : List ℕ) (i : ℕ) → length s ≤ i → from s i ≡ afterRun (head isOrdinary) (from s i)
+pub skip-end : (s : List ℕ) (i : ℕ) → length s ≤ i → from s i ≡ afterRun (headIs isOrdinary) (from s i)
 unfolding afterRun
 skip-end s i h = rw (at-end s i h)
 
 -- ---- one step
 
-module _ (s : List ℕ) (f : Text → Inside) (i : ℕ) where
+module _ (s : List ℕ) (f : Text → Closing) (i : ℕ) where
   pub on-refused : (j : ℕ) → i ≤ length s → f (from s i) ≡ wrong j (from s i) → Onward s f i (ended.Refused j i)
   unfolding Onward endedOf
   on-refused j h e = sym (ap (endedOf (length s)) e ∙ ap (ended.Refused j) (place-from s i h))
@@ -285,8 +285,8 @@ module _ (s : List ℕ) (f : Text → Inside) (i : ℕ) where
 
 -- ---- single strings
 
-pub single-same : (p : Bool) (t : Text) → inSingle p t ≡ strings.inSingle p t
-unfolding inSingle
+pub single-same : (p : Bool) (t : Text) → closeSingle p t ≡ strings.closeSingle p t
+unfolding closeSingle
 single-same true t = refl
 single-same false t = refl
 
@@ -295,7 +295,7 @@ unfolding begins
 single-plain true c u e = let h = ordinary-not (c .code) e in rw (h .0, h .1, h .2)
 single-plain false c u e = let h = ordinary-not (c .code) e in rw (h .0, h .1, h .3)
 
-pub singles : (p : Bool) → Walk (inSingle p) (singleChar p)
+pub singles : (p : Bool) → Walk (closeSingle p) (singleChar p)
 singles p = record { pass = λ c u e. single-same p (c ∷ u) ∙ strings.single-char p c u e ∙ sym (single-same p u); plain = single-plain p }
 
 -- the character at i is content, by its byte
@@ -307,36 +307,36 @@ module _ (s : List ℕ) (i : ℕ) (h : i < length s) (no-quote : quote (from s i
   not-byte : (x : ℕ) → (getD s i 0 ≡ x → ⊥) → (y : Bool) → eqb (getD s i 0) x && y ≡ false
   not-byte x n y = rw (ne-eqb (getD s i 0) x n)
 
-  pub single-newline : (p : Bool) → getD s i 0 ≡ 0x0A → Onward s (inSingle p) i (ended.Refused 8 i)
+  pub single-newline : (p : Bool) → getD s i 0 ≡ 0x0A → Onward s (closeSingle p) i (ended.Refused 8 i)
   single-newline p b =
-      on-refused s (inSingle p) i 8 (omega arith) (single-same p (from s i) ∙ strings.single-newline p (from s i) (any-byte "\n" refl s i ∙ ap (oneOf "\n") b))
+      on-refused s (closeSingle p) i 8 (omega arith) (single-same p (from s i) ∙ strings.single-newline p (from s i) (any-byte "\n" refl s i ∙ ap (oneOf "\n") b))
 
-  pub single-dollar : (p : Bool) → p ≡ true → getD s i 0 ≡ 0x24 → (r : Ended) → r ≡ dollarOf (length s) (from s i) → Onward s (inSingle p) i r
+  pub single-dollar : (p : Bool) → p ≡ true → getD s i 0 ≡ 0x24 → (r : Ended) → r ≡ dollarOf (length s) (from s i) → Onward s (closeSingle p) i r
   single-dollar p e b r q =
       rw e
-      (on-dollar s (inSingle true) i (singleChar true) (singles true) h b
+      (on-dollar s (closeSingle true) i (singleChar true) (singles true) h b
       (λ x. single-same true (from s i) ∙ strings.single-dollar (from s i) x)
       (λ x. single-test true (any-byte "\n" refl s i ∙ ap (oneOf "\n") b) (λ z. x) (λ z. clash (sym z)))
       r q)
 
-  pub single-lone : (p : Bool) → p ≡ false → getD s i 0 ≡ 0x24 → Onward s (inSingle p) i (ended.At (cursorAt (i + 1)))
+  pub single-lone : (p : Bool) → p ≡ false → getD s i 0 ≡ 0x24 → Onward s (closeSingle p) i (ended.At (cursorAt (i + 1)))
   single-lone p e b =
-      on-next s (inSingle p) i (singleChar p) (singles p) h
+      on-next s (closeSingle p) i (singleChar p) (singles p) h
       (single-test p (any-byte "\n" refl s i ∙ ap (oneOf "\n") b) (λ z. clash (sym e ∙ z)) (λ z. slash-byte s i ∙ ap (λ x. eqb x 0x5C) b))
 
-  pub single-slash : (p : Bool) → p ≡ true → getD s i 0 ≡ 0x5C → Onward s (inSingle p) i (ended.At (cursorAt (i + 1)))
+  pub single-slash : (p : Bool) → p ≡ true → getD s i 0 ≡ 0x5C → Onward s (closeSingle p) i (ended.At (cursorAt (i + 1)))
   single-slash p e b =
-      on-next s (inSingle p) i (singleChar p) (singles p) h
+      on-next s (closeSingle p) i (singleChar p) (singles p) h
       (single-test p (any-byte "\n" refl s i ∙ ap (oneOf "\n") b) (λ z. brace-byte s i ∙ ap (λ x. eqb x 0x24 && eqb (getD s (i + 1) 0) 0x7B) b) (λ z. clash (sym z ∙ e)))
 
-  pub single-other : (p : Bool) → (getD s i 0 ≡ 0x0A → ⊥) → (getD s i 0 ≡ 0x24 → ⊥) → (getD s i 0 ≡ 0x5C → ⊥) → Onward s (inSingle p) i (ended.At (cursorAt (i + 1)))
+  pub single-other : (p : Bool) → (getD s i 0 ≡ 0x0A → ⊥) → (getD s i 0 ≡ 0x24 → ⊥) → (getD s i 0 ≡ 0x5C → ⊥) → Onward s (closeSingle p) i (ended.At (cursorAt (i + 1)))
   single-other p a b d =
-      on-next s (inSingle p) i (singleChar p) (singles p) h
+      on-next s (closeSingle p) i (singleChar p) (singles p) h
       (single-test p (any-byte "\n" refl s i ∙ rw (ne-eqb (getD s i 0) 10 a)) (λ z. brace-byte s i ∙ not-byte 0x24 b _) (λ z. slash-byte s i ∙ ne-eqb (getD s i 0) 0x5C d))
 
   -- an escape of a plain string
-  pub single-escape : (p : Bool) → p ≡ false → getD s i 0 ≡ 0x5C → (r : Ended) → r ≡ escapeOf (length s) (from s (i + 1)) → Onward s (inSingle p) i r
-  unfolding escapeOf Onward inSingle endedOf
+  pub single-escape : (p : Bool) → p ≡ false → getD s i 0 ≡ 0x5C → (r : Ended) → r ≡ escapeOf (length s) (from s (i + 1)) → Onward s (closeSingle p) i r
+  unfolding escapeOf Onward closeSingle endedOf
   single-escape p e b r q = rw e (⊎-elim valid invalid (slash-finds (from s i) back))
     where
       back : backslash (from s i) ≡ true
@@ -345,17 +345,17 @@ module _ (s : List ℕ) (i : ℕ) (h : i < length s) (no-quote : quote (from s i
       tail : drop 1 (from s i) ≡ from s (i + 1)
       tail = past s i h (omega arith)
 
-      valid : Good (from s i) → Onward s (inSingle false) i r
+      valid : Good (from s i) → Onward s (closeSingle false) i r
       valid g =
           let u = drop (g .count) (from s (i + 1)) in
           let x = reached s (i + 1) u (reach s (g .count) (i + 1) (omega arith)) in
-          let f : afterSlash (from s (i + 1)) ≡ good (g .count) = ap afterSlash (sym tail) ∙ g .found in
+          let f : afterSlash (from s (i + 1)) ≡ unbroken (g .count) = ap afterSlash (sym tail) ∙ g .found in
           let w = strings.single-pass false (Single.escape (g .escape) Single.done) in
-          rw (q ∙ ap (escEnd (length s) (from s (i + 1))) f) (omega (arith, x .0), x .1, ap (inPlain 0) (x .2 ∙ ap (drop (g .count)) (sym tail)) ∙ sym w)
+          rw (q ∙ ap (escEnd (length s) (from s (i + 1))) f) (omega (arith, x .0), x .1, ap (closePlain 0) (x .2 ∙ ap (drop (g .count)) (sym tail)) ∙ sym w)
 
-      invalid : Bad (from s i) → Onward s (inSingle false) i r
+      invalid : Bad (from s i) → Onward s (closeSingle false) i r
       invalid g =
-          let f : afterSlash (from s (i + 1)) ≡ bad (g .number) (g .rest) = ap afterSlash (sym tail) ∙ g .found in
+          let f : afterSlash (from s (i + 1)) ≡ broken (g .number) (g .rest) = ap afterSlash (sym tail) ∙ g .found in
           rw (q ∙ ap (escEnd (length s) (from s (i + 1))) f) (sym (ap (endedOf (length s)) (strings.single-slash (from s i) back g)))
 
 -- ---- triples
@@ -365,7 +365,7 @@ unfolding begins
 triple-plain true c u e = let h = ordinary-not (c .code) e in rw (h .1, h .2, h .3)
 triple-plain false c u e = let h = ordinary-not (c .code) e in rw (h .1, h .3)
 
-pub triples : (p : Bool) → Walk (inTriple p) (tripleChar p)
+pub triples : (p : Bool) → Walk (closeTriple p) (tripleChar p)
 triples p = record { pass = strings.triple-char p; plain = triple-plain p }
 
 module _ (s : List ℕ) (i : ℕ) (h : i < length s) (no-three : threeQuotes (from s i) ≡ false) where
@@ -373,62 +373,62 @@ module _ (s : List ℕ) (i : ℕ) (h : i < length s) (no-three : threeQuotes (fr
   triple-test true b d = rw (no-three, b, d refl)
   triple-test false b d = rw (no-three, b)
 
-  pub triple-slash : (p : Bool) → getD s i 0 ≡ 0x5C → Onward s (inTriple p) i (ended.Refused 10 i)
-  triple-slash p b = on-refused s (inTriple p) i 10 (omega arith) (strings.triple-slash p (from s i) (slash-byte s i ∙ ap (λ x. eqb x 0x5C) b))
+  pub triple-slash : (p : Bool) → getD s i 0 ≡ 0x5C → Onward s (closeTriple p) i (ended.Refused 10 i)
+  triple-slash p b = on-refused s (closeTriple p) i 10 (omega arith) (strings.triple-slash p (from s i) (slash-byte s i ∙ ap (λ x. eqb x 0x5C) b))
 
-  pub triple-dollar : (p : Bool) → p ≡ true → getD s i 0 ≡ 0x24 → (r : Ended) → r ≡ dollarOf (length s) (from s i) → Onward s (inTriple p) i r
+  pub triple-dollar : (p : Bool) → p ≡ true → getD s i 0 ≡ 0x24 → (r : Ended) → r ≡ dollarOf (length s) (from s i) → Onward s (closeTriple p) i r
   triple-dollar p e b r q =
       rw e
-      (on-dollar s (inTriple true) i (tripleChar true) (triples true) h b (strings.triple-dollar (from s i))
+      (on-dollar s (closeTriple true) i (tripleChar true) (triples true) h b (strings.triple-dollar (from s i))
       (λ x. triple-test true (slash-byte s i ∙ ap (λ z. eqb z 0x5C) b) (λ z. x)) r q)
 
-  pub triple-lone : (p : Bool) → p ≡ false → getD s i 0 ≡ 0x24 → Onward s (inTriple p) i (ended.At (cursorAt (i + 1)))
+  pub triple-lone : (p : Bool) → p ≡ false → getD s i 0 ≡ 0x24 → Onward s (closeTriple p) i (ended.At (cursorAt (i + 1)))
   triple-lone p e b =
-      on-next s (inTriple p) i (tripleChar p) (triples p) h (triple-test p (slash-byte s i ∙ ap (λ z. eqb z 0x5C) b) (λ z. clash (sym e ∙ z)))
+      on-next s (closeTriple p) i (tripleChar p) (triples p) h (triple-test p (slash-byte s i ∙ ap (λ z. eqb z 0x5C) b) (λ z. clash (sym e ∙ z)))
 
-  pub triple-other : (p : Bool) → (getD s i 0 ≡ 0x24 → ⊥) → (getD s i 0 ≡ 0x5C → ⊥) → Onward s (inTriple p) i (ended.At (cursorAt (i + 1)))
+  pub triple-other : (p : Bool) → (getD s i 0 ≡ 0x24 → ⊥) → (getD s i 0 ≡ 0x5C → ⊥) → Onward s (closeTriple p) i (ended.At (cursorAt (i + 1)))
   triple-other p b d =
-      on-next s (inTriple p) i (tripleChar p) (triples p) h
+      on-next s (closeTriple p) i (tripleChar p) (triples p) h
       (triple-test p (slash-byte s i ∙ ne-eqb (getD s i 0) 0x5C d) (λ z. brace-byte s i ∙ rw (ne-eqb (getD s i 0) 0x24 b)))
 
 -- ---- from the opening to the end
 
 -- The walk from behind the opening, past what was skipped at e, has come to i.
 module _ (p : Bool) (s : List ℕ) (o e i : ℕ) where
-  pub single-begun : quote (from s o) ≡ true → from s e ≡ afterRun (head isOrdinary) (from s (o + 1)) → inSingle p (from s i) ≡ inSingle p (from s e)
-      → endedOf (length s) (inSingle p (from s i)) ≡ endedOf (length s) (inSingle p (drop 1 (from s o)))
+  pub single-begun : quote (from s o) ≡ true → from s e ≡ afterRun (headIs isOrdinary) (from s (o + 1)) → closeSingle p (from s i) ≡ closeSingle p (from s e)
+      → endedOf (length s) (closeSingle p (from s i)) ≡ endedOf (length s) (closeSingle p (drop 1 (from s o)))
   single-begun q x y =
       let b = quote-in s o q in
-      ap (endedOf (length s)) (y ∙ walk-skip (inSingle p) (singleChar p) (singles p) s (o + 1) e x ∙ ap (inSingle p) (sym (past s o (b .0) (omega (arith, b .1)))))
+      ap (endedOf (length s)) (y ∙ walk-skip (closeSingle p) (singleChar p) (singles p) s (o + 1) e x ∙ ap (closeSingle p) (sym (past s o (b .0) (omega (arith, b .1)))))
 
-  pub triple-begun : threeQuotes (from s o) ≡ true → from s e ≡ afterRun (head isOrdinary) (from s (o + 3)) → inTriple p (from s i) ≡ inTriple p (from s e)
-      → endedOf (length s) (inTriple p (from s i)) ≡ endedOf (length s) (inTriple p (drop 3 (from s o)))
+  pub triple-begun : threeQuotes (from s o) ≡ true → from s e ≡ afterRun (headIs isOrdinary) (from s (o + 3)) → closeTriple p (from s i) ≡ closeTriple p (from s e)
+      → endedOf (length s) (closeTriple p (from s i)) ≡ endedOf (length s) (closeTriple p (drop 3 (from s o)))
   triple-begun q x y =
-      ap (endedOf (length s)) (y ∙ walk-skip (inTriple p) (tripleChar p) (triples p) s (o + 3) e x ∙ ap (inTriple p) (sym (three-in s o q .1)))
+      ap (endedOf (length s)) (y ∙ walk-skip (closeTriple p) (tripleChar p) (triples p) s (o + 3) e x ∙ ap (closeTriple p) (sym (three-in s o q .1)))
 
 module _ (p : Bool) (s : List ℕ) (i : ℕ) where
-  pub single-closes : i < length s → getD s i 0 ≡ 0x22 → ended.At (cursorAt (i + 1)) ≡ endedOf (length s) (inSingle p (from s i))
+  pub single-closes : i < length s → getD s i 0 ≡ 0x22 → ended.At (cursorAt (i + 1)) ≡ endedOf (length s) (closeSingle p (from s i))
   unfolding endedOf
   single-closes h b =
       let c = single-same p (from s i) ∙ strings.single-close p (from s i) (quote-byte s i ∙ eq-eqb (getD s i 0) 0x22 b) ∙ ap closed (past s i h (omega arith)) in
       sym (ap (endedOf (length s)) c ∙ ap (λ j. ended.At (cursorAt j)) (place-from s (i + 1) (omega arith)))
 
-  pub single-open : i ≤ length s → length s ≤ i → ended.Refused 7 i ≡ endedOf (length s) (inSingle p (from s i))
+  pub single-open : i ≤ length s → length s ≤ i → ended.Refused 7 i ≡ endedOf (length s) (closeSingle p (from s i))
   unfolding endedOf
   single-open h k =
-      let c = ap (inSingle p) (at-end s i k) ∙ single-same p [] ∙ strings.single-empty p in
+      let c = ap (closeSingle p) (at-end s i k) ∙ single-same p [] ∙ strings.single-empty p in
       sym (ap (endedOf (length s)) c ∙ ap (ended.Refused 7) (omega arith))
 
-  pub triple-closes : (e : Cursor) → e .at ≤ length s → from s (e .at) ≡ afterRun quote (from s i) → threeQuotes (from s i) ≡ true → ended.At e ≡ endedOf (length s) (inTriple p (from s i))
+  pub triple-closes : (e : Cursor) → e .at ≤ length s → from s (e .at) ≡ afterRun quote (from s i) → threeQuotes (from s i) ≡ true → ended.At e ≡ endedOf (length s) (closeTriple p (from s i))
   unfolding endedOf
   triple-closes e h q t =
       let c = strings.triple-close p (from s i) t ∙ ap closed (sym q) in
       sym (ap (endedOf (length s)) c ∙ ap (λ j. ended.At (cursorAt j)) (place-from s (e .at) h))
 
-  pub triple-open : i ≤ length s → length s ≤ i → ended.Refused 9 i ≡ endedOf (length s) (inTriple p (from s i))
+  pub triple-open : i ≤ length s → length s ≤ i → ended.Refused 9 i ≡ endedOf (length s) (closeTriple p (from s i))
   unfolding endedOf
   triple-open h k =
-      let c = ap (inTriple p) (at-end s i k) ∙ strings.triple-empty p in
+      let c = ap (closeTriple p) (at-end s i k) ∙ strings.triple-empty p in
       sym (ap (endedOf (length s)) c ∙ ap (ended.Refused 9) (omega arith))
 
 -- ---- the token
@@ -437,35 +437,35 @@ no-at : {A : Type 0} (e : Cursor) (j a : ℕ) → ended.Refused j a ≡ ended.At
 no-at e j a q = zero-one (cc)
 
 module _ (n : ℕ) (t : Text) where
-  pub plain-refused : (j a : ℕ) → ended.Refused j a ≡ endedOf n (inString false t) → piece.Refused j a ≡ pieceOf n (scanString n t)
+  pub plain-refused : (j a : ℕ) → ended.Refused j a ≡ endedOf n (closeString false t) → piece.Refused j a ≡ pieceOf n (scanString n t)
   unfolding endedOf pieceOf scanString
-  plain-refused j a q = go (inString false t) q
+  plain-refused j a q = go (closeString false t) q
     where
-      go : (w : Inside) → ended.Refused j a ≡ endedOf n w → piece.Refused j a ≡ pieceOf n (plainOf n t w)
+      go : (w : Closing) → ended.Refused j a ≡ endedOf n w → piece.Refused j a ≡ pieceOf n (plainOf n t w)
       go (closed r) q = no-at _ j a q
       go (wrong k x) q = cc
 
-  pub plain-ended : (e : Cursor) (k : TokenKind) (r : Text) → ended.At e ≡ endedOf n (inString false t) → inString false t ≡ closed r → k ≡ plainContent n t r
+  pub plain-ended : (e : Cursor) (k : TokenKind) (r : Text) → ended.At e ≡ endedOf n (closeString false t) → closeString false t ≡ closed r → k ≡ plainContent n t r
       → piece.Token k e ≡ pieceOf n (scanString n t)
   unfolding endedOf pieceOf scanString
   plain-ended e k r q c p =
       let x : e ≡ cursorAt (place n r) = let z : ended.At e ≡ ended.At (cursorAt (place n r)) = q ∙ ap (endedOf n) c in cc in
       sym (rw (c, p) (ap (piece.Token (plainContent n t r)) (sym x)))
 
-  pub prefixed-refused : (o : Text) (j a : ℕ) → ended.Refused j a ≡ endedOf n (inString true o) → piece.Refused j a ≡ pieceOf n (prefixedOf n t (inString true o))
+  pub prefixed-refused : (o : Text) (j a : ℕ) → ended.Refused j a ≡ endedOf n (closeString true o) → piece.Refused j a ≡ pieceOf n (prefixedOf n t (closeString true o))
   unfolding endedOf pieceOf
-  prefixed-refused o j a q = go (inString true o) q
+  prefixed-refused o j a q = go (closeString true o) q
     where
-      go : (w : Inside) → ended.Refused j a ≡ endedOf n w → piece.Refused j a ≡ pieceOf n (prefixedOf n t w)
+      go : (w : Closing) → ended.Refused j a ≡ endedOf n w → piece.Refused j a ≡ pieceOf n (prefixedOf n t w)
       go (closed r) q = no-at _ j a q
       go (wrong k x) q = cc
 
-  pub prefixed-ended : (o : Text) (e : Cursor) (i : ℕ) → place n t ≡ i → ended.At e ≡ endedOf n (inString true o)
-      → piece.Token (tk.Str i (e .at)) e ≡ pieceOf n (prefixedOf n t (inString true o))
+  pub prefixed-ended : (o : Text) (e : Cursor) (i : ℕ) → place n t ≡ i → ended.At e ≡ endedOf n (closeString true o)
+      → piece.Token (tk.Str i (e .at)) e ≡ pieceOf n (prefixedOf n t (closeString true o))
   unfolding endedOf pieceOf
-  prefixed-ended o e i p q = go (inString true o) q
+  prefixed-ended o e i p q = go (closeString true o) q
     where
-      go : (w : Inside) → ended.At e ≡ endedOf n w → piece.Token (tk.Str i (e .at)) e ≡ pieceOf n (prefixedOf n t w)
+      go : (w : Closing) → ended.At e ≡ endedOf n w → piece.Token (tk.Str i (e .at)) e ≡ pieceOf n (prefixedOf n t w)
       go (closed r) q = let x : e ≡ cursorAt (place n r) = cc in rw (x, p)
       go (wrong k x) q = no-at e k _ (sym q)
 
@@ -476,7 +476,7 @@ unfolding begins
 quote-no-comment [] e f = clash e
 quote-no-comment (c ∷ s) e f = let z = eqb-true (c .code) 34 (and-both (eqb (c .code) 34) true e .0) in clash (rw z at f)
 
-pub plain-strict : (t r : Text) → quote t ≡ true → inString false t ≡ closed r → Strict r t
+pub plain-strict : (t r : Text) → quote t ≡ true → closeString false t ≡ closed r → Strict r t
 unfolding Stands HasShape TokenShape
 plain-strict t r q c = ⊎-elim ends refused (strings.body-finds false t q)
   where
@@ -489,16 +489,16 @@ plain-strict t r q c = ⊎-elim ends refused (strings.body-finds false t q)
     refused : strings.Wrong false t → Strict r t
     refused w = absurd (let e : wrong (w .number) (w .rest) ≡ closed r = sym (w .found) ∙ c in zero-one (cc))
 
-pub plain-suffix : (t r : Text) → quote t ≡ true → inString false t ≡ closed r → Suffix r t
+pub plain-suffix : (t r : Text) → quote t ≡ true → closeString false t ≡ closed r → Suffix r t
 plain-suffix t r q c = plain-strict t r q c .0
 
-pub plain-end : (s : List ℕ) (i : ℕ) (e : Cursor) → i ≤ length s → quote (from s i) ≡ true → ended.At e ≡ endedOf (length s) (inString false (from s i))
-    → (i ≤ e .at) × (e .at ≤ length s) × (quote (from s i) ≡ true) × (inString false (from s i) ≡ closed (from s (e .at)))
+pub plain-end : (s : List ℕ) (i : ℕ) (e : Cursor) → i ≤ length s → quote (from s i) ≡ true → ended.At e ≡ endedOf (length s) (closeString false (from s i))
+    → (i ≤ e .at) × (e .at ≤ length s) × (quote (from s i) ≡ true) × (closeString false (from s i) ≡ closed (from s (e .at)))
 unfolding endedOf
-plain-end s i e h q a = go (inString false (from s i)) refl a
+plain-end s i e h q a = go (closeString false (from s i)) refl a
   where
-    go : (w : Inside) → inString false (from s i) ≡ w → ended.At e ≡ endedOf (length s) w
-        → (i ≤ e .at) × (e .at ≤ length s) × (quote (from s i) ≡ true) × (inString false (from s i) ≡ closed (from s (e .at)))
+    go : (w : Closing) → closeString false (from s i) ≡ w → ended.At e ≡ endedOf (length s) w
+        → (i ≤ e .at) × (e .at ≤ length s) × (quote (from s i) ≡ true) × (closeString false (from s i) ≡ closed (from s (e .at)))
     go (closed r) c b =
         let x = plain-suffix (from s i) r q c in
         let k = reached s i r (rw (x .tail) (reach s (length (from s i) - length r) i h)) in

@@ -10,17 +10,17 @@ use native.Mathlib.Nat.{add-zero, sub-zero}
 use native.Mathlib.Omega.{arith}
 use borrow.Author.Tests.{eqb-true, eqb-false, ne-eqb, eq-eqb, le-leb, leb-true, ltb-true, ltb-false, lt-ltb, le-ltb}
 use Rattle.chars.specs.paper.Text.{Char, Text, from, place}
-use Rattle.chars.specs.code.Text.{nextOf}
+use Rattle.chars.specs.code.Text.{charEnd}
 use Rattle.chars.proofs.Bools.{and-both}
 use Rattle.chars.proofs.text.Texts.{TextOf, text-at, text-drop}
 use Rattle.chars.proofs.text.Places.{at-char, at-end, next-on, place-from, ascii-next, wide-tail}
 use Rattle.token.specs.paper.Tests.{begins, quote}
 use Rattle.token.specs.paper.Shapes.{textOf}
-use Rattle.token.specs.computed.Answer.{closed, inString, strip, plainContent}
+use Rattle.token.specs.computed.Answer.{closed, closeString, strip, plainContent}
 use Rattle.token.specs.code.String.{lastOff, eightsOff, SameContent}
 use Rattle.token.specs.code.Ident.{LeftOf}
-use Rattle.chars.specs.code.Eights.{eightIn}
-use Rattle.chars.proofs.eights.Laws.{eight-all}
+use Rattle.chars.specs.code.Runs.{eightIn}
+use Rattle.chars.proofs.runs.Laws.{eight-all}
 use Rattle.token.specs.declared.kinds.TokenKind.the-variants as tk
 use Rattle.token.proofs.cursor.Bytes.{past}
 use Rattle.token.proofs.string.Escapes.{same-place}
@@ -76,8 +76,8 @@ module _ (s : List ℕ) (b : ℕ) (within : b ≤ length s) (d : Char) (stands :
       go false e =
           absurd (let z : _≡_ {A = ℕ} 0 (suc (length (from s b))) = ap length (sym (at-end s (d .at) (ltb-false (d .at) (length s) e)) ∙ here) in omega arith)
 
-  ends : nextOf s (d .at) ≡ b
-  ends = same-place s b (nextOf s (d .at)) within (next-on s (d .at) starts .1) (ap (drop 1) (sym (at-char s (d .at) starts) ∙ here))
+  ends : charEnd s (d .at) ≡ b
+  ends = same-place s b (charEnd s (d .at)) within (next-on s (d .at) starts .1) (ap (drop 1) (sym (at-char s (d .at) starts) ∙ here))
 
   first-byte : quote (d ∷ []) ≡ eqb (getD s (d .at) 0) 0x22
   first-byte = quote-first d [] (from s b) ∙ ap quote (sym here) ∙ quote-byte s (d .at)
@@ -331,7 +331,7 @@ left-single s start end a b h k byte n = go (ltb (a + 1) (lastOff s (a + 1) b)) 
     go false e = left-end s start end (a + 1) (lastOff s (a + 1) b) rest (ltb-false (a + 1) (lastOff s (a + 1) b) e)
 
 -- a plain string, by its first byte and its ends
-module _ (s : List ℕ) (start end : ℕ) (q : quote (from s start) ≡ true) (c : inString false (from s start) ≡ closed (from s end)) where
+module _ (s : List ℕ) (start end : ℕ) (q : quote (from s start) ≡ true) (c : closeString false (from s start) ≡ closed (from s end)) where
   pub string-tail : LeftOf (from s start) (from s end)
   string-tail = plain-strict (from s start) (from s end) q c .0 .tail
 

@@ -12,7 +12,7 @@ use native.Mathlib.Omega.{arith}
 use borrow.Author.Tests.{eqb-true, leb-true}
 use Rattle.chars.specs.paper.Quoted.{codes, oneOf}
 use Rattle.chars.specs.paper.Classes.{isIdStart, isOpSign}
-use Rattle.chars.specs.paper.Text.{Char, Text, head}
+use Rattle.chars.specs.paper.Text.{Char, Text, headIs}
 use Rattle.chars.proofs.classes.Laws.{signs, sign-is, sign-not, start-not, sign-no-start}
 use Rattle.chars.proofs.Bools.{clash, and-both, not-true}
 use Rattle.chars.proofs.Carry.{every, carry}
@@ -48,7 +48,7 @@ pub data Fact (s : Text) : Start → Type 0 where
   cr : Clear s → isAny "\r" s ≡ true → Fact s Start.cr
   sign : Clear s → isAny "()[]{},;." s ≡ true → Fact s Start.sign
   number : Clear s → digit s ≡ true → Fact s Start.number
-  word : Clear s → head isIdStart s ≡ true → Fact s Start.word
+  word : Clear s → headIs isIdStart s ≡ true → Fact s Start.word
   operator : Clear s → freeSign s ≡ true → Fact s Start.operator
   backtick : Clear s → isAny "`" s ≡ true → Fact s Start.backtick
   string : Clear s → quote s ≡ true → Fact s Start.string
@@ -64,13 +64,13 @@ unfolding startOf
 start-fact s =
     step (opensLine s) Fact.line (λ a. step (opensBlock s) Fact.block (λ b. let z : Clear s = record { line = a; block = b } in
     step (isAny " \t" s) (Fact.blank z) (λ c. step (isAny "\n" s) (Fact.lf z) (λ d. step (isAny "\r" s) (Fact.cr z) (λ e.
-    step (isAny "()[]{},;." s) (Fact.sign z) (λ f. step (digit s) (Fact.number z) (λ g. step (head isIdStart s) (Fact.word z) (λ h.
+    step (isAny "()[]{},;." s) (Fact.sign z) (λ f. step (digit s) (Fact.number z) (λ g. step (headIs isIdStart s) (Fact.word z) (λ h.
     step (opSign s) (λ i. Fact.operator z (rw (i, a, b))) (λ i. step (isAny "`" s) (Fact.backtick z) (λ j. step (quote s) (Fact.string z) (λ k.
     step (apostrophe s) (Fact.charSym z) (λ l. Fact.other (rw (c, d, e, f, g, h, i, j, k, l))))))))))))))
 
 -- ---- one class against another
 
-pub apart : (a : String) (p : ℕ → Bool) → every (λ x. not (p x)) (codes a) ≡ true → (s : Text) → head p s ≡ true → isAny a s ≡ false
+pub apart : (a : String) (p : ℕ → Bool) → every (λ x. not (p x)) (codes a) ≡ true → (s : Text) → headIs p s ≡ true → isAny a s ≡ false
 apart a p h [] e = clash e
 apart a p h (c ∷ s) e = go (oneOf a (c .code)) refl
   where
@@ -78,7 +78,7 @@ apart a p h (c ∷ s) e = go (oneOf a (c .code)) refl
     go true q = clash (sym (not-true (p (c .code)) (carry (λ x. not (p x)) (codes a) (c .code) h q)) ∙ e)
     go false q = q
 
-apart′ : (a : String) (p : ℕ → Bool) → every (λ x. not (p x)) (codes a) ≡ true → (s : Text) → isAny a s ≡ true → head p s ≡ false
+apart′ : (a : String) (p : ℕ → Bool) → every (λ x. not (p x)) (codes a) ≡ true → (s : Text) → isAny a s ≡ true → headIs p s ≡ false
 apart′ a p h [] e = refl
 apart′ a p h (c ∷ s) e = not-true (p (c .code)) (carry (λ x. not (p x)) (codes a) (c .code) h e)
 
@@ -113,7 +113,7 @@ digit-one c e =
     let q : c ≡ 48 + (c - 48) = omega arith in
     rw q (digit-code (c - 48) (omega arith))
 
-digit-no-start : (s : Text) → head isIdStart s ≡ true → digit s ≡ false
+digit-no-start : (s : Text) → headIs isIdStart s ≡ true → digit s ≡ false
 digit-no-start [] e = clash e
 digit-no-start (c ∷ s) e = go (isDigit (c .code)) refl
   where
@@ -128,7 +128,7 @@ digit-no-sign [] e = clash e
 digit-no-sign (c ∷ s) e =
     not-true (isDigit (c .code)) (carry (λ x. not (isDigit x)) (codes signs) (c .code) (unfold isDigit in refl) (sign-is (c .code) e))
 
-start-no-sign : (s : Text) → opSign s ≡ true → head isIdStart s ≡ false
+start-no-sign : (s : Text) → opSign s ≡ true → headIs isIdStart s ≡ false
 start-no-sign [] e = clash e
 start-no-sign (c ∷ s) e = sign-no-start (c .code) e
 
@@ -139,7 +139,7 @@ or-false false b e = (refl, e)
 pub clear : (s : Text) → opensComment s ≡ false → Clear s
 clear s e = let h = or-false (opensLine s) (opensBlock s) e in record { line = h .0; block = h .1 }
 
-pub clear-head : (p : ℕ → Bool) → p 47 ≡ false → (s : Text) → head p s ≡ true → Clear s
+pub clear-head : (p : ℕ → Bool) → p 47 ≡ false → (s : Text) → headIs p s ≡ true → Clear s
 unfolding begins
 clear-head p z [] e = clash e
 clear-head p z (c ∷ s) e = go (eqb (c .code) 47) refl
@@ -182,7 +182,7 @@ module _ (s : Text) (z : Clear s) where
         e,
       )
 
-  pub starts-word : head isIdStart s ≡ true → startOf s ≡ Start.word
+  pub starts-word : headIs isIdStart s ≡ true → startOf s ≡ Start.word
   unfolding startOf
   starts-word e =
       let p = isIdStart in

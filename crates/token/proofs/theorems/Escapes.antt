@@ -13,33 +13,33 @@ use Rattle.chars.proofs.Carry.{carry}
 use Rattle.token.specs.paper.Tests.{isDigit, isHexDigit, begins, backslash, digit, hexDigit}
 use Rattle.token.specs.paper.Shapes.{One, Times, UpTo, both, Escape}
 use Rattle.token.specs.paper.Refusals.{BadEscape}
-use Rattle.token.specs.computed.Answer.{good, bad, hexes, digitsUpTo, afterSlash}
+use Rattle.token.specs.computed.Answer.{unbroken, broken, hexes, digitsUpTo, afterSlash}
 
 -- n hex digits
-hexes-found : (n k : ℕ) {s r : Text} → Times hexDigit n s r → (hexes n k s ≡ good (k + n)) × (r ≡ drop n s)
+hexes-found : (n k : ℕ) {s r : Text} → Times hexDigit n s r → (hexes n k s ≡ unbroken (k + n)) × (r ≡ drop n s)
 unfolding hexes
-hexes-found zero k Times.done = (ap good (omega arith), refl)
+hexes-found zero k Times.done = (ap unbroken (omega arith), refl)
 hexes-found (suc n) k (Times.more {c} {s} e w) =
     let h = hexes-found n (suc k) w in
-    (rw e (h .0 ∙ ap good (omega arith)), h .1)
+    (rw e (h .0 ∙ ap unbroken (omega arith)), h .1)
 
 pub record Lacks (n k : ℕ) (s : Text) : Type 0 where
   pub some : ℕ
   pub rest : Text
   pub fewer : some < n
-  pub found : hexes n k s ≡ bad 13 rest
+  pub found : hexes n k s ≡ broken 13 rest
   pub times : Times hexDigit some s rest
   pub lacks : hexDigit rest ≡ false
 
-hexes-finds : (n k : ℕ) (s : Text) → ((hexes n k s ≡ good (k + n)) × Times hexDigit n s (drop n s)) ⊎ Lacks n k s
+hexes-finds : (n k : ℕ) (s : Text) → ((hexes n k s ≡ unbroken (k + n)) × Times hexDigit n s (drop n s)) ⊎ Lacks n k s
 unfolding hexes
-hexes-finds zero k s = inl (ap good (omega arith), Times.done)
+hexes-finds zero k s = inl (ap unbroken (omega arith), Times.done)
 hexes-finds (suc n) k [] = inr (record { some = 0; rest = []; fewer = omega arith; found = refl; times = Times.done; lacks = refl })
 hexes-finds (suc n) k (c ∷ s) = go (isHexDigit (c .code)) refl (hexes-finds n (suc k) s)
   where
-    go : (b : Bool) → isHexDigit (c .code) ≡ b → ((hexes n (suc k) s ≡ good (suc k + n)) × Times hexDigit n s (drop n s)) ⊎ Lacks n (suc k) s
-        → ((hexes (suc n) k (c ∷ s) ≡ good (k + suc n)) × Times hexDigit (suc n) (c ∷ s) (drop n s)) ⊎ Lacks (suc n) k (c ∷ s)
-    go true e (inl h) = inl (rw e (h .0 ∙ ap good (omega arith)), Times.more e (h .1))
+    go : (b : Bool) → isHexDigit (c .code) ≡ b → ((hexes n (suc k) s ≡ unbroken (suc k + n)) × Times hexDigit n s (drop n s)) ⊎ Lacks n (suc k) s
+        → ((hexes (suc n) k (c ∷ s) ≡ unbroken (k + suc n)) × Times hexDigit (suc n) (c ∷ s) (drop n s)) ⊎ Lacks (suc n) k (c ∷ s)
+    go true e (inl h) = inl (rw e (h .0 ∙ ap unbroken (omega arith)), Times.more e (h .1))
     go true e (inr l) =
         inr (record {
           some = suc (l .some);
@@ -97,12 +97,12 @@ u-other c e = (
 
 -- ---- the whole escape
 
-pub slash-found : (s r : Text) → Escape s r → (backslash s ≡ true) × (k : ℕ) × (afterSlash (drop 1 s) ≡ good k) × (r ≡ drop k (drop 1 s))
+pub slash-found : (s r : Text) → Escape s r → (backslash s ≡ true) × (k : ℕ) × (afterSlash (drop 1 s) ≡ unbroken k) × (r ≡ drop k (drop 1 s))
 unfolding afterSlash
 slash-found s r (Escape.simple (both (One.one e) (One.one f))) = (e, 1, rw f, refl)
 slash-found s r (Escape.digits (both (One.one e) (both (One.one {c} {s = t} f) w))) =
     let h = upto-found 2 1 w in
-    (e, 1 + h .0, rw (digit-no-simple (c .code) f, f) (ap good (h .1)), h .2 ∙ one-more (h .0) c t)
+    (e, 1 + h .0, rw (digit-no-simple (c .code) f, f) (ap unbroken (h .1)), h .2 ∙ one-more (h .0) c t)
   where
     one-more : (m : ℕ) (c : Char) (t : Text) → drop m t ≡ drop (1 + m) (c ∷ t)
     one-more m c t = let q : 1 + m ≡ suc m = omega arith in rw q
@@ -113,13 +113,13 @@ slash-found s r (Escape.hexes (both (One.one e) (both (One.one {c} {s = t} f) w)
 
 pub record Good (s : Text) : Type 0 where
   pub count : ℕ
-  pub found : afterSlash (drop 1 s) ≡ good count
+  pub found : afterSlash (drop 1 s) ≡ unbroken count
   pub escape : Escape s (drop count (drop 1 s))
 
 pub record Bad (s : Text) : Type 0 where
   pub number : ℕ
   pub rest : Text
-  pub found : afterSlash (drop 1 s) ≡ bad number rest
+  pub found : afterSlash (drop 1 s) ≡ broken number rest
   pub wrong : BadEscape s number rest
 
 pub slash-finds : (s : Text) → backslash s ≡ true → Good s ⊎ Bad s
@@ -129,7 +129,7 @@ slash-finds (b ∷ []) e = inr (record { number = 12; rest = []; found = refl; w
 slash-finds (b ∷ c ∷ t) e = go (simple (c .code)) (isDigit (c .code)) (oneOf "u" (c .code)) refl refl refl
   where
     hex : simple (c .code) ≡ false → isDigit (c .code) ≡ false → oneOf "u" (c .code) ≡ true
-        → ((hexes 4 1 t ≡ good 5) × Times hexDigit 4 t (drop 4 t)) ⊎ Lacks 4 1 t → Good (b ∷ c ∷ t) ⊎ Bad (b ∷ c ∷ t)
+        → ((hexes 4 1 t ≡ unbroken 5) × Times hexDigit 4 t (drop 4 t)) ⊎ Lacks 4 1 t → Good (b ∷ c ∷ t) ⊎ Bad (b ∷ c ∷ t)
     hex x y z (inl h) = inl (record { count = 5; found = rw (x, y, z) (h .0); escape = Escape.hexes (both (One.one e) (both (One.one z) (h .1))) })
     hex x y z (inr l) =
         inr (record {
@@ -142,7 +142,7 @@ slash-finds (b ∷ c ∷ t) e = go (simple (c .code)) (isDigit (c .code)) (oneOf
     number : simple (c .code) ≡ false → isDigit (c .code) ≡ true → (m : ℕ) × (digitsUpTo 2 1 t ≡ 1 + m) × UpTo digit 2 t (drop m t) → Good (b ∷ c ∷ t)
     number x y h =
         let q : 1 + h .0 ≡ suc (h .0) = omega arith in
-        record { count = suc (h .0); found = rw (x, y) (ap good (h .1 ∙ q)); escape = Escape.digits (both (One.one e) (both (One.one y) (h .2))) }
+        record { count = suc (h .0); found = rw (x, y) (ap unbroken (h .1 ∙ q)); escape = Escape.digits (both (One.one e) (both (One.one y) (h .2))) }
 
     go : (x y z : Bool) → simple (c .code) ≡ x → isDigit (c .code) ≡ y → oneOf "u" (c .code) ≡ z → Good (b ∷ c ∷ t) ⊎ Bad (b ∷ c ∷ t)
     go true y z ex ey ez = inl (record { count = 1; found = rw ex; escape = Escape.simple (both (One.one e) (One.one ex)) })

@@ -246,7 +246,7 @@ line-no-block e = zero-one (cc)
 pub record Knows (script : List ℕ) (gap : List Piece) (g : Gap) (s : Text) : Type 0 where
   pub newline : g .newline ≡ some isLineEnd gap
   pub comment : g .comment ≡ true ↔ AfterComment gap
-  pub cut : g .cut || g .waits && not (lineEnds s) ≡ true ↔ Cut script gap
+  pub cut : g .cut || g .pending && not (lineEnds s) ≡ true ↔ Cut script gap
 
 iff-of : {P : Type 0} {a b : Bool} → a ≡ b → a ≡ true ↔ P → b ≡ true ↔ P
 iff-of e h = ((λ q. h .0 (e ∙ q)), λ p. sym e ∙ h .1 p)
@@ -263,7 +263,7 @@ yes-end false false e h = refl
 
 -- the cut, where no line end follows
 pub cut-here : {script : List ℕ} {gap : List Piece} {g : Gap} {s : Text} → Knows script gap g s → lineEnds s ≡ false → cutOf g ≡ true ↔ Cut script gap
-cut-here {g} {s} K h = iff-of (no-end (g .cut) (g .waits) (lineEnds s) h) (K .cut)
+cut-here {g} {s} K h = iff-of (no-end (g .cut) (g .pending) (lineEnds s) h) (K .cut)
 
 pub knows-fresh : (script : List ℕ) (s : Text) → Knows script [] fresh s
 knows-fresh script s =
@@ -302,7 +302,7 @@ module _ (script : List ℕ) (gap : List Piece) (g : Gap) (s : Text) (K : Knows 
       record {
         newline = keep-newline y;
         comment = ((λ e. m .0 (K .comment .0 e)), λ h. K .comment .1 (m .1 h));
-        cut = iff-of (ap (λ x. g .cut || g .waits && not x) h) (same-cut script gap p (K .cut) (λ e. clash (sym z ∙ ap isComment e)));
+        cut = iff-of (ap (λ x. g .cut || g .pending && not x) h) (same-cut script gap p (K .cut) (λ e. clash (sym z ∙ ap isComment e)));
       }
 
   pub knows-end : p .kind ≡ Kind.lineEnd → lineEnds s ≡ true → Knows script (gap ++ (p ∷ [])) (push GapKind.lineEnd g) r
@@ -311,7 +311,7 @@ module _ (script : List ℕ) (gap : List Piece) (g : Gap) (s : Text) (K : Knows 
       record {
         newline = sym (some-snoc isLineEnd gap p ∙ ap (λ x. some isLineEnd gap || x) y ∙ or-true (some isLineEnd gap));
         comment = ((λ e. clash e), λ h. absurd (mark-end gap p y h));
-        cut = iff-of (yes-end (g .cut) (g .waits) (lineEnds s) h) (same-cut script gap p (K .cut) (λ e. clash (sym (ap isLineEnd e) ∙ y)));
+        cut = iff-of (yes-end (g .cut) (g .pending) (lineEnds s) h) (same-cut script gap p (K .cut) (λ e. clash (sym (ap isLineEnd e) ∙ y)));
       }
 
   pub knows-line : p .kind ≡ Kind.lineComment → lineEnds s ≡ false → Knows script (gap ++ (p ∷ [])) (push GapKind.lineComment g) r

@@ -8,7 +8,7 @@ use mathlib.Core.Option.{Option, none, some}
 use lib.ListN.{length, drop}
 use native.Mathlib.Omega.{arith}
 use Rattle.chars.specs.paper.Quoted.{oneOf}
-use Rattle.chars.specs.paper.Text.{Char, Text, head, idChar}
+use Rattle.chars.specs.paper.Text.{Char, Text, headIs, idChar}
 use Rattle.chars.specs.computed.Runs.{afterRun}
 use Rattle.chars.specs.paper.Classes.{isIdStart, isIdChar}
 use Rattle.chars.proofs.Bools.{clash}
@@ -146,14 +146,14 @@ pub rest-suffix : (s r : Text) → Rest s r → Suffix r s
 rest-suffix s r (both {m} k t) = suffix-trans (tail-suffix m r t) (chunks-suffix k)
 
 -- the shape of an identifier, taken apart
-pub start-rest : (s r : Text) → (One (head isIdStart) then Chunks then Tail) s r → (head isIdStart s ≡ true) × Rest (drop 1 s) r
+pub start-rest : (s r : Text) → (One (headIs isIdStart) then Chunks then Tail) s r → (headIs isIdStart s ≡ true) × Rest (drop 1 s) r
 start-rest s r (both (One.one e) w) = (e, w)
 
-pub ident-finds : (s : Text) → head isIdStart s ≡ true → Ident s (afterIdent false (drop 1 s))
+pub ident-finds : (s : Text) → headIs isIdStart s ≡ true → Ident s (afterIdent false (drop 1 s))
 ident-finds [] e = clash e
 ident-finds (c ∷ s) e = (both (One.one e) (finds s .0), λ q h. rest-least s q (start-rest (c ∷ s) q h .1))
 
-pub ident-found : (s r : Text) → Ident s r → (head isIdStart s ≡ true) × (r ≡ afterIdent false (drop 1 s))
+pub ident-found : (s r : Text) → Ident s r → (headIs isIdStart s ≡ true) × (r ≡ afterIdent false (drop 1 s))
 ident-found s r h =
     let a = start-rest s r (h .0) in
     let f = ident-finds s (a .0) in
@@ -169,7 +169,7 @@ unfolding scanIdent codesTo
 scan-ident n s = refl
 
 -- where no quote follows, what it finds stands
-pub ident-stands : (n : ℕ) (s : Text) → head isIdStart s ≡ true
+pub ident-stands : (n : ℕ) (s : Text) → headIs isIdStart s ≡ true
     → (quote (afterIdent false (drop 1 s)) ≡ false) ⊎ ((k : Kw) × (wordOf (codesOf s (afterIdent false (drop 1 s))) ≡ some k))
     → Stood n s (scanIdent n s)
 unfolding TokenShape orPrefixed
@@ -203,14 +203,14 @@ ident-stands n s e o = go (wordOf (codesOf s r)) refl o
         }
 
 -- what stands is what it finds
-pub plain-ident-found : (n : ℕ) (s r : Text) → TokenShape TokenType.ident s r → (head isIdStart s ≡ true) × (scanIdent n s ≡ Found.token tk.Ident r)
+pub plain-ident-found : (n : ℕ) (s r : Text) → TokenShape TokenType.ident s r → (headIs isIdStart s ≡ true) × (scanIdent n s ≡ Found.token tk.Ident r)
 unfolding TokenShape orPrefixed
 plain-ident-found n s r h =
     let q = ident-found s r (h .0 .0) in
     (q .0, scan-ident n s ∙ rw (← q .1) (rw (h .0 .1, h .1)))
 
 pub word-key-found : (n : ℕ) (s r : Text) (k : Kw) → Ident s r → wordOf (codesOf s r) ≡ some k
-    → (head isIdStart s ≡ true) × (scanIdent n s ≡ Found.token (tk.Kw k) r)
+    → (headIs isIdStart s ≡ true) × (scanIdent n s ≡ Found.token (tk.Kw k) r)
 word-key-found n s r k h e =
     let q = ident-found s r h in
     (q .0, scan-ident n s ∙ rw (← q .1) (rw e))

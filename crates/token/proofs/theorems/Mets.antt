@@ -10,7 +10,7 @@ use native.Mathlib.Omega.{arith}
 use borrow.Author.Tests.{eqb-true, leb-true, ltb-true, ltb-false}
 use Rattle.chars.specs.paper.Quoted.{oneOf}
 use Rattle.chars.specs.paper.Classes.{isIdStart, isOpSign}
-use Rattle.chars.specs.paper.Text.{Char, Text, head}
+use Rattle.chars.specs.paper.Text.{Char, Text, headIs}
 use Rattle.chars.specs.computed.Runs.{afterRun}
 use Rattle.chars.proofs.classes.Laws.{slash-sign, slash-no-start}
 use Rattle.chars.proofs.text.Texts.{Suffix, suffix-refl, suffix-cons, suffix-trans, suffix-same}
@@ -19,7 +19,7 @@ use Rattle.token.specs.paper.Tests.{isDigit, isHexDigit, isAny, begins, 
 use Rattle.token.specs.paper.Shapes.{One, Run, Times, both, Single, singleChar, tripleChar, Block, Name}
 use Rattle.token.specs.paper.Refusals.{starts, BadEscape, Opens, InSingle, InTriple, WithinSingle, Met, isEscapeNumber, isSingleNumber, First}
 use Rattle.token.specs.computed.Flags.{GapKind}
-use Rattle.token.specs.computed.Answer.{Found, Start, startOf, scan, scanReturn, scanBlock, scanString, plainOf, escapedOf, scanCharSym, afterIdent, bad, hexes, afterSlash, wrong, inPlain, inPrefixed, inTriple, inString}
+use Rattle.token.specs.computed.Answer.{Found, Start, startOf, scan, scanReturn, scanBlock, scanString, plainOf, escapedOf, scanCharSym, afterIdent, broken, hexes, afterSlash, wrong, closePlain, closePrefixed, closeTriple, closeString}
 use Rattle.token.specs.declared.kinds.TokenKind.the-variants as tk
 use Rattle.token.proofs.theorems.Runs.{run1-finds, run-suffix}
 use Rattle.token.proofs.theorems.Numbers.{one-drop, one-found, text-found, six-found}
@@ -37,7 +37,7 @@ clear-digit : (s : Text) → digit s ≡ true → Clear s
 unfolding isDigit
 clear-digit s e = clear-head isDigit refl s e
 
-clear-word : (s : Text) → head isIdStart s ≡ true → Clear s
+clear-word : (s : Text) → headIs isIdStart s ≡ true → Clear s
 clear-word s e = clear-head isIdStart slash-no-start s e
 
 clear-quote : (s : Text) → quote s ≡ true → Clear s
@@ -45,17 +45,17 @@ clear-quote s e = clear-head (oneOf "\"") refl s (sym (quote-any s) ∙ e)
 
 -- ---- 12 to 14
 
-hexes-lack : (m k : ℕ) {n : ℕ} {s q : Text} → Times hexDigit n s q → n < m → hexDigit q ≡ false → hexes m k s ≡ bad 13 q
+hexes-lack : (m k : ℕ) {n : ℕ} {s q : Text} → Times hexDigit n s q → n < m → hexDigit q ≡ false → hexes m k s ≡ broken 13 q
 unfolding hexes
 hexes-lack zero k w l e = absurd (omega arith)
 hexes-lack (suc m) k (Times.done {s}) l e = go s e
   where
-    go : (s : Text) → hexDigit s ≡ false → hexes (suc m) k s ≡ bad 13 s
+    go : (s : Text) → hexDigit s ≡ false → hexes (suc m) k s ≡ broken 13 s
     go [] e = refl
     go (c ∷ s) e = rw e
 hexes-lack (suc m) k (Times.more {n} {c} {s} f w) l e = rw f (hexes-lack m (suc k) w (omega arith) e)
 
-bad-found : (b q : Text) (j : ℕ) → BadEscape b j q → (backslash b ≡ true) × (afterSlash (drop 1 b) ≡ bad j q)
+bad-found : (b q : Text) (j : ℕ) → BadEscape b j q → (backslash b ≡ true) × (afterSlash (drop 1 b) ≡ broken j q)
 unfolding afterSlash
 bad-found b q j (BadEscape.e12 o) = let h = one-found backslash b [] o in (h .0, rw (← h .1))
 bad-found b q j (BadEscape.e13 n l (both (One.one e) (both (One.one {c} f) w)) z) =
@@ -69,11 +69,11 @@ bad-found b q j (BadEscape.e14 {c} {r} o z) =
 
 -- ---- strings
 
-wrong-scan : (n : ℕ) (p : Bool) (s o q : Text) (j : ℕ) → Opens p s o → inString p o ≡ wrong j q → scan n s ≡ Found.stuck j q
+wrong-scan : (n : ℕ) (p : Bool) (s o q : Text) (j : ℕ) → Opens p s o → closeString p o ≡ wrong j q → scan n s ≡ Found.stuck j q
 unfolding scanString
 wrong-scan n false s o q j (h, e) w =
     let e′ : quote s ≡ true = rw h e in
-    let w′ : inString false s ≡ wrong j q = rw h w in
+    let w′ : closeString false s ≡ wrong j q = rw h w in
     scan-by n s Start.string (starts-string s (clear-quote s e′) e′) ∙ ap (plainOf n s) w′
 wrong-scan n true s o q j (inl h, e) w =
     let k = ident-found s o (h .0) in
@@ -160,67 +160,67 @@ bad-right (BadEscape.e14 o z) = one-strict o .1
 
 -- what is reached inside a string is content, or past the refusal that is found
 plain-past : {s m : Text} → WithinSingle false s m → stops m ≡ true
-    → Single false s m ⊎ ((i : ℕ) × (q : Text) × (inPlain 0 s ≡ wrong i q) × Past i q m)
+    → Single false s m ⊎ ((i : ℕ) × (q : Text) × (closePlain 0 s ≡ wrong i q) × Past i q m)
 plain-past WithinSingle.here h = inl Single.done
 plain-past (WithinSingle.char {c} {s} {r = m} e b w) h = go (isAny "\n" (c ∷ s)) refl (plain-past w h)
   where
-    go : (x : Bool) → isAny "\n" (c ∷ s) ≡ x → Single false s m ⊎ ((i : ℕ) × (q : Text) × (inPlain 0 s ≡ wrong i q) × Past i q m)
-        → Single false (c ∷ s) m ⊎ ((i : ℕ) × (q : Text) × (inPlain 0 (c ∷ s) ≡ wrong i q) × Past i q m)
+    go : (x : Bool) → isAny "\n" (c ∷ s) ≡ x → Single false s m ⊎ ((i : ℕ) × (q : Text) × (closePlain 0 s ≡ wrong i q) × Past i q m)
+        → Single false (c ∷ s) m ⊎ ((i : ℕ) × (q : Text) × (closePlain 0 (c ∷ s) ≡ wrong i q) × Past i q m)
     go true x k = let l = within-suffix w .within in inr (8, c ∷ s, single-newline false (c ∷ s) x, Past.right (omega arith))
     go false x k =
         let f : singleChar false (c ∷ s) ≡ true = rw (e, x) b in
         on f k
       where
-        on : singleChar false (c ∷ s) ≡ true → Single false s m ⊎ ((i : ℕ) × (q : Text) × (inPlain 0 s ≡ wrong i q) × Past i q m)
-            → Single false (c ∷ s) m ⊎ ((i : ℕ) × (q : Text) × (inPlain 0 (c ∷ s) ≡ wrong i q) × Past i q m)
+        on : singleChar false (c ∷ s) ≡ true → Single false s m ⊎ ((i : ℕ) × (q : Text) × (closePlain 0 s ≡ wrong i q) × Past i q m)
+            → Single false (c ∷ s) m ⊎ ((i : ℕ) × (q : Text) × (closePlain 0 (c ∷ s) ≡ wrong i q) × Past i q m)
         on f (inl v) = inl (Single.char f v)
         on f (inr (i, q, g, d)) = inr (i, q, single-char false c s f ∙ g, d)
 plain-past (WithinSingle.escape {s} {m = k} {r = m} e w) h = go (plain-past w h)
   where
-    go : Single false k m ⊎ ((i : ℕ) × (q : Text) × (inPlain 0 k ≡ wrong i q) × Past i q m)
-        → Single false s m ⊎ ((i : ℕ) × (q : Text) × (inPlain 0 s ≡ wrong i q) × Past i q m)
+    go : Single false k m ⊎ ((i : ℕ) × (q : Text) × (closePlain 0 k ≡ wrong i q) × Past i q m)
+        → Single false s m ⊎ ((i : ℕ) × (q : Text) × (closePlain 0 s ≡ wrong i q) × Past i q m)
     go (inl v) = inl (Single.escape e v)
     go (inr (i, q, g, d)) = inr (i, q, single-pass false (Single.escape e Single.done) ∙ g, d)
 plain-past (WithinSingle.slash {c} {s} {r = m} b n w) h = go (slash-finds (c ∷ s) b)
   where
-    go : Good (c ∷ s) ⊎ Bad (c ∷ s) → Single false (c ∷ s) m ⊎ ((i : ℕ) × (q : Text) × (inPlain 0 (c ∷ s) ≡ wrong i q) × Past i q m)
+    go : Good (c ∷ s) ⊎ Bad (c ∷ s) → Single false (c ∷ s) m ⊎ ((i : ℕ) × (q : Text) × (closePlain 0 (c ∷ s) ≡ wrong i q) × Past i q m)
     go (inl g) = absurd (n _ (g .escape))
     go (inr d) = inr (d .number, d .rest, single-slash (c ∷ s) b d, bad-past (d .wrong) w h)
 
-prefixed-past : {s m : Text} → WithinSingle true s m → Single true s m ⊎ ((i : ℕ) × (q : Text) × (inPrefixed s ≡ wrong i q) × (length m < length q))
+prefixed-past : {s m : Text} → WithinSingle true s m → Single true s m ⊎ ((i : ℕ) × (q : Text) × (closePrefixed s ≡ wrong i q) × (length m < length q))
 prefixed-past WithinSingle.here = inl Single.done
 prefixed-past (WithinSingle.char {c} {s} {r = m} e b w) = go (isAny "\n" (c ∷ s)) (dollarBrace (c ∷ s)) refl refl (prefixed-past w)
   where
     go : (x y : Bool) → isAny "\n" (c ∷ s) ≡ x → dollarBrace (c ∷ s) ≡ y
-        → Single true s m ⊎ ((i : ℕ) × (q : Text) × (inPrefixed s ≡ wrong i q) × (length m < length q))
-        → Single true (c ∷ s) m ⊎ ((i : ℕ) × (q : Text) × (inPrefixed (c ∷ s) ≡ wrong i q) × (length m < length q))
+        → Single true s m ⊎ ((i : ℕ) × (q : Text) × (closePrefixed s ≡ wrong i q) × (length m < length q))
+        → Single true (c ∷ s) m ⊎ ((i : ℕ) × (q : Text) × (closePrefixed (c ∷ s) ≡ wrong i q) × (length m < length q))
     go true y ex ey k = let l = within-suffix w .within in inr (8, c ∷ s, single-newline true (c ∷ s) ex, omega arith)
     go false true ex ey k = let l = within-suffix w .within in inr (11, c ∷ s, single-dollar (c ∷ s) ey, omega arith)
     go false false ex ey (inl v) = inl (Single.char {p = true} {c = c} {s = s} (rw (e, ex, ey)) v)
     go false false ex ey (inr (i, q, g, d)) = inr (i, q, single-char true c s (rw (e, ex, ey)) ∙ g, d)
 
 triple-past : (p : Bool) {s m : Text} → Run (λ t. not (threeQuotes t)) s m
-    → Run (tripleChar p) s m ⊎ ((i : ℕ) × (q : Text) × (inTriple p s ≡ wrong i q) × (length m < length q))
+    → Run (tripleChar p) s m ⊎ ((i : ℕ) × (q : Text) × (closeTriple p s ≡ wrong i q) × (length m < length q))
 triple-past p Run.stop = inl Run.stop
 triple-past p (Run.next {c} {s} {r = m} e w) = go p (backslash (c ∷ s)) (dollarBrace (c ∷ s)) refl refl (triple-past p w)
   where
     go : (p x y : Bool) → backslash (c ∷ s) ≡ x → dollarBrace (c ∷ s) ≡ y
-        → Run (tripleChar p) s m ⊎ ((i : ℕ) × (q : Text) × (inTriple p s ≡ wrong i q) × (length m < length q))
-        → Run (tripleChar p) (c ∷ s) m ⊎ ((i : ℕ) × (q : Text) × (inTriple p (c ∷ s) ≡ wrong i q) × (length m < length q))
+        → Run (tripleChar p) s m ⊎ ((i : ℕ) × (q : Text) × (closeTriple p s ≡ wrong i q) × (length m < length q))
+        → Run (tripleChar p) (c ∷ s) m ⊎ ((i : ℕ) × (q : Text) × (closeTriple p (c ∷ s) ≡ wrong i q) × (length m < length q))
     go p true y ex ey k = let l = run-suffix (λ t. not (threeQuotes t)) w .within in inr (10, c ∷ s, triple-slash p (c ∷ s) ex, omega arith)
     go true false true ex ey k = let l = run-suffix (λ t. not (threeQuotes t)) w .within in inr (11, c ∷ s, triple-dollar (c ∷ s) ey, omega arith)
     go true false false ex ey k = let f : tripleChar true (c ∷ s) ≡ true = rw (ex, ey) (rw e) in on true f k
       where
         on : (p : Bool) → tripleChar p (c ∷ s) ≡ true
-            → Run (tripleChar p) s m ⊎ ((i : ℕ) × (q : Text) × (inTriple p s ≡ wrong i q) × (length m < length q))
-            → Run (tripleChar p) (c ∷ s) m ⊎ ((i : ℕ) × (q : Text) × (inTriple p (c ∷ s) ≡ wrong i q) × (length m < length q))
+            → Run (tripleChar p) s m ⊎ ((i : ℕ) × (q : Text) × (closeTriple p s ≡ wrong i q) × (length m < length q))
+            → Run (tripleChar p) (c ∷ s) m ⊎ ((i : ℕ) × (q : Text) × (closeTriple p (c ∷ s) ≡ wrong i q) × (length m < length q))
         on p f (inl v) = inl (Run.next f v)
         on p f (inr (i, q, g, d)) = inr (i, q, triple-char p c s f ∙ g, d)
     go false false y ex ey k = let f : tripleChar false (c ∷ s) ≡ true = rw ex (rw e) in on f k
       where
         on : tripleChar false (c ∷ s) ≡ true
-            → Run (tripleChar false) s m ⊎ ((i : ℕ) × (q : Text) × (inTriple false s ≡ wrong i q) × (length m < length q))
-            → Run (tripleChar false) (c ∷ s) m ⊎ ((i : ℕ) × (q : Text) × (inTriple false (c ∷ s) ≡ wrong i q) × (length m < length q))
+            → Run (tripleChar false) s m ⊎ ((i : ℕ) × (q : Text) × (closeTriple false s ≡ wrong i q) × (length m < length q))
+            → Run (tripleChar false) (c ∷ s) m ⊎ ((i : ℕ) × (q : Text) × (closeTriple false (c ∷ s) ≡ wrong i q) × (length m < length q))
         on f (inl v) = inl (Run.next f v)
         on f (inr (i, q, g, d)) = inr (i, q, triple-char false c s f ∙ g, d)
 
@@ -241,12 +241,12 @@ exactly : {f : Found} {j : ℕ} {u : Text} → f ≡ Found.stuck j u → Meets f
 exactly {j} {u} e = record { number = j; rest = u; found = e; after = After.same refl refl }
 
 -- a refusal j of a plain single string, that is met at m or, of an escape, to the right of m
-plain-meets : (n : ℕ) (s m u : Text) (j : ℕ) → InSingle false s m → stops m ≡ true → inPlain 0 m ≡ wrong j u
+plain-meets : (n : ℕ) (s m u : Text) (j : ℕ) → InSingle false s m → stops m ≡ true → closePlain 0 m ≡ wrong j u
     → ((m ≡ u) × (isSingleNumber j ≡ true)) ⊎ (length u < length m)
     → Meets (scan n s) j u
 plain-meets n s m u j (o, h, e, both (One.one {s = t} q) w) x f d = go (plain-past w x) d
   where
-    go : Single false t m ⊎ ((i : ℕ) × (r : Text) × (inPlain 0 t ≡ wrong i r) × Past i r m)
+    go : Single false t m ⊎ ((i : ℕ) × (r : Text) × (closePlain 0 t ≡ wrong i r) × Past i r m)
         → ((m ≡ u) × (isSingleNumber j ≡ true)) ⊎ (length u < length m) → Meets (scan n s) j u
     go (inl v) d = exactly (wrong-scan n false s o u j h (in-single false o e ∙ single-pass false v ∙ f))
     go (inr (i, r, g, Past.right l)) (inl (k, z)) =
@@ -268,20 +268,20 @@ plain-meets n s m u j (o, h, e, both (One.one {s = t} q) w) x f d = go (plain-pa
           after = After.right (let y = ap length l in omega arith);
         }
 
-prefixed-meets : (n : ℕ) (s m : Text) (j : ℕ) → InSingle true s m → inPrefixed m ≡ wrong j m → Meets (scan n s) j m
+prefixed-meets : (n : ℕ) (s m : Text) (j : ℕ) → InSingle true s m → closePrefixed m ≡ wrong j m → Meets (scan n s) j m
 prefixed-meets n s m j (o, h, e, both (One.one {s = t} q) w) f = go (prefixed-past w)
   where
-    go : Single true t m ⊎ ((i : ℕ) × (r : Text) × (inPrefixed t ≡ wrong i r) × (length m < length r)) → Meets (scan n s) j m
+    go : Single true t m ⊎ ((i : ℕ) × (r : Text) × (closePrefixed t ≡ wrong i r) × (length m < length r)) → Meets (scan n s) j m
     go (inl v) = exactly (wrong-scan n true s o m j h (in-single true o e ∙ single-pass true v ∙ f))
     go (inr (i, r, g, l)) = record { number = i; rest = r; found = wrong-scan n true s o r i h (in-single true o e ∙ g); after = After.right l }
 
-triple-meets : (n : ℕ) (p : Bool) (s m : Text) (j : ℕ) → InTriple p s m → inTriple p m ≡ wrong j m → Meets (scan n s) j m
+triple-meets : (n : ℕ) (p : Bool) (s m : Text) (j : ℕ) → InTriple p s m → closeTriple p m ≡ wrong j m → Meets (scan n s) j m
 triple-meets n p s m j (o, h, e, both {m = t} a w) f = go (triple-past p w)
   where
-    opens : inString p o ≡ inTriple p t
+    opens : closeString p o ≡ closeTriple p t
     opens = in-triple p o e ∙ rw (← times-three o t a .1)
 
-    go : Run (tripleChar p) t m ⊎ ((i : ℕ) × (r : Text) × (inTriple p t ≡ wrong i r) × (length m < length r)) → Meets (scan n s) j m
+    go : Run (tripleChar p) t m ⊎ ((i : ℕ) × (r : Text) × (closeTriple p t ≡ wrong i r) × (length m < length r)) → Meets (scan n s) j m
     go (inl v) = exactly (wrong-scan n p s o m j h (opens ∙ triple-pass p v ∙ f))
     go (inr (i, r, g, l)) = record { number = i; rest = r; found = wrong-scan n p s o r i h (opens ∙ g); after = After.right l }
 
@@ -294,7 +294,7 @@ other-scan : (n : ℕ) (c : Char) (r : Text) → starts (c ∷ r) ≡ false → 
 unfolding startOf
 other-scan n c r e =
     let o = ten (isAny " \t" (c ∷ r)) (isAny "\n" (c ∷ r)) (isAny "\r" (c ∷ r)) (isAny "()[]{},;." (c ∷ r)) (digit (c ∷ r))
-    (head isIdStart (c ∷ r)) (opSign (c ∷ r)) (isAny "`" (c ∷ r)) (quote (c ∷ r)) (apostrophe (c ∷ r)) e in
+    (headIs isIdStart (c ∷ r)) (opSign (c ∷ r)) (isAny "`" (c ∷ r)) (quote (c ∷ r)) (apostrophe (c ∷ r)) e in
     let z = no-comment (c ∷ r) (o .6) in
     scan-by n (c ∷ r) Start.other (rw (z .line, z .block, o .0, o .1, o .2, o .3, o .4, o .5, o .6, o .7, o .8, o .9))
   where
@@ -361,15 +361,15 @@ met-meets n s j q (Met.m15 (both (One.one {c = t} {s = m} e) w) f) = exactly
     (let h = slash-found m q w in
     tick-scan n s e ∙ scan-tick t m ∙ rw (h .0, h .2) (rw (← h .3) (rw f)))
 met-meets n s j q (Met.m16 (One.one {c = t} e) k nc ns) =
-    exactly (tick-scan n s e ∙ scan-tick t q ∙ go (charAhead q) (head isIdStart q) (freeSign q) (semiAhead q) refl refl refl refl)
+    exactly (tick-scan n s e ∙ scan-tick t q ∙ go (charAhead q) (headIs isIdStart q) (freeSign q) (semiAhead q) refl refl refl refl)
   where
     symbol : (r : Text) → Name q r → ⊥
     symbol r h = ns r (both (One.one e) h, nc, k)
 
-    go : (w x y z : Bool) → charAhead q ≡ w → head isIdStart q ≡ x → freeSign q ≡ y → semiAhead q ≡ z
+    go : (w x y z : Bool) → charAhead q ≡ w → headIs isIdStart q ≡ x → freeSign q ≡ y → semiAhead q ≡ z
         → cond (backslash q) (escapedOf (drop 1 q) (afterSlash (drop 1 q)))
         (cond (charAhead q) (Found.token tk.CharSym (drop 2 q))
-        (cond (head isIdStart q) (Found.token tk.CharSym (afterIdent false (drop 1 q)))
+        (cond (headIs isIdStart q) (Found.token tk.CharSym (afterIdent false (drop 1 q)))
         (cond (freeSign q) (Found.token tk.CharSym (afterRun freeSign q))
         (cond (semiAhead q) (Found.token tk.CharSym (drop 1 q)) (Found.stuck 16 q)))))
         ≡ Found.stuck 16 q

@@ -8,7 +8,7 @@ use lib.ListN.{drop}
 use lib.Dec.{eqb, leb}
 use borrow.Author.Tests.{leb-true, leb-false, le-leb, lt-leb, eqb-true}
 use Rattle.chars.specs.paper.Quoted.{codes}
-use Rattle.chars.specs.paper.Text.{Text, head}
+use Rattle.chars.specs.paper.Text.{Text, headIs}
 use Rattle.chars.specs.computed.Runs.{afterRun}
 use Rattle.chars.proofs.Bools.{clash, and-both}
 use Rattle.token.specs.paper.Tests.{isDigit, isHexDigit, begins, startsWith, digit, hexDigit, digitValue, hexAhead, longSuffix}
@@ -23,14 +23,14 @@ use Rattle.token.proofs.theorems.Runs.{run1-finds, run1-found}
 use Rattle.token.proofs.theorems.Operators.{Stood}
 
 -- reading digits gives their value and what follows their run
-pub read-is : (p : ℕ → Bool) (b v : ℕ) (s : Text) → readDigits p b v s ≡ read (valueFrom p b v s) (afterRun (head p) s)
+pub read-is : (p : ℕ → Bool) (b v : ℕ) (s : Text) → readDigits p b v s ≡ read (valueFrom p b v s) (afterRun (headIs p) s)
 unfolding readDigits valueFrom afterRun
 read-is p b v [] = refl
 read-is p b v (c ∷ s) = go (p (c .code)) refl (read-is p b (v * b + digitValue (c .code)) s)
   where
     go : (t : Bool) → p (c .code) ≡ t
-        → readDigits p b (v * b + digitValue (c .code)) s ≡ read (valueFrom p b (v * b + digitValue (c .code)) s) (afterRun (head p) s)
-        → readDigits p b v (c ∷ s) ≡ read (valueFrom p b v (c ∷ s)) (afterRun (head p) (c ∷ s))
+        → readDigits p b (v * b + digitValue (c .code)) s ≡ read (valueFrom p b (v * b + digitValue (c .code)) s) (afterRun (headIs p) s)
+        → readDigits p b v (c ∷ s) ≡ read (valueFrom p b v (c ∷ s)) (afterRun (headIs p) (c ∷ s))
     go true e h = rw e h
     go false e h = rw e
 

@@ -10,7 +10,7 @@ use lib.Dec.{eqb}
 use native.Mathlib.Omega.{arith}
 use borrow.Author.Tests.{eqb-true}
 use Rattle.chars.specs.paper.Classes.{isIdStart}
-use Rattle.chars.specs.paper.Text.{Char, Text, place, head}
+use Rattle.chars.specs.paper.Text.{Char, Text, place, headIs}
 use Rattle.chars.specs.computed.Runs.{afterRun}
 use Rattle.chars.proofs.classes.Laws.{no-start}
 use Rattle.chars.proofs.Bools.{clash, not-true}
@@ -19,7 +19,7 @@ use Rattle.token.specs.paper.Kinds.{TokenType, wordOf}
 use Rattle.token.specs.paper.Shapes.{One, Run, Run1, Times, both, Ident, PlainIdent, Backtick, Body, Prefix, codesOf, TokenShape}
 use Rattle.token.specs.paper.Reading.{Valued}
 use Rattle.token.specs.paper.Refusals.{Met}
-use Rattle.token.specs.computed.Answer.{Found, afterIdent, inString, prefixedOf, orPrefixed, wordOr, scanIdent, backtickOr, scanBacktick}
+use Rattle.token.specs.computed.Answer.{Found, afterIdent, closeString, prefixedOf, orPrefixed, wordOr, scanIdent, backtickOr, scanBacktick}
 use Rattle.token.specs.declared.kinds.Kw.{Kw}
 use Rattle.token.specs.declared.kinds.TokenKind.{TokenKind}
 use Rattle.token.specs.declared.kinds.TokenKind.the-variants as tk
@@ -30,7 +30,7 @@ use Rattle.token.proofs.theorems.Idents.{ident-finds, ident-found, iden
 use Rattle.token.proofs.theorems.Strings.{body-found, body-finds, Closed, Wrong}
 
 -- neither begins with a quote
-pub start-no-quote : (s : Text) → head isIdStart s ≡ true → quote s ≡ false
+pub start-no-quote : (s : Text) → headIs isIdStart s ≡ true → quote s ≡ false
 unfolding begins
 start-no-quote [] e = refl
 start-no-quote (c ∷ s) e = go (eqb (c .code) 34) refl
@@ -49,7 +49,7 @@ tick-no-quote (c ∷ s) e = go (eqb (c .code) 34) refl
     go false q = rw q
 
 -- where a quote follows the prefix
-pub or-string : (n : ℕ) (k : TokenKind) (s r : Text) → quote r ≡ true → orPrefixed n k s r ≡ prefixedOf n s (inString true r)
+pub or-string : (n : ℕ) (k : TokenKind) (s r : Text) → quote r ≡ true → orPrefixed n k s r ≡ prefixedOf n s (closeString true r)
 unfolding orPrefixed
 or-string n k s r e = rw e
 
@@ -79,7 +79,7 @@ prefixed-found n k s m r b = let h = body-found true m r b in or-string n k s m 
 
 -- ---- identifiers
 
-pub word-stands : (n : ℕ) (s : Text) → head isIdStart s ≡ true → Stood n s (scanIdent n s) ⊎ Fell s (scanIdent n s)
+pub word-stands : (n : ℕ) (s : Text) → headIs isIdStart s ≡ true → Stood n s (scanIdent n s) ⊎ Fell s (scanIdent n s)
 word-stands n s e = go (wordOf (codesOf s r)) (quote r) refl refl
   where
     r : Text
@@ -95,7 +95,7 @@ word-stands n s e = go (wordOf (codesOf s r)) (quote r) refl refl
         moved (scan-ident n s ∙ ap (wordOr n s r) ew) (prefixed-stands n tk.Ident s r (inl (ident-finds s e, ew)) (start-no-quote s e) eb)
 
 pub ident-string-found : (n : ℕ) (s m r : Text) → PlainIdent s m → Body true m r
-    → (head isIdStart s ≡ true) × (scanIdent n s ≡ Found.token (tk.Str (place n s) (place n r)) r)
+    → (headIs isIdStart s ≡ true) × (scanIdent n s ≡ Found.token (tk.Str (place n s) (place n r)) r)
 ident-string-found n s m r h b =
     let q = ident-found s m (h .0) in
     (q .0, scan-ident n s ∙ rw (← q .1) (rw (h .1) (prefixed-found n tk.Ident s m r b)))

@@ -4,7 +4,7 @@ use mathlib.Core.Bool.{Bool, true, false, not}
 use mathlib.Core.Logic.{inl, inr}
 use lib.ListN.{length}
 use native.Mathlib.Omega.{arith}
-use Rattle.chars.specs.paper.Text.{Text, head}
+use Rattle.chars.specs.paper.Text.{Text, headIs}
 use Rattle.chars.specs.paper.Classes.{isIdStart}
 use Rattle.chars.proofs.text.Texts.{drop-suffix, Suffix, suffix-refl, suffix-cons, suffix-trans}
 use Rattle.token.specs.paper.Tests.{isAny, quote, digit, hexDigit, freeSign, notBacktick, apostrophe, endOfLine}
@@ -71,7 +71,7 @@ body-strict p (Body.triple e (both a (both w (both b l)))) =
 ident-strict : (s r : Text) → Ident s r → Strict r s
 ident-strict s r h = go (h .0)
   where
-    go : (One (head isIdStart) then Chunks then Tail) s r → Strict r s
+    go : (One (headIs isIdStart) then Chunks then Tail) s r → Strict r s
     go (both {m} o w) = strict-then (one-strict o) (rest-suffix m r w)
 
 operator-strict : (s r : Text) → Operator s r → Strict r s

@@ -16,7 +16,7 @@ use Rattle.chars.proofs.text.Texts.{suffix-same}
 use Rattle.token.specs.paper.Tests.{isAny, begins, startsWith, quote, threeQuotes, backslash, dollarBrace}
 use Rattle.token.specs.paper.Shapes.{One, Run, Times, both, Escape, allowed, singleChar, Single, tripleChar, Body}
 use Rattle.token.specs.paper.Refusals.{WithinSingle, Opens, Met}
-use Rattle.token.specs.computed.Answer.{good, bad, afterSlash, Inside, closed, wrong, inPlain, inPrefixed, inTriple, inString}
+use Rattle.token.specs.computed.Answer.{unbroken, broken, afterSlash, Closing, closed, wrong, closePlain, closePrefixed, closeTriple, closeString}
 use Rattle.token.proofs.theorems.Runs.{after-next, run-after, after-least, run-suffix}
 use Rattle.token.proofs.theorems.Numbers.{one-drop, one-found}
 use Rattle.token.proofs.theorems.Escapes.{slash-found, slash-finds, Good, Bad}
@@ -50,18 +50,18 @@ three-quote (c ∷ s) e = let h = and-both (eqb (c .code) 34) (startsWith (codes
 -- ---- single strings
 
 -- by what is passed
-plain-skip : (k : ℕ) (s : Text) → inPlain k s ≡ inPlain 0 (drop k s)
-unfolding inPlain
+plain-skip : (k : ℕ) (s : Text) → closePlain k s ≡ closePlain 0 (drop k s)
+unfolding closePlain
 plain-skip zero s = refl
 plain-skip (suc k) [] = refl
 plain-skip (suc k) (c ∷ s) = plain-skip k s
 
-abbrev pub inSingle : Bool → Text → Inside
-inSingle true s = inPrefixed s
-inSingle false s = inPlain 0 s
+abbrev pub closeSingle : Bool → Text → Closing
+closeSingle true s = closePrefixed s
+closeSingle false s = closePlain 0 s
 
-pub single-char : (p : Bool) (c : Char) (s : Text) → singleChar p (c ∷ s) ≡ true → inSingle p (c ∷ s) ≡ inSingle p s
-unfolding inPlain inPrefixed
+pub single-char : (p : Bool) (c : Char) (s : Text) → singleChar p (c ∷ s) ≡ true → closeSingle p (c ∷ s) ≡ closeSingle p s
+unfolding closePlain closePrefixed
 single-char true c s e =
     let a = and-both (not (quote (c ∷ s)) && not (isAny "\n" (c ∷ s))) (not (dollarBrace (c ∷ s))) e in
     let b = and-both (not (quote (c ∷ s))) (not (isAny "\n" (c ∷ s))) (a .0) in
@@ -71,12 +71,12 @@ single-char false c s e =
     let b = and-both (not (quote (c ∷ s))) (not (isAny "\n" (c ∷ s))) (a .0) in
     rw (not-true (quote (c ∷ s)) (b .0), not-true (isAny "\n" (c ∷ s)) (b .1), not-true (backslash (c ∷ s)) (a .1))
 
-pub plain-slash : (s : Text) → backslash s ≡ true → inPlain 0 s ≡ elim (afterSlash (drop 1 s)) [ good n ↦ inPlain n (drop 1 s) | bad j q ↦ wrong j q ]
-unfolding inPlain begins
+pub plain-slash : (s : Text) → backslash s ≡ true → closePlain 0 s ≡ elim (afterSlash (drop 1 s)) [ unbroken n ↦ closePlain n (drop 1 s) | broken j q ↦ wrong j q ]
+unfolding closePlain begins
 plain-slash [] e = clash e
 plain-slash (c ∷ s) e = let h = slash-code (c ∷ s) e in rw (h .0, h .2, e)
 
-pub single-pass : (p : Bool) {s m : Text} → Single p s m → inSingle p s ≡ inSingle p m
+pub single-pass : (p : Bool) {s m : Text} → Single p s m → closeSingle p s ≡ closeSingle p m
 single-pass p Single.done = refl
 single-pass p (Single.char {c} {s} e w) = single-char p c s e ∙ single-pass p w
 single-pass false (Single.escape {s} {m} e w) =
@@ -135,45 +135,45 @@ single-ends p (suc f) (c ∷ s) l = go (single-step p c s) (λ t h. single-ends 
         by false m z e w = Single.escape e w
 
 -- what the function says at such an end
-pub single-close : (p : Bool) (m : Text) → quote m ≡ true → inSingle p m ≡ closed (drop 1 m)
-unfolding inPlain inPrefixed begins
+pub single-close : (p : Bool) (m : Text) → quote m ≡ true → closeSingle p m ≡ closed (drop 1 m)
+unfolding closePlain closePrefixed begins
 single-close p [] e = clash e
 single-close true (c ∷ s) e = rw e
 single-close false (c ∷ s) e = rw e
 
-pub single-empty : (p : Bool) → inSingle p [] ≡ wrong 7 []
-unfolding inPlain inPrefixed
+pub single-empty : (p : Bool) → closeSingle p [] ≡ wrong 7 []
+unfolding closePlain closePrefixed
 single-empty true = refl
 single-empty false = refl
 
-pub single-newline : (p : Bool) (m : Text) → isAny "\n" m ≡ true → inSingle p m ≡ wrong 8 m
-unfolding inPlain inPrefixed
+pub single-newline : (p : Bool) (m : Text) → isAny "\n" m ≡ true → closeSingle p m ≡ wrong 8 m
+unfolding closePlain closePrefixed
 single-newline p [] e = clash e
 single-newline true (c ∷ s) e = rw (lf-code (c ∷ s) e .0, e)
 single-newline false (c ∷ s) e = rw (lf-code (c ∷ s) e .0, e)
 
-pub single-slash : (m : Text) → backslash m ≡ true → (b : Bad m) → inPlain 0 m ≡ wrong (b .number) (b .rest)
+pub single-slash : (m : Text) → backslash m ≡ true → (b : Bad m) → closePlain 0 m ≡ wrong (b .number) (b .rest)
 single-slash m e b = plain-slash m e ∙ rw (b .found)
 
-pub single-dollar : (m : Text) → dollarBrace m ≡ true → inPrefixed m ≡ wrong 11 m
-unfolding inPrefixed begins
+pub single-dollar : (m : Text) → dollarBrace m ≡ true → closePrefixed m ≡ wrong 11 m
+unfolding closePrefixed begins
 single-dollar [] e = clash e
 single-dollar (c ∷ s) e = let h = dollar-code (c ∷ s) e in rw (h .0, h .2, e)
 
 -- ---- triples
 
-pub triple-char : (p : Bool) (c : Char) (s : Text) → tripleChar p (c ∷ s) ≡ true → inTriple p (c ∷ s) ≡ inTriple p s
-unfolding inTriple
+pub triple-char : (p : Bool) (c : Char) (s : Text) → tripleChar p (c ∷ s) ≡ true → closeTriple p (c ∷ s) ≡ closeTriple p s
+unfolding closeTriple
 triple-char p c s e =
     let a = and-both (not (threeQuotes (c ∷ s)) && not (backslash (c ∷ s))) (allowed p (c ∷ s)) e in
     let b = and-both (not (threeQuotes (c ∷ s))) (not (backslash (c ∷ s))) (a .0) in
     rw (not-true (threeQuotes (c ∷ s)) (b .0), not-true (backslash (c ∷ s)) (b .1)) (go p (a .1))
   where
-    go : (p : Bool) → allowed p (c ∷ s) ≡ true → _≡_ {A = Inside} (cond (p && dollarBrace (c ∷ s)) (wrong 11 (c ∷ s)) (inTriple p s)) (inTriple p s)
+    go : (p : Bool) → allowed p (c ∷ s) ≡ true → _≡_ {A = Closing} (cond (p && dollarBrace (c ∷ s)) (wrong 11 (c ∷ s)) (closeTriple p s)) (closeTriple p s)
     go true f = rw (not-true (dollarBrace (c ∷ s)) f)
     go false f = refl
 
-pub triple-pass : (p : Bool) {s m : Text} → Run (tripleChar p) s m → inTriple p s ≡ inTriple p m
+pub triple-pass : (p : Bool) {s m : Text} → Run (tripleChar p) s m → closeTriple p s ≡ closeTriple p m
 triple-pass p Run.stop = refl
 triple-pass p (Run.next {c} {s} e w) = triple-char p c s e ∙ triple-pass p w
 
@@ -196,22 +196,22 @@ triple-ends p (c ∷ s) = go p (threeQuotes (c ∷ s)) (backslash (c ∷ s)) (do
     go true false false false ex ey ez h = (h .0, Run.next {c = c} {s = s} (rw (ex, ey, ez)) (h .1), h .2)
     go false false false z ex ey ez h = (h .0, Run.next {c = c} {s = s} (rw (ex, ey)) (h .1), h .2)
 
-pub triple-close : (p : Bool) (m : Text) → threeQuotes m ≡ true → inTriple p m ≡ closed (afterRun quote m)
-unfolding inTriple begins
+pub triple-close : (p : Bool) (m : Text) → threeQuotes m ≡ true → closeTriple p m ≡ closed (afterRun quote m)
+unfolding closeTriple begins
 triple-close p [] e = clash e
 triple-close p (c ∷ s) e = rw e
 
-pub triple-empty : (p : Bool) → inTriple p [] ≡ wrong 9 []
-unfolding inTriple
+pub triple-empty : (p : Bool) → closeTriple p [] ≡ wrong 9 []
+unfolding closeTriple
 triple-empty p = refl
 
-pub triple-slash : (p : Bool) (m : Text) → backslash m ≡ true → inTriple p m ≡ wrong 10 m
-unfolding inTriple begins
+pub triple-slash : (p : Bool) (m : Text) → backslash m ≡ true → closeTriple p m ≡ wrong 10 m
+unfolding closeTriple begins
 triple-slash p [] e = clash e
 triple-slash p (c ∷ s) e = rw (slash-code (c ∷ s) e .1, e)
 
-pub triple-dollar : (m : Text) → dollarBrace m ≡ true → inTriple true m ≡ wrong 11 m
-unfolding inTriple begins
+pub triple-dollar : (m : Text) → dollarBrace m ≡ true → closeTriple true m ≡ wrong 11 m
+unfolding closeTriple begins
 triple-dollar [] e = clash e
 triple-dollar (c ∷ s) e = let h = dollar-code (c ∷ s) e in rw (h .1, h .3, e)
 
@@ -241,17 +241,17 @@ times-after (suc n) (Times.more {c} {s} e w) = after-next quote c s e ∙ times-
 
 -- ---- from the opening on
 
-pub in-single : (p : Bool) (o : Text) → threeQuotes o ≡ false → inString p o ≡ inSingle p (drop 1 o)
-unfolding inString
+pub in-single : (p : Bool) (o : Text) → threeQuotes o ≡ false → closeString p o ≡ closeSingle p (drop 1 o)
+unfolding closeString
 in-single true o e = rw e
 in-single false o e = rw e
 
-pub in-triple : (p : Bool) (o : Text) → threeQuotes o ≡ true → inString p o ≡ inTriple p (drop 3 o)
-unfolding inString
+pub in-triple : (p : Bool) (o : Text) → threeQuotes o ≡ true → closeString p o ≡ closeTriple p (drop 3 o)
+unfolding closeString
 in-triple p o e = rw e
 
 -- a string that stands is what the function finds
-pub body-found : (p : Bool) (o r : Text) → Body p o r → (quote o ≡ true) × (inString p o ≡ closed r)
+pub body-found : (p : Bool) (o r : Text) → Body p o r → (quote o ≡ true) × (closeString p o ≡ closed r)
 body-found p o r (Body.single e (both (One.one {s} q) (both {m} w c))) =
     let x = one-found quote m r c in
     (q, in-single p o e ∙ single-pass p w ∙ single-close p m (x .0) ∙ ap closed (sym (x .1)))
@@ -287,19 +287,19 @@ triple-within p (Run.next {c} {s} e w) =
 -- what the function finds stands, or its refusal is met
 pub record Closed (p : Bool) (o : Text) : Type 0 where
   pub rest : Text
-  pub found : inString p o ≡ closed rest
+  pub found : closeString p o ≡ closed rest
   pub body : Body p o rest
 
 pub record Wrong (p : Bool) (o : Text) : Type 0 where
   pub number : ℕ
   pub rest : Text
-  pub found : inString p o ≡ wrong number rest
+  pub found : closeString p o ≡ wrong number rest
   pub met : (s : Text) → Opens p s o → Met s number rest
 
 single-body : (p : Bool) (c : Char) (t : Text) → quote (c ∷ t) ≡ true → threeQuotes (c ∷ t) ≡ false → Closed p (c ∷ t) ⊎ Wrong p (c ∷ t)
 single-body p c t q e = let h = single-ends p (length t) t (omega arith) in go p (h .0) e (in-single p (c ∷ t) e ∙ single-pass p (h .1)) (h .1) (h .2)
   where
-    go : (p : Bool) (m : Text) → threeQuotes (c ∷ t) ≡ false → inString p (c ∷ t) ≡ inSingle p m → Single p t m → SingleEnd p m
+    go : (p : Bool) (m : Text) → threeQuotes (c ∷ t) ≡ false → closeString p (c ∷ t) ≡ closeSingle p m → Single p t m → SingleEnd p m
         → Closed p (c ∷ t) ⊎ Wrong p (c ∷ t)
     go p m e i w (SingleEnd.closes _ x) =
         inl (record {
@@ -334,7 +334,7 @@ single-body p c t q e = let h = single-ends p (length t) t (omega arith) in go p
 triple-body : (p : Bool) (o : Text) → threeQuotes o ≡ true → Closed p o ⊎ Wrong p o
 triple-body p o e = let h = triple-ends p (drop 3 o) in go p (h .0) (in-triple p o e ∙ triple-pass p (h .1)) (h .1) (h .2)
   where
-    go : (p : Bool) (m : Text) → inString p o ≡ inTriple p m → Run (tripleChar p) (drop 3 o) m → TripleEnd p m → Closed p o ⊎ Wrong p o
+    go : (p : Bool) (m : Text) → closeString p o ≡ closeTriple p m → Run (tripleChar p) (drop 3 o) m → TripleEnd p m → Closed p o ⊎ Wrong p o
     go p m i w (TripleEnd.closes _ x) =
         let c = three-times m x in
         inl (record {

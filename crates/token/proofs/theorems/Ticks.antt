@@ -6,7 +6,7 @@ use mathlib.Core.Logic.{_⊎_, inl, inr}
 use mathlib.Core.List.{[], _∷_}
 use lib.ListN.{drop}
 use Rattle.chars.specs.paper.Quoted.{oneOf}
-use Rattle.chars.specs.paper.Text.{Char, Text, head}
+use Rattle.chars.specs.paper.Text.{Char, Text, headIs}
 use Rattle.chars.specs.computed.Runs.{afterRun}
 use Rattle.chars.specs.paper.Classes.{isIdStart, isOpSign, isPrintable}
 use Rattle.chars.proofs.Bools.{clash, and-both, not-true}
@@ -16,7 +16,7 @@ use Rattle.token.specs.paper.Kinds.{TokenType}
 use Rattle.token.specs.paper.Shapes.{One, _then_, both, Character, Name, Symbol, TokenShape}
 use Rattle.token.specs.paper.Reading.{Valued}
 use Rattle.token.specs.paper.Refusals.{Met}
-use Rattle.token.specs.computed.Answer.{Found, afterIdent, good, afterSlash, escapedOf, scanCharSym}
+use Rattle.token.specs.computed.Answer.{Found, afterIdent, unbroken, afterSlash, escapedOf, scanCharSym}
 use Rattle.token.specs.declared.kinds.TokenKind.the-variants as tk
 use Rattle.token.proofs.theorems.Runs.{run1-finds, run1-found}
 use Rattle.token.proofs.theorems.Numbers.{one-drop, one-found}
@@ -31,18 +31,18 @@ pub record Fell (s : Text) (f : Found) : Type 0 where
   pub found : f ≡ Found.stuck number rest
   pub met : Met s number rest
 
--- a test of the first character of a text that a head test implies another
-head-other : (p q : ℕ → Bool) → ((c : ℕ) → p c ≡ true → q c ≡ false) → (s : Text) → head p s ≡ true → head q s ≡ false
+-- a test of the first character of a text that a headIs test implies another
+head-other : (p q : ℕ → Bool) → ((c : ℕ) → p c ≡ true → q c ≡ false) → (s : Text) → headIs p s ≡ true → headIs q s ≡ false
 head-other p q f [] e = clash e
 head-other p q f (c ∷ s) e = f (c .code) e
 
 free-sign : (s : Text) → freeSign s ≡ true → opSign s ≡ true
 free-sign s e = and-both (opSign s) (not (opensComment s)) e .0
 
-free-no-start : (s : Text) → freeSign s ≡ true → head isIdStart s ≡ false
+free-no-start : (s : Text) → freeSign s ≡ true → headIs isIdStart s ≡ false
 free-no-start s e = head-other isOpSign isIdStart sign-no-start s (free-sign s e)
 
-semi-no-start : (s : Text) → isAny ";" s ≡ true → head isIdStart s ≡ false
+semi-no-start : (s : Text) → isAny ";" s ≡ true → headIs isIdStart s ≡ false
 semi-no-start [] e = refl
 semi-no-start (c ∷ s) e = no-start ";" refl (c .code) e
 
@@ -59,7 +59,7 @@ semiAhead m = isAny ";" m && not (opSign (drop 1 m))
 pub scan-tick : (t : Char) (m : Text) → scanCharSym (t ∷ m)
     ≡ cond (backslash m) (escapedOf (drop 1 m) (afterSlash (drop 1 m)))
     (cond (charAhead m) (Found.token tk.CharSym (drop 2 m))
-    (cond (head isIdStart m) (Found.token tk.CharSym (afterIdent false (drop 1 m)))
+    (cond (headIs isIdStart m) (Found.token tk.CharSym (afterIdent false (drop 1 m)))
     (cond (freeSign m) (Found.token tk.CharSym (afterRun freeSign m))
     (cond (semiAhead m) (Found.token tk.CharSym (drop 1 m))
     (Found.stuck 16 m)))))
@@ -75,11 +75,11 @@ char-stands t (c ∷ m) e f = let h = and-both (plainChar (c ∷ m)) (apostrophe
     go m e = one-drop apostrophe m e refl
 
 plain-no-slash : (m : Text) → plainChar m ≡ true → backslash m ≡ false
-plain-no-slash m e = not-true (backslash m) (and-both (head isPrintable m) (not (backslash m)) e .1)
+plain-no-slash m e = not-true (backslash m) (and-both (headIs isPrintable m) (not (backslash m)) e .1)
 
 -- a character that stands: by an escape, or by the test
 pub data CharIs (t : Char) (m r : Text) : Type 0 where
-  escaped : (k : ℕ) → backslash m ≡ true → afterSlash (drop 1 m) ≡ good k → apostrophe (drop k (drop 1 m)) ≡ true → r ≡ drop 1 (drop k (drop 1 m))
+  escaped : (k : ℕ) → backslash m ≡ true → afterSlash (drop 1 m) ≡ unbroken k → apostrophe (drop k (drop 1 m)) ≡ true → r ≡ drop 1 (drop k (drop 1 m))
       → CharIs t m r
   plain : backslash m ≡ false → charAhead m ≡ true → r ≡ drop 2 m → CharIs t m r
 
@@ -101,7 +101,7 @@ no-char t m b f r h = go (char-is t m r h)
 
 -- the name of a symbol, by the tests
 pub data NameIs (m r : Text) : Type 0 where
-  word : head isIdStart m ≡ true → r ≡ afterIdent false (drop 1 m) → NameIs m r
+  word : headIs isIdStart m ≡ true → r ≡ afterIdent false (drop 1 m) → NameIs m r
   run : freeSign m ≡ true → r ≡ afterRun freeSign m → NameIs m r
   semi : isAny ";" m ≡ true → opSign (drop 1 m) ≡ false → r ≡ drop 1 m → NameIs m r
 
@@ -144,12 +144,12 @@ tick-stands n (t ∷ m) e = go (backslash m) refl
     symbol : backslash m ≡ false → charAhead m ≡ false → (r : Text) → Name m r → TokenShape TokenType.charSym (t ∷ m) r
     symbol k f r h = unfold TokenShape in (inr (both (One.one e) h, no-char t m k f, k))
 
-    none : head isIdStart m ≡ false → freeSign m ≡ false → semiAhead m ≡ false → (r : Text) → NameIs m r → ⊥
+    none : headIs isIdStart m ≡ false → freeSign m ≡ false → semiAhead m ≡ false → (r : Text) → NameIs m r → ⊥
     none x y z r (NameIs.word a b) = clash (sym x ∙ a)
     none x y z r (NameIs.run a b) = clash (sym y ∙ a)
     none x y z r (NameIs.semi a b c) = clash (sym z ∙ rw (a, b))
 
-    names : (x y z : Bool) → backslash m ≡ false → charAhead m ≡ false → head isIdStart m ≡ x → freeSign m ≡ y → semiAhead m ≡ z → Answer
+    names : (x y z : Bool) → backslash m ≡ false → charAhead m ≡ false → headIs isIdStart m ≡ x → freeSign m ≡ y → semiAhead m ≡ z → Answer
     names true y z k f ex ey ez = inl (stood (afterIdent false (drop 1 m)) (scan-tick t m ∙ rw (f, k, ex)) (symbol k f _ (inl (ident-finds m ex))))
     names false true z k f ex ey ez =
         inl (stood (afterRun freeSign m) (scan-tick t m ∙ rw (f, k, ex, ey)) (symbol k f _ (inr (inl (run1-finds freeSign m ey refl)))))
@@ -173,7 +173,7 @@ tick-stands n (t ∷ m) e = go (backslash m) refl
 
     chars : (b : Bool) → backslash m ≡ false → charAhead m ≡ b → Answer
     chars true k f = inl (stood (drop 2 m) (scan-tick t m ∙ rw (f, k)) (unfold TokenShape in (inl (char-stands t m e f))))
-    chars false k f = names (head isIdStart m) (freeSign m) (semiAhead m) k f refl refl refl
+    chars false k f = names (headIs isIdStart m) (freeSign m) (semiAhead m) k f refl refl refl
 
     go : (b : Bool) → backslash m ≡ b → Answer
     go true k = slash k (slash-finds m k)

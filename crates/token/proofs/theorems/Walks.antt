@@ -15,7 +15,7 @@ use Rattle.token.specs.paper.Records.{values, recordLength, perByte, mos
 use Rattle.words.specs.Words.{le4, le8}
 use Rattle.token.specs.computed.Flags.{GapKind, fresh, push, cutOf}
 use Rattle.token.specs.declared.gap.Gap.{Gap}
-use Rattle.token.specs.computed.Answer.{Found, scan, Answer, accepted, refused, before, gapBefore, walk, answer}
+use Rattle.token.specs.computed.Answer.{Found, scan, Answer, accepted, refused, prepend, gapBefore, walk, answer}
 use Rattle.token.specs.declared.kinds.TokenKind.{TokenKind}
 use Rattle.token.specs.declared.kinds.TokenKind.the-variants as tk
 use Rattle.token.proofs.theorems.Ticks.{Fell}
@@ -44,10 +44,10 @@ unfolding walk
 walk-gap n f c s r g e h = rw (e, walk) (ap (gapBefore g (c .at) (place n r) (f .comment)) (walk-rest n (push g f) c s r h))
 
 pub walk-token : (n : ℕ) (f : Gap) (c : Char) (s r : Text) (t : TokenKind) → scan n (c ∷ s) ≡ Found.token t r → Strict r (c ∷ s)
-    → walk n 0 f (c ∷ s) ≡ before (record { kind = t; start = c .at; end = place n r; cut = cutOf f }) (walk n 0 fresh r)
+    → walk n 0 f (c ∷ s) ≡ prepend (record { kind = t; start = c .at; end = place n r; cut = cutOf f }) (walk n 0 fresh r)
 unfolding walk
 walk-token n f c s r t e h =
-    rw (e, walk) (ap (before (record { kind = t; start = c .at; end = place n r; cut = cutOf f })) (walk-rest n fresh c s r h))
+    rw (e, walk) (ap (prepend (record { kind = t; start = c .at; end = place n r; cut = cutOf f })) (walk-rest n fresh c s r h))
 
 pub walk-stuck : (n : ℕ) (f : Gap) (c : Char) (s q : Text) (j : ℕ) → scan n (c ∷ s) ≡ Found.stuck j q → walk n 0 f (c ∷ s) ≡ refused j (place n q)
 unfolding walk
@@ -116,23 +116,23 @@ module _ (script : List ℕ) where
   skipped gap k s r v w e o h (Walked.stops ps c a z f x y) = Walked.stops _ c a z (e ∙ f) (Pieces.piece h x) y
 
   ended : (gap : List Piece) (mark : Bool) (s r : Text) (v w : Answer)
-      → v ≡ before (record { kind = tk.Newline mark; start = place (length script) s; end = place (length script) r; cut = false }) w
+      → v ≡ prepend (record { kind = tk.Newline mark; start = place (length script) s; end = place (length script) r; cut = false }) w
       → mark ≡ true ↔ AfterComment gap → Stands Kind.lineEnd s r
       → Walked script (gap ++ (record { kind = Kind.lineEnd; start = place (length script) s; end = place (length script) r } ∷ [])) r w
       → Walked script gap s v
   ended gap mark s r v w e o h (Walked.reads ps ts f x y b) =
       let l = stands-strict Kind.lineEnd s r h .1 in
-      Walked.reads _ _ (e ∙ ap (before _) f) (Pieces.piece h x) (Tokens.lineEnd refl o y) (newline-bytes mark _ _ ts (length s) (length r) b l)
-  ended gap mark s r v w e o h (Walked.stops ps c a z f x y) = Walked.stops _ c a z (e ∙ ap (before _) f) (Pieces.piece h x) y
+      Walked.reads _ _ (e ∙ ap (prepend _) f) (Pieces.piece h x) (Tokens.lineEnd refl o y) (newline-bytes mark _ _ ts (length s) (length r) b l)
+  ended gap mark s r v w e o h (Walked.stops ps c a z f x y) = Walked.stops _ c a z (e ∙ ap (prepend _) f) (Pieces.piece h x) y
 
   tokened : (gap : List Piece) (k : TokenType) (t : TokenKind) (cut : Bool) (s r : Text) (v w : Answer)
-      → v ≡ before (record { kind = t; start = place (length script) s; end = place (length script) r; cut = cut }) w
+      → v ≡ prepend (record { kind = t; start = place (length script) s; end = place (length script) r; cut = cut }) w
       → cut ≡ true ↔ Cut script gap → Valued (length script) (from script (place (length script) s)) (from script (place (length script) r)) k t
       → Stands (Kind.token k) s r → Walked script [] r w → Walked script gap s v
   tokened gap k t cut s r v w e o u h (Walked.reads ps ts f x y b) =
       let l = token-bytes k t s r _ _ _ h u in
-      Walked.reads _ _ (e ∙ ap (before _) f) (Pieces.piece h x) (Tokens.token refl u o y) (before-bytes t _ _ cut ts (length s) (length r) b l)
-  tokened gap k t cut s r v w e o u h (Walked.stops ps c a z f x y) = Walked.stops _ c a z (e ∙ ap (before _) f) (Pieces.piece h x) y
+      Walked.reads _ _ (e ∙ ap (prepend _) f) (Pieces.piece h x) (Tokens.token refl u o y) (before-bytes t _ _ cut ts (length s) (length r) b l)
+  tokened gap k t cut s r v w e o u h (Walked.stops ps c a z f x y) = Walked.stops _ c a z (e ∙ ap (prepend _) f) (Pieces.piece h x) y
 
   pub walk-finds : (fuel : ℕ) (s : Text) (gap : List Piece) (f : Gap) → length s ≤ fuel → TextOf script s → Knows script gap f s
       → Walked script gap s (walk (length script) 0 f s)

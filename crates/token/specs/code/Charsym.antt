@@ -2,7 +2,7 @@
 use mathlib.Core.Bool.{false, cond, not, _&&_}
 use lib.ListN.{drop}
 use Rattle.chars.specs.paper.Classes.{isIdStart}
-use Rattle.chars.specs.paper.Text.{Text, head}
+use Rattle.chars.specs.paper.Text.{Text, headIs}
 use Rattle.chars.specs.computed.Runs.{afterRun}
 use Rattle.token.specs.paper.Tests.{isAny, opSign, freeSign}
 use Rattle.token.specs.paper.Kinds.{word}
@@ -18,7 +18,7 @@ unfoldable pub symbolOf : Text → Found
 symbolOf m =
     let word = Found.token tk.CharSym (afterIdent false (drop 1 m)) in
     let run = Found.token tk.CharSym (afterRun freeSign m) in
-    cond (head isIdStart m) word
+    cond (headIs isIdStart m) word
     (cond (freeSign m) run
     (cond (isAny ";" m && not (opSign (drop 1 m))) (Found.token tk.CharSym (drop 1 m))
     (Found.stuck 16 m)))

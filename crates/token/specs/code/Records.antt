@@ -39,7 +39,7 @@ total c b = measured.Total c b
 -- token count and record bytes after c tokens and b bytes that were counted before, or the refusal
 unfoldable pub measuredOf : ℕ → ℕ → Answer → Measured
 measuredOf c b (accepted ts) = measured.Total (c + length ts) (b + recordBytes ts)
-measuredOf c b (refused j a) = measured.Stopped j a
+measuredOf c b (refused j a) = measured.Refused j a
 
 abbrev pub isAccepted : Answer → Bool
 isAccepted (accepted ts) = true

@@ -7,9 +7,9 @@ use lib.ListN.{length, drop, getD}
 use lib.Dec.{eqb, leb, ltb}
 use Rattle.chars.specs.paper.Quoted.{oneOf}
 use Rattle.chars.specs.paper.Text.{Text, from, place}
-use Rattle.chars.specs.code.Eights.{eightIn}
+use Rattle.chars.specs.code.Runs.{eightIn}
 use Rattle.token.specs.paper.Tests.{dollarBrace}
-use Rattle.token.specs.computed.Answer.{Esc, good, bad, hexes, afterSlash, Inside, closed, wrong, inPlain, inPrefixed, plainContent}
+use Rattle.token.specs.computed.Answer.{Esc, unbroken, broken, hexes, afterSlash, Closing, closed, wrong, closePlain, closePrefixed, plainContent}
 use Rattle.token.specs.declared.kinds.TokenKind.{TokenKind}
 use Rattle.token.specs.declared.kinds.TokenKind.the-variants as tk
 use Rattle.token.specs.declared.piece.Ended.{Ended}
@@ -19,14 +19,14 @@ use Rattle.token.specs.code.Cursor.{cursorAt}
 use Rattle.token.specs.code.Ident.{LeftOf}
 
 -- a string's end
-unfoldable pub endedOf : ℕ → Inside → Ended
+unfoldable pub endedOf : ℕ → Closing → Ended
 endedOf n (closed r) = ended.At (cursorAt (place n r))
 endedOf n (wrong j q) = ended.Refused j (place n q)
 
 -- an escape's end, from behind its backslash
 abbrev pub escEnd : ℕ → Text → Esc → Ended
-escEnd n s (good k) = ended.At (cursorAt (place n (drop k s)))
-escEnd n s (bad j q) = ended.Refused j (place n q)
+escEnd n s (unbroken k) = ended.At (cursorAt (place n (drop k s)))
+escEnd n s (broken j q) = ended.Refused j (place n q)
 
 unfoldable pub escapeOf : ℕ → Text → Ended
 escapeOf n s = escEnd n s (afterSlash s)
@@ -36,10 +36,10 @@ unfoldable pub hexesOf : ℕ → Text → Ended
 hexesOf n s = escEnd n s (hexes 4 0 s)
 
 -- a single string from behind its quote; p: it is prefixed
-unfoldable pub inSingle : Bool → Text → Inside
-inSingle p s =
-    let prefixed = inPrefixed s in
-    let plain = inPlain 0 s in
+unfoldable pub closeSingle : Bool → Text → Closing
+closeSingle p s =
+    let prefixed = closePrefixed s in
+    let plain = closePlain 0 s in
     cond p prefixed plain
 
 -- what stands for itself in every string
@@ -51,7 +51,7 @@ unfoldable pub dollarOf : ℕ → Text → Ended
 dollarOf n s = cond (dollarBrace s) (ended.Refused 11 (place n s)) (ended.At (cursorAt (place n (drop 1 s))))
 
 -- one step of a walk from the place i: a later place from which the walk finds the same, or what the walk refuses
-unfoldable pub Onward : List ℕ → (Text → Inside) → ℕ → Ended → Type 0
+unfoldable pub Onward : List ℕ → (Text → Closing) → ℕ → Ended → Type 0
 Onward s walk i (ended.At c) = (i < c .at) × (c .at ≤ length s) × (walk (from s (c .at)) ≡ walk (from s i))
 Onward s walk i (ended.Refused j a) = ended.Refused j a ≡ endedOf (length s) (walk (from s i))
 

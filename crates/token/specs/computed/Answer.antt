@@ -6,7 +6,7 @@ use mathlib.Core.List.{List, [], _∷_, map, reverse}
 use mathlib.Core.Option.{Option, none, some}
 use lib.ListN.{length, take, drop}
 use lib.Dec.{eqb, leb}
-use Rattle.chars.specs.paper.Text.{Char, Text, from, place, head}
+use Rattle.chars.specs.paper.Text.{Char, Text, from, place, headIs}
 use Rattle.chars.specs.computed.Runs.{afterRun}
 use Rattle.chars.specs.paper.Classes.{isIdStart, isIdChar}
 use Rattle.token.specs.paper.Tests.{isDigit, isHexDigit, isAny, begins, opensLine, opensBlock, closesBlock, opensComment, endOfLine, quote, threeQuotes, backslash, dollarBrace, digit, digitValue, hexAhead, longSuffix, opSign, freeSign, notBacktick, apostrophe, plainChar}
@@ -79,16 +79,16 @@ scanNumber s =
 -- ---- escapes: from behind the backslash, how many characters the escape has, or its refusal
 
 pub data Esc : Type 0 where
-  good : ℕ → Esc
-  bad : ℕ → Text → Esc
+  unbroken : ℕ → Esc
+  broken : ℕ → Text → Esc
 
 -- n hex digits, after k characters
 unfoldable pub hexes : ℕ → ℕ → Text → Esc
-hexes zero k s = good k
-hexes (suc n) k [] = bad 13 []
+hexes zero k s = unbroken k
+hexes (suc n) k [] = broken 13 []
 hexes (suc n) k (c ∷ s) =
     let more = hexes n (suc k) s in
-    cond (isHexDigit (c .code)) more (bad 13 (c ∷ s))
+    cond (isHexDigit (c .code)) more (broken 13 (c ∷ s))
 
 -- at most n digits more, after k characters
 unfoldable pub digitsUpTo : ℕ → ℕ → Text → ℕ
@@ -99,48 +99,48 @@ digitsUpTo (suc n) k (c ∷ s) =
     cond (isDigit (c .code)) more k
 
 unfoldable pub afterSlash : Text → Esc
-afterSlash [] = bad 12 []
+afterSlash [] = broken 12 []
 afterSlash (c ∷ s) =
-    let number = good (digitsUpTo 2 1 s) in
+    let number = unbroken (digitsUpTo 2 1 s) in
     let unicode = hexes 4 1 s in
-    cond (isAny "btnfr'\"]" (c ∷ s)) (good 1) (cond (isDigit (c .code)) number (cond (isAny "u" (c ∷ s)) unicode (bad 14 (c ∷ s))))
+    cond (isAny "btnfr'\"]" (c ∷ s)) (unbroken 1) (cond (isDigit (c .code)) number (cond (isAny "u" (c ∷ s)) unicode (broken 14 (c ∷ s))))
 
 -- ---- strings: from behind the opening, what follows the string, or its refusal
 
-pub data Inside : Type 0 where
-  closed : Text → Inside
-  wrong : ℕ → Text → Inside
+pub data Closing : Type 0 where
+  closed : Text → Closing
+  wrong : ℕ → Text → Closing
 
 -- a plain single string, after k characters that are passed
-unfoldable pub inPlain : ℕ → Text → Inside
-inPlain k [] = wrong 7 []
-inPlain (suc k) (c ∷ s) = inPlain k s
-inPlain zero (c ∷ s) =
-    let escape : Inside = elim (afterSlash s) [ good n ↦ inPlain n s | bad j q ↦ wrong j q ] in
-    let next = inPlain 0 s in
+unfoldable pub closePlain : ℕ → Text → Closing
+closePlain k [] = wrong 7 []
+closePlain (suc k) (c ∷ s) = closePlain k s
+closePlain zero (c ∷ s) =
+    let escape : Closing = elim (afterSlash s) [ unbroken n ↦ closePlain n s | broken j q ↦ wrong j q ] in
+    let next = closePlain 0 s in
     cond (quote (c ∷ s)) (closed s) (cond (isAny "\n" (c ∷ s)) (wrong 8 (c ∷ s)) (cond (backslash (c ∷ s)) escape next))
 
 -- a prefixed single string
-unfoldable pub inPrefixed : Text → Inside
-inPrefixed [] = wrong 7 []
-inPrefixed (c ∷ s) =
-    let next = inPrefixed s in
+unfoldable pub closePrefixed : Text → Closing
+closePrefixed [] = wrong 7 []
+closePrefixed (c ∷ s) =
+    let next = closePrefixed s in
     cond (quote (c ∷ s)) (closed s) (cond (isAny "\n" (c ∷ s)) (wrong 8 (c ∷ s)) (cond (dollarBrace (c ∷ s)) (wrong 11 (c ∷ s)) next))
 
 -- a triple; p: it is prefixed
-unfoldable pub inTriple : Bool → Text → Inside
-inTriple p [] = wrong 9 []
-inTriple p (c ∷ s) =
+unfoldable pub closeTriple : Bool → Text → Closing
+closeTriple p [] = wrong 9 []
+closeTriple p (c ∷ s) =
     let end = closed (afterRun quote (c ∷ s)) in
-    let next = inTriple p s in
+    let next = closeTriple p s in
     cond (threeQuotes (c ∷ s)) end (cond (backslash (c ∷ s)) (wrong 10 (c ∷ s)) (cond (p && dollarBrace (c ∷ s)) (wrong 11 (c ∷ s)) next))
 
 -- from the opening on
-unfoldable pub inString : Bool → Text → Inside
-inString p s =
-    let triple = inTriple p (drop 3 s) in
-    let plain = inPlain 0 (drop 1 s) in
-    let prefixed = inPrefixed (drop 1 s) in
+unfoldable pub closeString : Bool → Text → Closing
+closeString p s =
+    let triple = closeTriple p (drop 3 s) in
+    let plain = closePlain 0 (drop 1 s) in
+    let prefixed = closePrefixed (drop 1 s) in
     cond (threeQuotes s) triple (cond p prefixed plain)
 
 -- the content of a text of k characters that ends at e; t is the text and what was dropped behind it, back the text turned round
@@ -156,22 +156,22 @@ plainContent n s r =
     let t = take (length s - length r) s in
     strip (length t) t (reverse t) (place n r)
 
-abbrev pub plainOf : ℕ → Text → Inside → Found
+abbrev pub plainOf : ℕ → Text → Closing → Found
 plainOf n s (closed r) = Found.token (plainContent n s r) r
 plainOf n s (wrong j q) = Found.stuck j q
 
 unfoldable pub scanString : ℕ → Text → Found
-scanString n s = plainOf n s (inString false s)
+scanString n s = plainOf n s (closeString false s)
 
 -- a string prefixed by the text from s to m
-abbrev pub prefixedOf : ℕ → Text → Inside → Found
+abbrev pub prefixedOf : ℕ → Text → Closing → Found
 prefixedOf n s (closed r) = Found.token (tk.Str (place n s) (place n r)) r
 prefixedOf n s (wrong j q) = Found.stuck j q
 
 -- an identifier or a backtick from s to r, or the string that it prefixes
 unfoldable pub orPrefixed : ℕ → TokenKind → Text → Text → Found
 orPrefixed n k s r =
-    let string = prefixedOf n s (inString true r) in
+    let string = prefixedOf n s (closeString true r) in
     cond (quote r) string (Found.token k r)
 
 -- ---- identifiers and operators
@@ -220,8 +220,8 @@ abbrev pub tickNext : Text → Found
 tickNext r = cond (apostrophe r) (Found.token tk.CharSym (drop 1 r)) (Found.stuck 15 r)
 
 abbrev pub escapedOf : Text → Esc → Found
-escapedOf m (good k) = tickNext (drop k m)
-escapedOf m (bad j q) = Found.stuck j q
+escapedOf m (unbroken k) = tickNext (drop k m)
+escapedOf m (broken j q) = Found.stuck j q
 
 unfoldable pub scanCharSym : Text → Found
 scanCharSym s =
@@ -231,7 +231,7 @@ scanCharSym s =
     let run = Found.token tk.CharSym (afterRun freeSign m) in
     cond (backslash m) escaped
     (cond (plainChar m && apostrophe (drop 1 m)) (Found.token tk.CharSym (drop 2 m))
-    (cond (head isIdStart m) word
+    (cond (headIs isIdStart m) word
     (cond (freeSign m) run
     (cond (isAny ";" m && not (opSign (drop 1 m))) (Found.token tk.CharSym (drop 1 m))
     (Found.stuck 16 m)))))
@@ -251,7 +251,7 @@ startOf s =
     (cond (isAny "\r" s) Start.cr
     (cond (isAny "()[]{},;." s) Start.sign
     (cond (digit s) Start.number
-    (cond (head isIdStart s) Start.word
+    (cond (headIs isIdStart s) Start.word
     (cond (opSign s) Start.operator
     (cond (isAny "`" s) Start.backtick
     (cond (quote s) Start.string
@@ -292,14 +292,14 @@ pub data Answer : Type 0 where
   accepted : List Token → Answer
   refused : ℕ → ℕ → Answer
 
-abbrev pub before : Token → Answer → Answer
-before t (accepted ts) = accepted (t ∷ ts)
-before t (refused j a) = refused j a
+abbrev pub prepend : Token → Answer → Answer
+prepend t (accepted ts) = accepted (t ∷ ts)
+prepend t (refused j a) = refused j a
 
 -- only a line end has a token
 abbrev pub gapBefore : GapKind → ℕ → ℕ → Bool → Answer → Answer
 gapBefore GapKind.blank a e mark w = w
-gapBefore GapKind.lineEnd a e mark w = before (record { kind = tk.Newline mark; start = a; end = e; cut = false }) w
+gapBefore GapKind.lineEnd a e mark w = prepend (record { kind = tk.Newline mark; start = a; end = e; cut = false }) w
 gapBefore GapKind.lineComment a e mark w = w
 gapBefore GapKind.blockComment a e mark w = w
 
@@ -310,7 +310,7 @@ walk n (suc k) g (c ∷ s) = walk n k g s
 walk n zero g (c ∷ s) =
     elim (scan n (c ∷ s)) [
       | gap p r ↦ gapBefore p (c .at) (place n r) (g .comment) (walk n (length s - length r) (push p g) s)
-      | token t r ↦ before (record { kind = t; start = c .at; end = place n r; cut = cutOf g }) (walk n (length s - length r) fresh s)
+      | token t r ↦ prepend (record { kind = t; start = c .at; end = place n r; cut = cutOf g }) (walk n (length s - length r) fresh s)
       | stuck j q ↦ refused j (place n q)
     ]
 

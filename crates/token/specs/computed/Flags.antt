@@ -1,5 +1,5 @@
 -- What is kept of a gap while its pieces pass by: enough for the marks and the cut, with no look past a comment. A block comment after a line
--- end waits for what follows it: the next line end of the gap lets it go, any comment, token or the end of script makes it the cut.
+-- end pending for what follows it: the next line end of the gap lets it go, any comment, token or the end of script makes it the cut.
 use mathlib.Core.Bool.{Bool, true, false, _||_}
 use Rattle.token.specs.declared.gap.Gap.{Gap}
 
@@ -9,15 +9,15 @@ pub data GapKind : Type 0 where
 
 -- at the gap's start
 abbrev pub fresh : Gap
-fresh = record { newline = false; comment = false; waits = false; cut = false }
+fresh = record { newline = false; comment = false; pending = false; cut = false }
 
 -- after one piece more
 abbrev pub push : GapKind → Gap → Gap
 push GapKind.blank g = g
-push GapKind.lineEnd g = record { newline = true; comment = false; waits = false; cut = g .cut }
-push GapKind.lineComment g = record { newline = g .newline; comment = true; waits = false; cut = g .cut || g .waits }
-push GapKind.blockComment g = record { newline = g .newline; comment = true; waits = g .newline; cut = g .cut || g .waits }
+push GapKind.lineEnd g = record { newline = true; comment = false; pending = false; cut = g .cut }
+push GapKind.lineComment g = record { newline = g .newline; comment = true; pending = false; cut = g .cut || g .pending }
+push GapKind.blockComment g = record { newline = g .newline; comment = true; pending = g .newline; cut = g .cut || g .pending }
 
 -- the cut of the token that ends the gap
 abbrev pub cutOf : Gap → Bool
-cutOf g = g .cut || g .waits
+cutOf g = g .cut || g .pending

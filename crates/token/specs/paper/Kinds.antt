@@ -60,20 +60,20 @@ keyword [] t = none
 keyword (word w k ∷ ws) t = cond (same (codes w) t) (some k) (keyword ws t)
 
 -- The nine texts `case else false function if match return then true` are keywords.
-abbrev pub nineWords : List Word
-nineWords =
+abbrev pub wordKeywords : List Word
+wordKeywords =
     word "case" kw.Case ∷ word "else" kw.Else ∷ word "false" kw.False ∷ word "function" kw.Function ∷ word "if" kw.If ∷ word "match" kw.Match
     ∷ word "return" kw.Return ∷ word "then" kw.Then ∷ word "true" kw.True ∷ []
 
 -- The runs `:` `=>` `=` `#` `@` are keywords unless `//` or `/*` follows directly.
-abbrev pub fiveRuns : List Word
-fiveRuns = word ":" kw.Colon ∷ word "=>" kw.FatArrow ∷ word "=" kw.Assign ∷ word "#" kw.Hash ∷ word "@" kw.At ∷ []
+abbrev pub symbolKeywords : List Word
+symbolKeywords = word ":" kw.Colon ∷ word "=>" kw.FatArrow ∷ word "=" kw.Assign ∷ word "#" kw.Hash ∷ word "@" kw.At ∷ []
 
 unfoldable pub wordOf : List ℕ → Option Kw
-wordOf t = keyword nineWords t
+wordOf t = keyword wordKeywords t
 
 unfoldable pub runOf : List ℕ → Option Kw
-runOf t = keyword fiveRuns t
+runOf t = keyword symbolKeywords t
 
 -- The kinds of pieces. A kind carries no value.
 

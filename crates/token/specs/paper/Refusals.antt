@@ -6,7 +6,7 @@ use mathlib.Core.Logic.{_⊎_}
 use mathlib.Core.List.{List, [], _∷_}
 use lib.ListN.{length}
 use Rattle.chars.specs.paper.Quoted.{between}
-use Rattle.chars.specs.paper.Text.{Char, Text, from, place, head}
+use Rattle.chars.specs.paper.Text.{Char, Text, from, place, headIs}
 use Rattle.chars.specs.paper.Classes.{isIdStart}
 use Rattle.token.specs.paper.Tests.{isAny, opensBlock, endsLine, quote, threeQuotes, backslash, dollarBrace, digit, hexDigit, opSign, notBacktick, apostrophe}
 use Rattle.token.specs.paper.Kinds.{Kind}
@@ -17,7 +17,7 @@ use Rattle.token.specs.paper.Reading.{Piece, Pieces}
 -- backtick, string, character or symbol
 abbrev pub starts : Text → Bool
 starts s =
-    isAny " \t" s || isAny "\n" s || isAny "\r" s || isAny "()[]{},;." s || digit s || head isIdStart s || opSign s || isAny "`" s || quote s
+    isAny " \t" s || isAny "\n" s || isAny "\r" s || isAny "()[]{},;." s || digit s || headIs isIdStart s || opSign s || isAny "`" s || quote s
     || apostrophe s
 
 -- a string opens at o for the piece that starts at s; p: it is prefixed

@@ -7,7 +7,7 @@ use mathlib.Core.Logic.{_⊎_}
 use mathlib.Core.List.{List, [], _∷_, map}
 use mathlib.Core.Option.{none, some}
 use lib.ListN.{length, take, drop}
-use Rattle.chars.specs.paper.Text.{Char, Text, head, idChar}
+use Rattle.chars.specs.paper.Text.{Char, Text, headIs, idChar}
 use Rattle.chars.specs.paper.Classes.{isIdStart}
 use Rattle.token.specs.paper.Tests.{isDigit, isHexDigit, isAny, opensBlock, closesBlock, opensComment, endOfLine, quote, threeQuotes, backslash, dollarBrace, digit, hexDigit, digitValue, hexAhead, longSuffix, opSign, freeSign, notBacktick, apostrophe, plainChar}
 use Rattle.token.specs.paper.Kinds.{Kind, TokenType, isComment, wordOf, runOf}
@@ -132,7 +132,7 @@ Tail s r = (s ≡ r) ⊎ (Run1 (isAny "_") then Run opSign) s r
 
 -- an id start, then chunks, then the tail; longest
 abbrev pub Ident : Shape
-Ident s r = Longest (One (head isIdStart) then Chunks then Tail) s r
+Ident s r = Longest (One (headIs isIdStart) then Chunks then Tail) s r
 
 -- that is no keyword
 abbrev pub PlainIdent : Shape

@@ -7,7 +7,7 @@ use lib.ListN.{drop}
 use lib.Dec.{eqb, leb}
 use Rattle.chars.specs.paper.Quoted.{between, codes, oneOf}
 use Rattle.chars.specs.paper.Classes.{isOpSign, isPrintable}
-use Rattle.chars.specs.paper.Text.{Text, head}
+use Rattle.chars.specs.paper.Text.{Text, headIs}
 
 -- ASCII digits, and hex digits
 unfoldable pub isDigit : ℕ → Bool
@@ -20,7 +20,7 @@ isHexDigit c = isDigit c || between 0x41 0x46 c || between 0x61 0x66 c
 
 -- with one of the quoted characters
 abbrev pub isAny : String → Text → Bool
-isAny t s = head (oneOf t) s
+isAny t s = headIs (oneOf t) s
 
 abbrev pub startsWith : List ℕ → Text → Bool
 startsWith [] s = true
@@ -61,13 +61,13 @@ abbrev pub dollarBrace : Text → Bool
 dollarBrace s = begins "${" s
 
 abbrev pub digit : Text → Bool
-digit s = head isDigit s
+digit s = headIs isDigit s
 
 abbrev pub hexDigit : Text → Bool
-hexDigit s = head isHexDigit s
+hexDigit s = headIs isHexDigit s
 
 abbrev pub opSign : Text → Bool
-opSign s = head isOpSign s
+opSign s = headIs isOpSign s
 
 -- an operator sign that begins neither `//` nor `/*`
 abbrev pub freeSign : Text → Bool
@@ -98,7 +98,7 @@ apostrophe s = isAny "'" s
 
 -- a printable that isn't a backslash
 abbrev pub plainChar : Text → Bool
-plainChar s = head isPrintable s && not (backslash s)
+plainChar s = headIs isPrintable s && not (backslash s)
 
 -- two texts' codes are equal
 abbrev pub same : List ℕ → List ℕ → Bool

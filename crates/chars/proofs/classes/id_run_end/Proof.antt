@@ -8,7 +8,7 @@ use Rattle.chars.specs.paper.Classes.{isIdChar}
 use Rattle.chars.specs.paper.Text.{from, place, idChar}
 use Rattle.chars.specs.computed.Runs.{afterRun}
 use Rattle.chars.proofs.text.Places.{runs-end}
-use Rattle.chars.proofs.classes.Russian.{russian}
+use Rattle.chars.proofs.classes.Cyrillic.{russian}
 use Rattle.chars.proofs.classes.IdRuns.{id-on, id-out, russian-on}
 use Rattle.chars.proofs.classes.id_run_end.Statement.{statement}
 use Rattle.chars.proofs.classes.id_run_end.Tie as tie
@@ -49,39 +49,39 @@ returns c =
     let h = c .before .before .before .before .loop-test .taken in
     id-out s (loop .i) _ h (c .before .before .is-id-byte .ensures) (c .before .if1 .left) (c .if2 .taken) (loop .inv)
 
-russian-at-requires : tie.Need-russian-at-requires Inv-loop μ-loop
-russian-at-requires c κs = search needs
+is-cyrillic-at-requires : tie.Need-is-cyrillic-at-requires Inv-loop μ-loop
+is-cyrillic-at-requires c κs = search needs
 
 -- the rest by the tables
-lend-run-end-requires : tie.Need-lend-run-end-requires Inv-loop μ-loop
-lend-run-end-requires c κs = search needs
+id-run-end-by-tables-requires : tie.Need-id-run-end-by-tables-requires Inv-loop μ-loop
+id-run-end-by-tables-requires c κs = search needs
 
 returns-2 : tie.Need-returns-2 Inv-loop μ-loop
 returns-2 c =
     let s = c .before .before .before .before .before .before .before .before .before .before .args .s .now in
     let loop = c .before .before .before .before .before .before .before .before .loop in
-    c .lend-run-end .ensures ∙ ap (place (length s)) (loop .inv)
+    c .id-run-end-by-tables .ensures ∙ ap (place (length s)) (loop .inv)
 
 -- past a Russian letter
 add-i-2 : tie.Need-add-i-2 Inv-loop μ-loop
 add-i-2 c =
     let s = c .before .before .before .before .before .before .before .before .before .args .s .now in
     let loop = c .before .before .before .before .before .before .before .loop in
-    let w = russian s (loop .i) (c .before .russian-at .ensures) (not-false _ (c .if3 .left)) .within in
+    let w = russian s (loop .i) (c .before .is-cyrillic-at .ensures) (not-false _ (c .if3 .left)) .within in
     omega arith
 
 loop-less-2 : tie.Need-loop-less-2 Inv-loop μ-loop
 loop-less-2 c =
     let s = c .before .before .before .before .before .before .before .before .before .args .s .now in
     let loop = c .before .before .before .before .before .before .before .loop in
-    let w = russian s (loop .i) (c .before .russian-at .ensures) (not-false _ (c .if3 .left)) .within in
+    let w = russian s (loop .i) (c .before .is-cyrillic-at .ensures) (not-false _ (c .if3 .left)) .within in
     omega arith
 
 loop-again-2 : tie.Need-loop-again-2 Inv-loop μ-loop
 loop-again-2 c =
     let s = c .before .before .before .before .before .before .before .before .before .args .s .now in
     let loop = c .before .before .before .before .before .before .before .loop in
-    russian-on s (loop .i) _ (russian s (loop .i) (c .before .russian-at .ensures) (not-false _ (c .if3 .left))) (loop .inv)
+    russian-on s (loop .i) _ (russian s (loop .i) (c .before .is-cyrillic-at .ensures) (not-false _ (c .if3 .left))) (loop .inv)
 
 returns-3 : tie.Need-returns-3 Inv-loop μ-loop
 returns-3 c =
@@ -101,8 +101,8 @@ id-run-end-spec =
     loop-less
     loop-again
     returns
-    russian-at-requires
-    lend-run-end-requires
+    is-cyrillic-at-requires
+    id-run-end-by-tables-requires
     returns-2
     add-i-2
     loop-less-2

@@ -3,9 +3,9 @@ use mathlib.Core.Path.{_≡_, refl, sym, _∙_}
 use native.Mathlib.Omega.{arith}
 use borrow.Author.Needs.{needs}
 use lib.ListN.{length, drop}
-use Rattle.chars.specs.code.Eights.{Within}
+use Rattle.chars.specs.code.Runs.{Within}
 use Rattle.chars.specs.computed.Valid.{validFrom}
-use Rattle.chars.proofs.eights.Laws.{each-join}
+use Rattle.chars.proofs.runs.Laws.{each-join}
 use Rattle.chars.proofs.utf8.Valid.{valid}
 use Rattle.chars.proofs.utf8.Widths.{width-within, valid-stop, valid-next, valid-end, valid-to, valid-two}
 use Rattle.chars.proofs.utf8.valid_prefix.Statement.{statement}

@@ -73,7 +73,7 @@ returns-5 c =
     let if2′ = c .before .before .before .before .before .before .before .before .if2 in
     let if3′ = c .if3 in
     let m = sym (found2′ .given .1) ∙ measure′ .ensures .0 in
-    (judge-fits (args′ .script .now) (args′ .room) (if1′ .left) _ (valid-prefix′ .ensures .0) (if2′ .left) _ _ m (if3′ .left), holds-fits (args′ .script .now) (args′ .small .now) _ _ _ m (measure′ .kept .0) (measure′ .ensures .1))
+    (judge-fits (args′ .script .now) (args′ .room) (if1′ .left) _ (valid-prefix′ .ensures .0) (if2′ .left) _ _ m (if3′ .left), holds-fits (args′ .script .now) (args′ .scratch .now) _ _ _ m (measure′ .kept .0) (measure′ .ensures .1))
 
 pub judge-spec : {M : Type 1} → statement M
 judge-spec =

@@ -1,6 +1,6 @@
 use mathlib.Core.Path.{sym, _∙_}
 use borrow.Author.Needs.{needs}
-use Rattle.entry.specs.paper.TokenText.{textOf}
+use Rattle.entry.specs.paper.TokenText.{tokenText}
 use Rattle.entry.proofs.text.Laws.{text-within}
 use Rattle.entry.proofs.text.token_text.Statement.{statement}
 use Rattle.entry.proofs.text.token_text.Tie as tie
@@ -24,7 +24,7 @@ part-result-end c =
     text-within (args .script .now) (args .start) (args .end) (sym (c .before .has-text .ensures) ∙ c .if1 .taken) .1
 
 returns : tie.Need-returns
-unfolding textOf
+unfolding tokenText
 returns c =
     let has-text = c .before .before .has-text in
     simp (← has-text .ensures, c .before .if1 .taken)
@@ -33,7 +33,7 @@ slice-aggregate-result : tie.Need-slice-aggregate-result
 slice-aggregate-result c = search needs
 
 returns-2 : tie.Need-returns-2
-unfolding textOf
+unfolding tokenText
 returns-2 c =
     let has-text = c .before .before .has-text in
     simp (← has-text .ensures, c .before .if1 .left)

@@ -43,8 +43,8 @@ returns c =
     c .number-end .ensures
     ∙ ap (λ r. pieceOf (length s) (numberOf (from s (a .start)) r)) (read-stop (digitIn b) (digits-ascii b) s (l .i) b (l .v) e ∙ l .inv .3)
 
-shifted-requires : tie.Need-shifted-requires Inv-loop μ-loop
-shifted-requires c κs = let h = base-lies _ (c .before .before .before .before .before .pre .2) in (omega arith, c .before .before .before .before .before .pre .2)
+push-digit-requires : tie.Need-push-digit-requires Inv-loop μ-loop
+push-digit-requires c κs = let h = base-lies _ (c .before .before .before .before .before .pre .2) in (omega arith, c .before .before .before .before .before .pre .2)
 
 enum-known-more : tie.Need-enum-known-more Inv-loop μ-loop
 enum-known-more c = search needs
@@ -63,7 +63,7 @@ returns-2 c =
     let p = digitIn b in
     let w = l .v * b + c .before .before .before .before .digit-of .result in
     let q = ap (λ k. readDigits p b (l .v * b + k) (from s (l .i + 1))) (d ∙ digit-value (getD s (l .i) 0) b e) ∙ read-next p (digits-ascii b) s (l .i) b (l .v) e ∙ l .inv .3 in
-    let o = overs w (sym (c .enum-told .given .1) ∙ c .before .before .shifted .ensures) in
+    let o = overs w (sym (c .enum-told .given .1) ∙ c .before .before .push-digit .ensures) in
     over-read s (a .start) (omega arith) p b (base-some b (c .before .before .before .before .before .before .before .before .pre .2)) w (from s (l .i + 1)) o
     ∙ ap (λ r. pieceOf (length s) (numberOf (from s (a .start)) r)) q
 
@@ -93,7 +93,7 @@ loop-again c =
     let e = digit-taken b (getD s (l .i) 0) (c .before .before .before .before .before .before .before .before .before .pre .2) (omega (arith, c .before .before .before .before .if1 .left)) in
     let p = digitIn b in
     let h = class-at p (digits-ascii b) s (l .i) e .0 in
-    let f = fitted _ (l .v * b + c .before .before .before .before .before .digit-of .result) (sym (c .before .more .given .1) ∙ c .before .before .before .shifted .ensures) in
+    let f = fitted _ (l .v * b + c .before .before .before .before .before .digit-of .result) (sym (c .before .more .given .1) ∙ c .before .before .before .push-digit .ensures) in
     let q = ap (λ k. readDigits p b (l .v * b + k) (from s (l .i + 1))) (d ∙ digit-value (getD s (l .i) 0) b e) ∙ read-next p (digits-ascii b) s (l .i) b (l .v) e ∙ l .inv .3 in
     (omega arith, omega arith, omega arith, ap (λ k. readDigits p b k (from s (l .i + 1))) (f .0) ∙ q)
 
@@ -108,7 +108,7 @@ number-from-spec =
     digit-of-requires
     number-end-requires
     returns
-    shifted-requires
+    push-digit-requires
     enum-known-more
     enum-told
     returns-2

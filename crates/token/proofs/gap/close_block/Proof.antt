@@ -16,8 +16,8 @@ Inv-loop s at inner i₀ depth₀ last i depth = (i ≤ length s) × (depth ≤ 
 abbrev μ-loop : tie.MeasureT-loop
 μ-loop s at inner i₀ depth₀ last i depth = length s - i
 
-skip-neither-requires : tie.Need-skip-neither-requires Inv-loop μ-loop
-skip-neither-requires c κs = search needs
+skip-except-two-requires : tie.Need-skip-except-two-requires Inv-loop μ-loop
+skip-except-two-requires c κs = search needs
 
 sub-last : tie.Need-sub-last Inv-loop μ-loop
 sub-last c =
@@ -26,9 +26,9 @@ sub-last c =
 
 loop-holds : tie.Need-loop-holds Inv-loop μ-loop
 loop-holds c =
-    let skip-neither′ = c .skip-neither in
+    let skip-except-two′ = c .skip-except-two in
     let pre′ = c .before .before .pre in
-    (skip-neither′ .ensures .1 (pre′ .1), omega (arith, pre′ .2, skip-neither′ .ensures .0), refl)
+    (skip-except-two′ .ensures .1 (pre′ .1), omega (arith, pre′ .2, skip-except-two′ .ensures .0), refl)
 
 pair-at-requires : tie.Need-pair-at-requires Inv-loop μ-loop
 pair-at-requires c κs = omega arith
@@ -60,7 +60,7 @@ add-i-2 c = omega arith
 returns : tie.Need-returns Inv-loop μ-loop
 returns c =
     let args′ = c .before .before .before .before .before .before .before .before .args in
-    let skip-neither′ = c .before .before .before .before .before .before .skip-neither in
+    let skip-except-two′ = c .before .before .before .before .before .before .skip-except-two in
     let loop′ = c .before .before .before .before .before .loop in
     let shared-slice-known′ = c .before .before .before .before .before .before .before .shared-slice-known in
     let pair-at′ = c .before .before .before .pair-at in
@@ -68,7 +68,7 @@ returns c =
     let if3′ = c .if3 in
     let pre′ = c .before .before .before .before .before .before .before .before .pre in
     let s = args′ .s .now in
-    let e = skip-neither′ .ensures in
+    let e = skip-except-two′ .ensures in
     let b : getD s (loop′ .i) 0 < 256 = omega (arith, shared-slice-known′ .given (loop′ .i)) in
     let p = star-slash s (loop′ .i) b (pair-at′ .ensures) (if2′ .taken) in
     let q = ap (λ d. close d 0 (from s (loop′ .i))) (sym (if3′ .taken)) ∙ loop′ .inv .2 in
@@ -116,11 +116,11 @@ loop-again-3 c =
 returns-2 : tie.Need-returns-2 Inv-loop μ-loop
 returns-2 c =
     let args′ = c .before .before .before .before .args in
-    let skip-neither′ = c .before .before .skip-neither in
+    let skip-except-two′ = c .before .before .skip-except-two in
     let loop′ = c .before .loop in
     let pre′ = c .before .before .before .before .pre in
     let s = args′ .s .now in
-    let e = skip-neither′ .ensures in
+    let e = skip-except-two′ .ensures in
     block-end s (loop′ .i) _ (loop′ .depth) (omega arith) (loop′ .inv .2 ∙ block-past s (args′ .inner) _ _ (e .0) (e .1 (pre′ .1)) (e .2))
 
 pub close-block-spec : {M : Type 1} → statement M
@@ -129,7 +129,7 @@ close-block-spec =
     (tie.spec
     Inv-loop
     μ-loop
-    skip-neither-requires
+    skip-except-two-requires
     sub-last
     loop-holds
     pair-at-requires

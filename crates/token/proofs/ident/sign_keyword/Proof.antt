@@ -3,7 +3,7 @@ use mathlib.Core.Path.{_≡_, refl, sym, ap, _∙_}
 use mathlib.Core.Bool.{false}
 use borrow.Author.Tests.{ne-eqb}
 use Rattle.chars.specs.paper.Quoted.{codes, oneOf}
-use Rattle.token.specs.paper.Kinds.{fiveRuns}
+use Rattle.token.specs.paper.Kinds.{symbolKeywords}
 use Rattle.token.specs.code.Ident.{keywordOf}
 use Rattle.token.proofs.ident.Words.{one-sign, first-none}
 use borrow.Author.Needs.{needs}
@@ -35,7 +35,7 @@ returns-5 c =
     let x = c .before .byte-at .result in
     let r = c .match .rest in
     let m : oneOf ":=#@" x ≡ false = rw (ne-eqb x 0x3A (r .0 .0 .0 .1), ne-eqb x 0x3D (r .0 .0 .1), ne-eqb x 0x23 (r .0 .1), ne-eqb x 0x40 (r .1)) in
-    sym (ap keywordOf (first-none (codes ":=#@") fiveRuns 1 (c .before .before .before .args .s .now) (c .before .before .before .args .at) refl (ap (oneOf ":=#@") (sym (c .before .byte-at .ensures)) ∙ m)))
+    sym (ap keywordOf (first-none (codes ":=#@") symbolKeywords 1 (c .before .before .before .args .s .now) (c .before .before .before .args .at) refl (ap (oneOf ":=#@") (sym (c .before .byte-at .ensures)) ∙ m)))
 
 pub sign-keyword-spec : {M : Type 1} → statement M
 sign-keyword-spec =

@@ -1,7 +1,7 @@
 -- By the character, if one stands there.
 use mathlib.Core.Path.{sym, ap, _∙_}
 use Rattle.chars.specs.paper.Classes.{isOpSign}
-use Rattle.chars.specs.paper.Text.{head}
+use Rattle.chars.specs.paper.Text.{headIs}
 use Rattle.chars.proofs.text.Places.{at-end, head-at, step-text, step-none}
 use Rattle.token.proofs.ident.Laws.{past-on, past-off}
 use borrow.Author.Needs.{needs}
@@ -21,7 +21,7 @@ returns : tie.Need-returns
 returns c =
     let s = c .before .before .before .before .args .s .now in
     let i = c .before .before .before .before .args .at in
-    past-off isOpSign s i (ap (head isOpSign) (at-end s i (step-none s i (sym (c .enum-told .given .1) ∙ c .before .before .char-at .ensures))))
+    past-off isOpSign s i (ap (headIs isOpSign) (at-end s i (step-none s i (sym (c .enum-told .given .1) ∙ c .before .before .char-at .ensures))))
 
 is-op-char-requires : tie.Need-is-op-char-requires
 is-op-char-requires c κs = search needs

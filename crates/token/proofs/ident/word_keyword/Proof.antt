@@ -6,7 +6,7 @@ use mathlib.Core.Option.{some, none}
 use Prim.Native.Nat.{_-_}
 use borrow.Author.Tests.{ne-eqb}
 use Rattle.chars.specs.paper.Quoted.{member}
-use Rattle.token.specs.paper.Kinds.{nineWords}
+use Rattle.token.specs.paper.Kinds.{wordKeywords}
 use Rattle.token.specs.code.Ident.{keywordOf, keywordAt}
 use Rattle.token.proofs.ident.Words.{word-at, of-two, two-stand, length-none}
 use Rattle.token.specs.declared.kinds.Kw.the-variants as kw
@@ -39,35 +39,35 @@ returns : tie.Need-returns
 returns c =
     let s = c .before .before .before .before .args .s .now in
     let i = c .before .before .before .before .args .start in
-    let q = word-at s i (c .before .before .before .before .args .end) (c .before .before .before .before .pre .0) (c .before .before .before .before .pre .1) (c .before .before .before .before .pre .2) ∙ ap (λ n. keywordAt nineWords n s i) (c .before .before .match .keys1) ∙ of-two s i in
+    let q = word-at s i (c .before .before .before .before .args .end) (c .before .before .before .before .pre .0) (c .before .before .before .before .pre .1) (c .before .before .before .before .pre .2) ∙ ap (λ n. keywordAt wordKeywords n s i) (c .before .before .match .keys1) ∙ of-two s i in
     c .keyword-if .ensures ∙ ap (λ z. keywordOf (cond z (some kw.If) none)) (c .before .two-at .ensures ∙ two-stand 0x69 0x66 s i) ∙ ap keywordOf (sym q)
 
 returns-2 : tie.Need-returns-2
 returns-2 c =
     let s = c .before .before .before .args .s .now in
     let i = c .before .before .before .args .start in
-    let q = word-at s i (c .before .before .before .args .end) (c .before .before .before .pre .0) (c .before .before .before .pre .1) (c .before .before .before .pre .2) ∙ ap (λ n. keywordAt nineWords n s i) (c .before .match .keys2) in
+    let q = word-at s i (c .before .before .before .args .end) (c .before .before .before .pre .0) (c .before .before .before .pre .1) (c .before .before .before .pre .2) ∙ ap (λ n. keywordAt wordKeywords n s i) (c .before .match .keys2) in
     c .word-of-four .ensures ∙ ap keywordOf (sym q)
 
 returns-3 : tie.Need-returns-3
 returns-3 c =
     let s = c .before .before .before .args .s .now in
     let i = c .before .before .before .args .start in
-    let q = word-at s i (c .before .before .before .args .end) (c .before .before .before .pre .0) (c .before .before .before .pre .1) (c .before .before .before .pre .2) ∙ ap (λ n. keywordAt nineWords n s i) (c .before .match .keys3) in
+    let q = word-at s i (c .before .before .before .args .end) (c .before .before .before .pre .0) (c .before .before .before .pre .1) (c .before .before .before .pre .2) ∙ ap (λ n. keywordAt wordKeywords n s i) (c .before .match .keys3) in
     c .word-of-five .ensures ∙ ap keywordOf (sym q)
 
 returns-4 : tie.Need-returns-4
 returns-4 c =
     let s = c .before .before .before .args .s .now in
     let i = c .before .before .before .args .start in
-    let q = word-at s i (c .before .before .before .args .end) (c .before .before .before .pre .0) (c .before .before .before .pre .1) (c .before .before .before .pre .2) ∙ ap (λ n. keywordAt nineWords n s i) (c .before .match .keys4) in
+    let q = word-at s i (c .before .before .before .args .end) (c .before .before .before .pre .0) (c .before .before .before .pre .1) (c .before .before .before .pre .2) ∙ ap (λ n. keywordAt wordKeywords n s i) (c .before .match .keys4) in
     c .word-of-six .ensures ∙ ap keywordOf (sym q)
 
 returns-5 : tie.Need-returns-5
 returns-5 c =
     let s = c .before .before .before .args .s .now in
     let i = c .before .before .before .args .start in
-    let q = word-at s i (c .before .before .before .args .end) (c .before .before .before .pre .0) (c .before .before .before .pre .1) (c .before .before .before .pre .2) ∙ ap (λ n. keywordAt nineWords n s i) (c .before .match .keys5) in
+    let q = word-at s i (c .before .before .before .args .end) (c .before .before .before .pre .0) (c .before .before .before .pre .1) (c .before .before .before .pre .2) ∙ ap (λ n. keywordAt wordKeywords n s i) (c .before .match .keys5) in
     c .word-of-eight .ensures ∙ ap keywordOf (sym q)
 
 returns-6 : tie.Need-returns-6
@@ -79,7 +79,7 @@ returns-6 c =
     let r = c .match .rest in
     let m : member (2 ∷ 4 ∷ 5 ∷ 6 ∷ 8 ∷ []) n ≡ false =
     rw (ne-eqb n 2 (r .0 .0 .0 .0 .1), ne-eqb n 4 (r .0 .0 .0 .1), ne-eqb n 5 (r .0 .0 .1), ne-eqb n 6 (r .0 .1), ne-eqb n 8 (r .1)) in
-    sym (ap keywordOf (word-at s i (c .before .before .args .end) (c .before .before .pre .0) (c .before .before .pre .1) (c .before .before .pre .2) ∙ length-none (2 ∷ 4 ∷ 5 ∷ 6 ∷ 8 ∷ []) nineWords n s i refl m))
+    sym (ap keywordOf (word-at s i (c .before .before .args .end) (c .before .before .pre .0) (c .before .before .pre .1) (c .before .before .pre .2) ∙ length-none (2 ∷ 4 ∷ 5 ∷ 6 ∷ 8 ∷ []) wordKeywords n s i refl m))
 
 pub word-keyword-spec : {M : Type 1} → statement M
 word-keyword-spec =

@@ -2,9 +2,9 @@ use mathlib.Core.Path.{sym, _∙_, ap}
 use native.Mathlib.Omega.{arith}
 use lib.ListN.{length}
 use Rattle.chars.specs.paper.Classes.{isIdStart, isOpSign}
-use Rattle.chars.specs.paper.Text.{from, head}
+use Rattle.chars.specs.paper.Text.{from, headIs}
 use Rattle.chars.proofs.text.Places.{place-from}
-use Rattle.chars.proofs.classes.Russian.{russian}
+use Rattle.chars.proofs.classes.Cyrillic.{russian}
 use Rattle.token.specs.code.Piece.{pieceOf}
 use Rattle.token.specs.declared.piece.Piece.the-variants as piece
 use Rattle.token.proofs.cursor.Laws.{peeked-char, peeked-end}
@@ -13,26 +13,26 @@ use borrow.Author.Needs.{needs}
 use Rattle.token.proofs.lexer.lex_wide_word.Statement.{statement}
 use Rattle.token.proofs.lexer.lex_wide_word.Tie as tie
 
-russian-at-requires : tie.Need-russian-at-requires
-russian-at-requires c κs = search needs
+is-cyrillic-at-requires : tie.Need-is-cyrillic-at-requires
+is-cyrillic-at-requires c κs = search needs
 
 add-t6 : tie.Need-add-t6
 add-t6 c =
     let a = c .before .before .before .before .args in
-    let w = russian (a .s .now) (a .c .at) (c .before .before .russian-at .ensures) (c .before .if1 .taken) .within in
+    let w = russian (a .s .now) (a .c .at) (c .before .before .is-cyrillic-at .ensures) (c .before .if1 .taken) .within in
     omega arith
 
 lex-ident-requires : tie.Need-lex-ident-requires
 lex-ident-requires c κs =
     let a = c .before .before .before .before .args in
-    let r = russian (a .s .now) (a .c .at) (c .before .before .russian-at .ensures) (c .before .if1 .taken) in
+    let r = russian (a .s .now) (a .c .at) (c .before .before .is-cyrillic-at .ensures) (c .before .if1 .taken) in
     (omega arith, r .start, r .within, r .after)
 
 returns : tie.Need-returns
 returns c =
     let a = c .before .before .before .before .before .args in
     let pre = c .before .before .before .before .before .pre in
-    let r = russian (a .s .now) (a .c .at) (c .before .before .before .russian-at .ensures) (c .before .before .if1 .taken) in
+    let r = russian (a .s .now) (a .c .at) (c .before .before .before .is-cyrillic-at .ensures) (c .before .before .if1 .taken) in
     c .lex-ident .ensures ∙ ap (pieceOf (length (a .s .now))) (sym (word-at (a .s .now) (a .c .at) (pre .0) (pre .2) (r .start)))
 
 peek-requires : tie.Need-peek-requires
@@ -63,7 +63,7 @@ lex-ident-requires-2 c κs =
     let here = c .before .before .before .before .here in
     let peek = c .before .before .before .before .before .before .peek in
     let h = peeked-char (args .s .now) (args .c .at) _ _ (sym (here .given .1) ∙ peek .ensures) in
-    (omega arith, ap (head isIdStart) (h .text) ∙ sym (c .before .before .is-id-start .ensures) ∙ c .before .if2 .taken, c .step .ensures .0, c .step .ensures .1)
+    (omega arith, ap (headIs isIdStart) (h .text) ∙ sym (c .before .before .is-id-start .ensures) ∙ c .before .if2 .taken, c .step .ensures .0, c .step .ensures .1)
 
 returns-3 : tie.Need-returns-3
 returns-3 c =
@@ -74,7 +74,7 @@ returns-3 c =
     let pre = c .before .before .before .before .before .before .before .before .before .before .before .pre in
     let s = args .s .now in
     let h = peeked-char s (args .c .at) _ _ (sym (here .given .1) ∙ peek .ensures) in
-    let e = ap (head isIdStart) (h .text) ∙ sym (is-id-start .ensures) ∙ c .before .before .if2 .taken in
+    let e = ap (headIs isIdStart) (h .text) ∙ sym (is-id-start .ensures) ∙ c .before .before .if2 .taken in
     c .lex-ident2 .ensures ∙ ap (pieceOf (length s)) (sym (word-at s (args .c .at) (pre .0) (pre .2) e))
 
 is-op-char-requires : tie.Need-is-op-char-requires
@@ -92,7 +92,7 @@ returns-4 c =
     let pre = c .before .before .before .before .before .before .before .before .before .before .before .before .pre in
     let s = args .s .now in
     let h = peeked-char s (args .c .at) _ _ (sym (here .given .1) ∙ peek .ensures) in
-    let e = ap (head isOpSign) (h .text) ∙ sym (is-op-char .ensures) ∙ c .before .if3 .taken in
+    let e = ap (headIs isOpSign) (h .text) ∙ sym (is-op-char .ensures) ∙ c .before .if3 .taken in
     c .lex-op-run .ensures ∙ ap (pieceOf (length s)) (sym (operator-at s (args .c .at) (pre .0) (pre .2) e))
 
 returns-5 : tie.Need-returns-5
@@ -106,15 +106,15 @@ returns-5 c =
     let pre = c .before .before .before .before .before .before .before .before .before .before .before .pre in
     let s = args .s .now in
     let h = peeked-char s (args .c .at) _ _ (sym (here .given .1) ∙ peek .ensures) in
-    let a = ap (head isIdStart) (h .text) ∙ sym (is-id-start .ensures) ∙ if2 .left in
-    let b = ap (head isOpSign) (h .text) ∙ sym (c .before .is-op-char .ensures) ∙ c .if3 .left in
+    let a = ap (headIs isIdStart) (h .text) ∙ sym (is-id-start .ensures) ∙ if2 .left in
+    let b = ap (headIs isOpSign) (h .text) ∙ sym (c .before .is-op-char .ensures) ∙ c .if3 .left in
     sym (ap (pieceOf (length s)) (other-at (length s) (from s (args .c .at)) (pre .2) (pre .1) a b) ∙ ap (piece.Refused 3) (place-from s (args .c .at) (omega arith)))
 
 pub lex-wide-word-spec : {M : Type 1} → statement M
 lex-wide-word-spec =
     tie.close
     (tie.spec
-    russian-at-requires
+    is-cyrillic-at-requires
     add-t6
     lex-ident-requires
     returns

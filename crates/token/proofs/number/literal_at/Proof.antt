@@ -14,8 +14,8 @@ use Rattle.token.proofs.number.literal_at.Tie as tie
 byte-at-requires : tie.Need-byte-at-requires
 byte-at-requires c κs = search needs
 
-digit-by-requires : tie.Need-digit-by-requires
-digit-by-requires c κs = search needs
+hex-value-requires : tie.Need-hex-value-requires
+hex-value-requires c κs = search needs
 
 returns : tie.Need-returns
 returns c = (λ h. absurd (omega arith), λ h. absurd (omega arith))
@@ -34,7 +34,7 @@ unfolding digitIn
 returns-3 c =
     let a = c .before .before .before .before .before .before .before .before .args in
     let s = a .s .now in
-    let d = c .before .before .before .before .before .digit-by .ensures ∙ ap digitOf (c .before .before .before .before .before .before .byte-at .ensures) in
+    let d = c .before .before .before .before .before .hex-value .ensures ∙ ap digitOf (c .before .before .before .before .before .before .byte-at .ensures) in
     let e = digit-taken 10 (getD s (a .at) 0) (inl refl) (omega (arith, c .before .before .before .before .if1 .left)) in
     let k = class-at (digitIn 10) (digits-ascii 10) s (a .at) e .0 in
     let r = c .before .before .before .digits-at .ensures (c .before .if2 .left) in
@@ -45,7 +45,7 @@ literal-at-spec =
     tie.close
     (tie.spec
     byte-at-requires
-    digit-by-requires
+    hex-value-requires
     returns
     digits-at-requires
     returns-2

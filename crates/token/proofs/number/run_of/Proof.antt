@@ -22,11 +22,11 @@ abbrev μ-loop : tie.MeasureT-loop
 loop-holds : tie.Need-loop-holds Inv-loop μ-loop
 loop-holds c = (c .before .pre .1, omega arith, refl)
 
-shared-slice-read-digit-by : tie.Need-shared-slice-read-digit-by Inv-loop μ-loop
-shared-slice-read-digit-by c = search needs
+shared-slice-read-hex-value : tie.Need-shared-slice-read-hex-value Inv-loop μ-loop
+shared-slice-read-hex-value c = search needs
 
-digit-by-requires : tie.Need-digit-by-requires Inv-loop μ-loop
-digit-by-requires c κs = c .before .before .before .before .pre .3
+hex-value-requires : tie.Need-hex-value-requires Inv-loop μ-loop
+hex-value-requires c κs = c .before .before .before .before .pre .3
 
 returns : tie.Need-returns Inv-loop μ-loop
 returns c =
@@ -35,7 +35,7 @@ returns c =
     let l = c .before .before .before .before .loop in
     let s = a .s .now in
     let b = a .base in
-    let d = c .before .digit-by .ensures in
+    let d = c .before .hex-value .ensures in
     let e = digit-stops b (getD s (l .i) 0) h (omega (arith, c .if1 .taken)) in
     λ k. (l .inv .0, l .inv .1, read-stop (digitIn b) (digits-ascii b) s (l .i) b (l .v) e ∙ l .inv .2)
 
@@ -55,7 +55,7 @@ add-v c =
     let h = c .before .before .before .before .before .before .before .pre .2 in
     let l = c .before .before .before .before .before .loop in
     let m = base-lies _ h in
-    omega (arith, safe (a .base) (l .v) (c .before .before .digit-by .result) h (c .if2 .left) (omega (arith, c .before .if1 .left)))
+    omega (arith, safe (a .base) (l .v) (c .before .before .hex-value .result) h (c .if2 .left) (omega (arith, c .before .if1 .left)))
 
 add-i : tie.Need-add-i Inv-loop μ-loop
 add-i c = omega (arith, c .before .before .before .before .loop-test .taken)
@@ -71,8 +71,8 @@ loop-again c =
     let k = c .before .before .before .before .loop-test .taken in
     let s = a .s .now in
     let b = a .base in
-    let r = c .before .before .digit-by .result in
-    let d = c .before .before .digit-by .ensures in
+    let r = c .before .before .hex-value .result in
+    let d = c .before .before .hex-value .ensures in
     let e = digit-taken b (getD s (l .i) 0) h (omega (arith, c .before .if1 .left)) in
     let p = digitIn b in
     let m = base-lies _ h in
@@ -93,8 +93,8 @@ run-of-spec =
     Inv-loop
     μ-loop
     loop-holds
-    shared-slice-read-digit-by
-    digit-by-requires
+    shared-slice-read-hex-value
+    hex-value-requires
     returns
     returns-2
     mul-v

@@ -8,7 +8,7 @@ use borrow.Author.Needs.{needs}
 use borrow.Author.Tests.{ltb-true, ltb-false, not-true, not-false}
 use lib.Dec.{ltb}
 use lib.ListN.{length, getD}
-use Rattle.chars.specs.paper.Text.{from, head}
+use Rattle.chars.specs.paper.Text.{from, headIs}
 use Rattle.chars.specs.computed.Runs.{afterRun}
 use Rattle.token.specs.code.String.{isOrdinary}
 use Rattle.token.proofs.string.Laws.{walk-on, skips, ordinary-byte, skip-stop, skip-end, skip-past}
@@ -16,7 +16,7 @@ use Rattle.token.proofs.string.skip_ordinary.Statement.{statement}
 use Rattle.token.proofs.string.skip_ordinary.Tie as tie
 
 abbrev Inv-loop : tie.InvT-loop
-Inv-loop s at i₀ i = (i₀ ≤ i) × (i ≤ length s) × (afterRun (head isOrdinary) (from s i) ≡ afterRun (head isOrdinary) (from s i₀))
+Inv-loop s at i₀ i = (i₀ ≤ i) × (i ≤ length s) × (afterRun (headIs isOrdinary) (from s i) ≡ afterRun (headIs isOrdinary) (from s i₀))
 
 abbrev μ-loop : tie.MeasureT-loop
 μ-loop s at i₀ i = length s - i
@@ -28,10 +28,10 @@ is-ordinary-requires : tie.Need-is-ordinary-requires Inv-loop μ-loop
 is-ordinary-requires c κs = search needs
 
 -- where no ordinary byte stands the run is empty
-stays : (s : List ℕ) (i : ℕ) → isOrdinary (getD s i 0) ≡ false → from s i ≡ afterRun (head isOrdinary) (from s i)
+stays : (s : List ℕ) (i : ℕ) → isOrdinary (getD s i 0) ≡ false → from s i ≡ afterRun (headIs isOrdinary) (from s i)
 stays s i e = go (ltb i (length s)) refl
   where
-    go : (b : Bool) → ltb i (length s) ≡ b → from s i ≡ afterRun (head isOrdinary) (from s i)
+    go : (b : Bool) → ltb i (length s) ≡ b → from s i ≡ afterRun (headIs isOrdinary) (from s i)
     go true q = skip-stop s i (ltb-true i (length s) q) e
     go false q = skip-end s i (ltb-false i (length s) q)
 
@@ -41,11 +41,11 @@ returns c =
     let e = ap isOrdinary (sym (c .before .before .byte-at .ensures)) ∙ sym (c .before .is-ordinary .ensures) ∙ not-true _ (c .if1 .taken) in
     (omega arith, c .before .before .before .before .pre, stays (a .s .now) (a .c .at) e)
 
-skip-others-requires : tie.Need-skip-others-requires Inv-loop μ-loop
-skip-others-requires c κs = search needs
+skip-except-four-requires : tie.Need-skip-except-four-requires Inv-loop μ-loop
+skip-except-four-requires c κs = search needs
 
 loop-holds : tie.Need-loop-holds Inv-loop μ-loop
-loop-holds c = (omega arith, c .skip-others .ensures .1 (c .before .before .before .before .before .pre), refl)
+loop-holds c = (omega arith, c .skip-except-four .ensures .1 (c .before .before .before .before .before .pre), refl)
 
 shared-slice-read-is-ordinary : tie.Need-shared-slice-read-is-ordinary Inv-loop μ-loop
 shared-slice-read-is-ordinary c = c .before .loop-test .taken
@@ -58,7 +58,7 @@ returns-2 c =
     let s = c .before .before .before .before .before .before .before .before .before .before .args .s .now in
     let h = c .before .before .before .loop-test .taken in
     let loop = c .before .before .before .before .loop .inv in
-    let e = c .before .before .before .before .before .skip-others .ensures in
+    let e = c .before .before .before .before .before .skip-except-four .ensures in
     let l = e .1 (c .before .before .before .before .before .before .before .before .before .before .pre) in
     let stop = skip-stop s _ h (sym (c .before .is-ordinary2 .ensures) ∙ not-true _ (c .if2 .taken)) in
     (omega (arith, loop .0, e .0), loop .1, stop ∙ loop .2 ∙ skip-past s _ _ (e .0) l (e .2))
@@ -81,7 +81,7 @@ returns-3 : tie.Need-returns-3 Inv-loop μ-loop
 returns-3 c =
     let s = c .before .before .before .before .before .before .before .args .s .now in
     let loop = c .before .loop .inv in
-    let e = c .before .before .skip-others .ensures in
+    let e = c .before .before .skip-except-four .ensures in
     let l = e .1 (c .before .before .before .before .before .before .before .pre) in
     (omega (arith, loop .0, e .0), loop .1, skip-end s _ (c .loop-test .left) ∙ loop .2 ∙ skip-past s _ _ (e .0) l (e .2))
 
@@ -94,7 +94,7 @@ skip-ordinary-spec =
     byte-at-requires
     is-ordinary-requires
     returns
-    skip-others-requires
+    skip-except-four-requires
     loop-holds
     shared-slice-read-is-ordinary
     is-ordinary-requires-2
