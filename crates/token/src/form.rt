@@ -15,7 +15,7 @@ ghost use lib.ListN.{length, take};
 ghost use lib.Seq.{sets};
 ghost use Rattle.token.specs.paper.Records.{fieldsOf, headLength, mostLength};
 ghost use Rattle.words.specs.Words.{le8};
-ghost use Rattle.token.specs.code.Form.{Known, byForm, valuesAt, heldAt, Bounds};
+ghost use Rattle.token.specs.code.Form.{Known, byForm, valuesAt, heldAt};
 ghost use Rattle.token.specs.code.Records.{storedIf};
 
 // Length, kind, start, end and cut.
@@ -101,7 +101,6 @@ fn read_values(bytes: &[u8], at: usize, size: u64) -> u64
 pub fn read_record(bytes: &[u8], at: usize) -> Held
     requires { ⌜ at + mostLength ≤ 18446744073709551615 ⌝ }
     ensures { λ r. ⌜ r ≡ heldAt (now (bytes .entry)) at ⌝ }
-    ensures { λ r. ⌜ Bounds r ⌝ }
 {
     let length = two(bytes, at);
     Held {

@@ -57,14 +57,6 @@ heldAt bytes at =
       cut = oneAt bytes (at + 12);
     }
 
--- how large each number can be
-pub record Bounds (held : Held) : Type 0 where
-  pub number : held .number < 65536
-  pub length : held .length < 65536
-  pub start : held .start < 4294967296
-  pub end : held .end < 4294967296
-  pub cut : held .cut < 256
-
 -- what a record from a to e can hold: each number fits its bytes
 pub record Storable (f : Form) (a e : ℕ) : Type 0 where
   pub known : Known (f .length)

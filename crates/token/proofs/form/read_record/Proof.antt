@@ -43,13 +43,13 @@ one-requires c κs = search needs
 returns : tie.Need-returns
 unfolding heldAt
 returns c =
-    let length = c .before .before .before .before .before .two .ensures in
-    let number = c .before .before .before .before .two2 .ensures in
+    let length = c .before .before .before .before .before .two .ensures .0 in
+    let number = c .before .before .before .before .two2 .ensures .0 in
     let values = c .before .before .before .read-values .ensures in
-    let start = c .before .before .four .ensures in
-    let end = c .before .four2 .ensures in
-    let cut = c .one .ensures in
-    (simp (values, length .0, number .0, start .0, end .0, cut .0), record { number = number .1; length = length .1; start = start .1; end = end .1; cut = cut .1 })
+    let start = c .before .before .four .ensures .0 in
+    let end = c .before .four2 .ensures .0 in
+    let cut = c .one .ensures .0 in
+    simp (values, length, number, start, end, cut)
 
 pub read-record-spec : {M : Type 1} → statement M
 read-record-spec =
