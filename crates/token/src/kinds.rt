@@ -132,16 +132,16 @@ impl TokenKind {
 
     pub const EOF: u16 = 18;
 
-    // The length of a record, all of it: 13 bytes without values.
+    // The length of a record, all of it: 13 bytes without values. With them:
     pub const HEAD_LENGTH: u16 = 13;
 
-    pub const INT_LIT_LENGTH: u16 = 17;
+    pub const INT_LIT_LENGTH: u16 = TokenKind::HEAD_LENGTH + 4;
 
-    pub const LONG_LIT_LENGTH: u16 = 21;
+    pub const LONG_LIT_LENGTH: u16 = TokenKind::HEAD_LENGTH + 8;
 
-    pub const STR_LENGTH: u16 = 21;
+    pub const STR_LENGTH: u16 = TokenKind::HEAD_LENGTH + 8;
 
-    pub const NEWLINE_LENGTH: u16 = 14;
+    pub const NEWLINE_LENGTH: u16 = TokenKind::HEAD_LENGTH + 1;
 
     pub fn form(self) -> Form
         ensures { λ r. ⌜ r ≡ formOf self ⌝ }
