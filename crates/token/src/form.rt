@@ -13,9 +13,9 @@ ghost use mathlib.Core.Path.{_≡_};
 ghost use Prim.Native.Nat.{_+_, _-_, _≤_};
 ghost use lib.ListN.{length, take};
 ghost use lib.Seq.{sets};
-ghost use Rattle.token.specs.paper.Records.{fieldsOf, headLength, mostLength};
+ghost use Rattle.token.specs.paper.Records.{fieldsOf, headLength};
+ghost use Rattle.token.specs.code.Form.{mostLength, Known, byForm, valuesAt, heldAt};
 ghost use Rattle.words.specs.Words.{le8};
-ghost use Rattle.token.specs.code.Form.{Known, byForm, valuesAt, heldAt};
 ghost use Rattle.token.specs.code.Records.{storedIf};
 
 // Length, kind, start, end and cut.

@@ -34,6 +34,7 @@ values-back v rest Known.head h = omega arith
 values-back v rest Known.line h = ap (λ l. oneAt (l ++ rest) 0) (take-one v) ∙ mod-eq-of-lt h
 values-back v rest Known.int h = ap (λ l. fourAt (l ++ rest) 0) (take-four v) ∙ four-le4 (v % 4294967296) rest (omega arith) ∙ omega arith
 values-back v rest Known.long h = ap (λ l. eightAt (l ++ rest) 0) (take-eight v) ∙ eight-le8 v rest h
+values-back v rest Known.str h = ap (λ l. eightAt (l ++ rest) 0) (take-eight v) ∙ eight-le8 v rest h
 
 -- For whoever reads stored records: a record that is stored, whatever follows it, is read as it was.
 pub read-back : (f : Form) (start end : ℕ) (cut : Bool) (rest : List ℕ) → Storable f start end
@@ -58,6 +59,7 @@ values-again [] Known.line h k = absurd (omega arith)
 values-again (x ∷ l) Known.line h k = take-one x ∙ rw (mod-eq-of-lt (h 0))
 values-again l Known.int h k = take-four (fourAt l 0) ∙ low-four (fourAt l 0) ∙ le4-four l h (omega arith)
 values-again l Known.long h k = take-eight (eightAt l 0) ∙ le8-eight l h (omega arith)
+values-again l Known.str h k = take-eight (eightAt l 0) ∙ le8-eight l h (omega arith)
 
 bit-again : (c : ℕ) → c ≤ 1 → bit (eqb c 1) ≡ c
 bit-again zero h = refl

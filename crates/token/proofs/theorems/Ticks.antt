@@ -31,7 +31,7 @@ pub record Fell (s : Text) (f : Found) : Type 0 where
   pub found : f ≡ Found.stuck number rest
   pub met : Met s number rest
 
--- a test of the first character of a text that a headIs test implies another
+-- a test of the first character of a text that a test of the first character implies another
 head-other : (p q : ℕ → Bool) → ((c : ℕ) → p c ≡ true → q c ≡ false) → (s : Text) → headIs p s ≡ true → headIs q s ≡ false
 head-other p q f [] e = clash e
 head-other p q f (c ∷ s) e = f (c .code) e

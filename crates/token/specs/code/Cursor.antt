@@ -17,5 +17,3 @@ peekedOf n (c ∷ r) = peeked.Char (c .code) (cursorAt (place n r))
 
 unfoldable pub peekAt : List ℕ → ℕ → Peeked
 peekAt s i = peekedOf (length s) (from s i)
-
--- ---- a plain string's content, quotes taken off by eights

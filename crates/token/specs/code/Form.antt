@@ -5,7 +5,7 @@ use mathlib.Core.List.{List, [], _∷_, _++_}
 use lib.Dec.{eqb}
 use lib.ListN.{length, take}
 use Rattle.token.specs.paper.Kinds.{kindNumber}
-use Rattle.token.specs.paper.Records.{Value, one, four, eight, valuesOf, headLength, intLength, longLength, lineLength, recordLength, fieldsOf}
+use Rattle.token.specs.paper.Records.{Value, one, four, eight, valuesOf, headLength, intLength, longLength, strLength, lineLength, recordLength, fieldsOf}
 use Rattle.words.specs.Joins.{Bytes}
 use Rattle.words.specs.Words.{le8, oneAt, twoAt, fourAt, eightAt}
 use Rattle.token.specs.declared.kinds.TokenKind.{TokenKind}
@@ -27,12 +27,17 @@ formOf k = record { number = kindNumber k; length = recordLength k; values = joi
 abbrev pub plainForm : ℕ → Form
 plainForm number = record { number = number; length = headLength; values = 0 }
 
+-- no record is longer
+abbrev pub mostLength : ℕ
+mostLength = longLength
+
 -- the lengths that records have
 pub data Known : ℕ → Type 0 where
   head : Known headLength
   line : Known lineLength
   int : Known intLength
   long : Known longLength
+  str : Known strLength
 
 -- the first 13 bytes, then as many bytes of the values as the length has
 unfoldable pub byForm : Form → ℕ → ℕ → Bool → List ℕ

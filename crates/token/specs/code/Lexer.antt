@@ -1,5 +1,6 @@
 -- One step of the code's walk: the next token, line end or end of script, past blanks and comments.
 use Prim.Native.Nat.{ℕ, zero, suc, _-_}
+use Prim.Native.String.{String}
 use mathlib.Core.Bool.{Bool}
 use mathlib.Core.List.{[], _∷_}
 use lib.ListN.{length}
@@ -55,3 +56,7 @@ passedOf n g (Found.stuck j q) = passed.Open
 abbrev pub refusedOf : Piece → Next
 refusedOf (piece.Token k c) = next.Refused 3 0
 refusedOf (piece.Refused j a) = next.Refused j a
+
+-- the ASCII characters with which a piece other than an identifier or an operator starts
+abbrev pub wordless : String
+wordless = " \t\n\r()[]{},;.0123456789`\"'"
