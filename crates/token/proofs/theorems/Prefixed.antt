@@ -159,7 +159,7 @@ backtick-stands n (b ∷ c ∷ u) e = go (back (c ∷ u)) refl
           rest = r;
           found = or-token n tk.BacktickId s r q;
           shape = (k, q);
-          valued = Valued.backtickId;
+          valued = Valued.bare refl;
         })
 
     name : back (c ∷ u) ≡ false → (m : Text) → afterRun notBacktick (c ∷ u) ≡ m → Run notBacktick (c ∷ u) m → Answer
