@@ -120,7 +120,7 @@ tick-stands n (t ∷ m) e = go (backslash m) refl
     Answer = Stood n (t ∷ m) (scanCharSym (t ∷ m)) ⊎ Fell (t ∷ m) (scanCharSym (t ∷ m))
 
     stood : (r : Text) → scanCharSym (t ∷ m) ≡ Found.token tk.CharSym r → TokenShape TokenType.charSym (t ∷ m) r → Stood n (t ∷ m) (scanCharSym (t ∷ m))
-    stood r f h = record { type = TokenType.charSym; token = tk.CharSym; rest = r; found = f; shape = h; valued = Valued.charSym }
+    stood r f h = record { type = TokenType.charSym; token = tk.CharSym; rest = r; found = f; shape = h; valued = Valued.bare refl }
 
     -- an escape
     closes : (b : Bool) → backslash m ≡ true → (g : Good m) → apostrophe (drop (g .count) (drop 1 m)) ≡ b → Answer

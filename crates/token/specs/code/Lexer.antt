@@ -52,7 +52,8 @@ passedOf n g (Found.gap k r) = passed.To (cursorAt (place n r)) (push k g)
 passedOf n g (Found.token k r) = passed.Open
 passedOf n g (Found.stuck j q) = passed.Open
 
--- a refusal of a piece
+-- A refusal of a piece. The first line stands for a case that cannot come: it is asked of a piece that was refused, so its 3 is no refusal of
+-- the script.
 abbrev pub refusedOf : Piece → Next
 refusedOf (piece.Token k c) = next.Refused 3 0
 refusedOf (piece.Refused j a) = next.Refused j a
