@@ -20,7 +20,7 @@ use Rattle.token.specs.paper.Shapes.{valueFrom}
 use Rattle.token.specs.computed.Answer.{Found, read, readDigits, numberOf, scanNumber}
 use Rattle.token.specs.code.Cursor.{cursorAt}
 use Rattle.token.specs.code.Piece.{pieceOf}
-use Rattle.token.specs.code.Digits.{digitIn, digitOf, upTo, valueOf, intOr}
+use Rattle.token.specs.code.Digits.{digitIn, digitOf, afterUpTo, valueOf, intOr}
 use Rattle.token.specs.declared.kinds.TokenKind.the-variants as tk
 use Rattle.token.specs.declared.piece.Piece.the-variants as piece
 use Rattle.token.specs.declared.digits.Value.the-variants as value
@@ -144,14 +144,14 @@ module _ (base b : ℕ) (h : (base ≡ 10) ⊎ (base ≡ 16)) where
 -- ---- runs of a class
 
 module _ (p : ℕ → Bool) where
-  none-up : (m : ℕ) (t : Text) → headIs p t ≡ false → upTo p m t ≡ t
-  unfolding upTo
+  none-up : (m : ℕ) (t : Text) → headIs p t ≡ false → afterUpTo p m t ≡ t
+  unfolding afterUpTo
   none-up zero t e = refl
   none-up (suc m) [] e = refl
-  none-up (suc m) (c ∷ t) e = rw (e, upTo)
+  none-up (suc m) (c ∷ t) e = rw (e, afterUpTo)
 
-  pub up-full : (m : ℕ) (t : Text) → m ≤ 0 → upTo p m t ≡ t
-  unfolding upTo
+  pub up-full : (m : ℕ) (t : Text) → m ≤ 0 → afterUpTo p m t ≡ t
+  unfolding afterUpTo
   up-full zero t h = refl
   up-full (suc m) t h = absurd (omega arith)
 
@@ -174,15 +174,15 @@ module _ (p : ℕ → Bool) (a : Ascii p) where
     pub class-at : p (getD s i 0) ≡ true → (i < length s) × (from s i ≡ record { code = getD s i 0; at = i } ∷ from s (i + 1))
     class-at e = let h = low (getD s i 0) e in let k = inside s i (h .0) in (k, at-ascii s i k (h .1))
 
-    pub up-stop : (m : ℕ) → p (getD s i 0) ≡ false → upTo p m (from s i) ≡ from s i
+    pub up-stop : (m : ℕ) → p (getD s i 0) ≡ false → afterUpTo p m (from s i) ≡ from s i
     up-stop m e = none-up p m (from s i) (head-byte p a s i ∙ e)
 
-    pub up-next : (m : ℕ) → 1 ≤ m → p (getD s i 0) ≡ true → upTo p (m - 1) (from s (i + 1)) ≡ upTo p m (from s i)
-    unfolding upTo
+    pub up-next : (m : ℕ) → 1 ≤ m → p (getD s i 0) ≡ true → afterUpTo p (m - 1) (from s (i + 1)) ≡ afterUpTo p m (from s i)
+    unfolding afterUpTo
     up-next zero h e = absurd (omega arith)
     up-next (suc m) h e =
         let z : suc m - 1 ≡ m = omega arith in
-        rw z (sym (ap (upTo p (suc m)) (class-at e .1) ∙ rw (e, upTo)))
+        rw z (sym (ap (afterUpTo p (suc m)) (class-at e .1) ∙ rw (e, afterUpTo)))
 
     pub read-next : (base v : ℕ) → p (getD s i 0) ≡ true
         → readDigits p base (v * base + digitValue (getD s i 0)) (from s (i + 1)) ≡ readDigits p base v (from s i)

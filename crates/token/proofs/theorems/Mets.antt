@@ -19,7 +19,7 @@ use Rattle.token.specs.paper.Tests.{isDigit, isHexDigit, isAny, begins, 
 use Rattle.token.specs.paper.Shapes.{One, Run, Times, both, Single, singleChar, tripleChar, Block, Name}
 use Rattle.token.specs.paper.Refusals.{BadEscape, Opens, InSingle, InTriple, WithinSingle, Met, GivesWay, First}
 use Rattle.token.specs.computed.Flags.{GapKind}
-use Rattle.token.specs.computed.Answer.{Found, Start, startOf, starts, scan, scanReturn, scanBlock, scanString, plainOf, escapedOf, scanCharSym, afterIdent, broken, hexes, afterSlash, wrong, closePlain, closePrefixed, closeTriple, closeString}
+use Rattle.token.specs.computed.Answer.{Found, Start, startOf, starts, scan, scanReturn, scanBlock, scanString, plainOf, escapedOf, scanCharSym, afterIdent, broken, exactHexes, afterSlash, wrong, closePlain, closePrefixed, closeTriple, closeString}
 use Rattle.token.specs.declared.kinds.TokenKind.the-variants as tk
 use Rattle.token.proofs.theorems.Runs.{run1-finds, run-suffix}
 use Rattle.token.proofs.theorems.Numbers.{one-drop, one-found, text-found, six-found}
@@ -46,12 +46,12 @@ clear-quote s e = clear-head (oneOf "\"") refl s (sym (quote-any s) ∙ e)
 
 -- ---- 12 to 14
 
-hexes-lack : (m k : ℕ) {n : ℕ} {s q : Text} → Times hexDigit n s q → n < m → hexDigit q ≡ false → hexes m k s ≡ broken 13 q
-unfolding hexes
+hexes-lack : (m k : ℕ) {n : ℕ} {s q : Text} → Times hexDigit n s q → n < m → hexDigit q ≡ false → exactHexes m k s ≡ broken 13 q
+unfolding exactHexes
 hexes-lack zero k w l e = absurd (omega arith)
 hexes-lack (suc m) k (Times.done {s}) l e = go s e
   where
-    go : (s : Text) → hexDigit s ≡ false → hexes (suc m) k s ≡ broken 13 s
+    go : (s : Text) → hexDigit s ≡ false → exactHexes (suc m) k s ≡ broken 13 s
     go [] e = refl
     go (c ∷ s) e = rw e
 hexes-lack (suc m) k (Times.more {n} {c} {s} f w) l e = rw f (hexes-lack m (suc k) w (omega arith) e)

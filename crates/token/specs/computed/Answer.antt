@@ -85,11 +85,11 @@ pub data Esc : Type 0 where
   broken : ℕ → Text → Esc
 
 -- n hex digits, after k characters
-unfoldable pub hexes : ℕ → ℕ → Text → Esc
-hexes zero k s = unbroken k
-hexes (suc n) k [] = broken 13 []
-hexes (suc n) k (c ∷ s) =
-    let more = hexes n (suc k) s in
+unfoldable pub exactHexes : ℕ → ℕ → Text → Esc
+exactHexes zero k s = unbroken k
+exactHexes (suc n) k [] = broken 13 []
+exactHexes (suc n) k (c ∷ s) =
+    let more = exactHexes n (suc k) s in
     cond (isHexDigit (c .code)) more (broken 13 (c ∷ s))
 
 -- at most n digits more, after k characters
@@ -104,7 +104,7 @@ unfoldable pub afterSlash : Text → Esc
 afterSlash [] = broken 12 []
 afterSlash (c ∷ s) =
     let number = unbroken (digitsUpTo 2 1 s) in
-    let unicode = hexes 4 1 s in
+    let unicode = exactHexes 4 1 s in
     cond (isAny "btnfr'\"]" (c ∷ s)) (unbroken 1) (cond (isDigit (c .code)) number (cond (isAny "u" (c ∷ s)) unicode (broken 14 (c ∷ s))))
 
 -- ---- strings: from behind the opening, what follows the string, or its refusal
