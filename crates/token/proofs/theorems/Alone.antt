@@ -13,6 +13,8 @@ use Rattle.token.specs.paper.Kinds.{Kind, TokenType, isComment, isLineEn
 use Rattle.token.specs.paper.Reading.{Piece, endsQuote, Content, Valued, Tokens}
 use Rattle.token.specs.paper.Records.{recordLength, recordOf, records, recordBytes}
 use Rattle.token.specs.declared.kinds.TokenKind.{TokenKind}
+use Rattle.token.specs.declared.kinds.TokenKind.the-variants as tk
+use Rattle.token.proofs.theorems.Numbers.{one-value}
 use Rattle.token.proofs.theorems.Contents.{ends-snoc}
 use Rattle.token.proofs.form.Stores.{length-record}
 
@@ -67,8 +69,8 @@ valued-one : {n : ℕ} {s r : Text} {y : TokenType} {t u : TokenKind} → Valued
 valued-one Valued.ident Valued.ident = refl
 valued-one Valued.opId Valued.opId = refl
 valued-one Valued.backtickId Valued.backtickId = refl
-valued-one Valued.intLit Valued.intLit = refl
-valued-one Valued.longLit Valued.longLit = refl
+valued-one (Valued.intLit h) (Valued.intLit k) = ap tk.IntLit (one-value false h k)
+valued-one (Valued.longLit h) (Valued.longLit k) = ap tk.LongLit (one-value true h k)
 valued-one (Valued.prefixed e) (Valued.prefixed f) = refl
 valued-one (Valued.prefixed e) (Valued.plain f w) = clash (sym e ∙ f)
 valued-one (Valued.plain f w) (Valued.prefixed e) = clash (sym e ∙ f)

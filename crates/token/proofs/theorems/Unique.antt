@@ -42,8 +42,8 @@ valued-kind : {n : ℕ} {s r : Text} {y : TokenType} {t : TokenKind} → Valued 
 valued-kind Valued.ident = refl
 valued-kind Valued.opId = refl
 valued-kind Valued.backtickId = refl
-valued-kind Valued.intLit = refl
-valued-kind Valued.longLit = refl
+valued-kind (Valued.intLit h) = refl
+valued-kind (Valued.longLit h) = refl
 valued-kind (Valued.prefixed e) = refl
 valued-kind (Valued.plain e c) = refl
 valued-kind Valued.charSym = refl

@@ -86,13 +86,13 @@ newline-bytes mark a e ts m k b l = omega arith
 token-bytes : (k : TokenType) (t : TokenKind) (s r : Text) (n : ℕ) (x y : Text) → Stands (Kind.token k) s r → Valued n x y k t
     → recordLength t + perByte * length r ≤ perByte * length s
 unfolding recordLength values le4 le8
-token-bytes k t s r n x y h Valued.longLit = let a = two-long s r h in omega arith
+token-bytes k t s r n x y h (Valued.longLit w) = let a = two-long s r h in omega arith
 token-bytes k t s r n x y h (Valued.prefixed e) = let a = two-str s r h in omega arith
 token-bytes k t s r n x y h (Valued.plain e w) = let a = two-str s r h in omega arith
 token-bytes k t s r n x y h Valued.ident = let a = stands-strict (Kind.token k) s r h .1 in omega arith
 token-bytes k t s r n x y h Valued.opId = let a = stands-strict (Kind.token k) s r h .1 in omega arith
 token-bytes k t s r n x y h Valued.backtickId = let a = stands-strict (Kind.token k) s r h .1 in omega arith
-token-bytes k t s r n x y h Valued.intLit = let a = stands-strict (Kind.token k) s r h .1 in omega arith
+token-bytes k t s r n x y h (Valued.intLit w) = let a = stands-strict (Kind.token k) s r h .1 in omega arith
 token-bytes k t s r n x y h Valued.charSym = let a = stands-strict (Kind.token k) s r h .1 in omega arith
 token-bytes k t s r n x y h Valued.lParen = let a = stands-strict (Kind.token k) s r h .1 in omega arith
 token-bytes k t s r n x y h Valued.rParen = let a = stands-strict (Kind.token k) s r h .1 in omega arith
