@@ -9,7 +9,7 @@ use Rattle.chars.specs.paper.Quoted.{between}
 use Rattle.chars.specs.paper.Text.{Char, Text, from, place}
 use Rattle.token.specs.paper.Tests.{isAny, opensBlock, endsLine, quote, threeQuotes, backslash, dollarBrace, digit, hexDigit, notBacktick, apostrophe}
 use Rattle.token.specs.paper.Kinds.{Kind}
-use Rattle.token.specs.paper.Shapes.{One, Run, Times, _then_, Block, NumberText, numberValue, limit, Escape, Prefix, Character, Symbol, HasShape, Stands}
+use Rattle.token.specs.paper.Shapes.{One, Run, Times, _then_, Block, NumberText, limit, Escape, Prefix, Character, Symbol, HasShape, Stands}
 use Rattle.token.specs.paper.Reading.{Piece, Pieces}
 
 -- A shape of the piece table starts with the character of code x: some text that begins with it, in this script or any other, has a kind's
@@ -70,7 +70,7 @@ pub data Met (s : Text) : ℕ → Text → Type 0 where
   m4 : (One (isAny "`") then Run notBacktick) s [] → Met s 4 s
   m5 : {r : Text} → Times (isAny "`") 2 s r → Met s 5 s
   -- number too large
-  m6 : (long : Bool) {r : Text} → NumberText long s r → limit long < numberValue s → Met s 6 s
+  m6 : (long : Bool) {v : ℕ} {r : Text} → NumberText long v s r → limit long < v → Met s 6 s
   -- single string open at end; LF in a single string
   m7 : (p : Bool) → InSingle p s [] → Met s 7 []
   m8 : (p : Bool) {q : Text} → InSingle p s q → isAny "\n" q ≡ true → Met s 8 q
