@@ -3,7 +3,7 @@
 -- (`Tests`); the keywords' texts (`wordOf`, `runOf`); what a token is (`Token`). Of shapes, readings, values, marks, cuts and refusals it shares
 -- nothing. With the code it shares the enums `Kw` and `TokenKind` and the struct `Gap`.
 use Prim.Native.Nat.{ℕ, zero, suc, _+_, _*_, _-_}
-use mathlib.Core.Bool.{Bool, true, false, cond, not, _&&_}
+use mathlib.Core.Bool.{Bool, true, false, cond, not, _&&_, _||_}
 use mathlib.Core.List.{List, [], _∷_, map, reverse}
 use mathlib.Core.Option.{Option, none, some}
 use lib.ListN.{length, take, drop}
@@ -258,6 +258,12 @@ startOf s =
     (cond (isAny "`" s) Start.backtick
     (cond (quote s) Start.string
     (cond (apostrophe s) Start.charSym Start.other)))))))))))
+
+-- does the text begin with a character with which some shape starts? Else it is Start.other, and refusal 3.
+abbrev pub starts : Text → Bool
+starts s =
+    isAny " \t" s || isAny "\n" s || isAny "\r" s || isAny "()[]{},;." s || digit s || headIs isIdStart s || opSign s || isAny "`" s || quote s
+    || apostrophe s
 
 unfoldable pub signOf : Text → TokenKind
 signOf s =
