@@ -88,8 +88,8 @@ unfolding TokenShape
 token-starts TokenType.ident s r h = ident-starts s r (h .0 .0)
 token-starts TokenType.opId s r h = operator-starts s r (h .0)
 token-starts TokenType.backtickId s r h = backtick-starts s r (h .0)
-token-starts TokenType.intLit s r h = by-digit s (text-found false s r (h .0) .0)
-token-starts TokenType.longLit s r h = by-digit s (text-found true s r (h .0) .0)
+token-starts TokenType.intLit s r h = by-digit s (text-found false s r (h .1) .0)
+token-starts TokenType.longLit s r h = by-digit s (text-found true s r (h .1) .0)
 token-starts TokenType.str s r h = str-starts s r h
 token-starts TokenType.charSym s r h = by-apostrophe s (char-sym-found s r h .0)
 token-starts TokenType.lParen s r h = single-starts "(" refl s r h
