@@ -1,10 +1,11 @@
--- What the crate above may rely on.
+-- What the crate above may rely on. Contracts ask for it: that of `is_id_char` for `TablesAscend`, of `decode` for `Decoding`, of `char_at` for `Reads`.
 use Prim.Native.Nat.{ℕ, _+_, _≤_, _<_}
 use mathlib.Core.Path.{_≡_}
 use mathlib.Core.List.{List, [], _∷_, List·Memᴰ}
 use lib.ListN.{length, drop, getD}
 use Rattle.chars.specs.paper.Utf8.{width, codeOf}
 use Rattle.chars.specs.code.Utf8.{decodeAt}
+use Rattle.chars.specs.computed.Encoded.{Encoding}
 use Rattle.chars.specs.paper.Text.{from, place}
 use Rattle.chars.specs.code.Text.{charEnd}
 use Rattle.chars.specs.declared.utf8.Decoded.the-variants as decoded
@@ -12,12 +13,12 @@ use Rattle.chars.specs.paper.Ranges.{Range, Ascending}
 use Rattle.chars.specs.paper.Tables.{alphabeticTable, lowercaseTable, uppercaseTable, ndTable, alphaNotLetterTable}
 
 -- the five tables of document 01
-abbrev pub tables : List (List Range)
+unfoldable pub tables : List (List Range)
 tables = alphabeticTable ∷ lowercaseTable ∷ uppercaseTable ∷ ndTable ∷ alphaNotLetterTable ∷ []
 
 -- each of them keeps document 01's rule
-abbrev pub TablesAscend : Type 0
-TablesAscend = (t : List Range) → List·Memᴰ t tables → Ascending t
+pub record TablesAscend : Type 0 where
+  pub ascend : (t : List Range) → List·Memᴰ t tables → Ascending t
 
 -- ---- what stands at a byte offset
 
@@ -34,6 +35,8 @@ pub record Decoding (s : List ℕ) (i : ℕ) : Type 0 where
   -- a character that begins past ASCII has a code past ASCII, and its other bytes are 0x80 to 0xBF
   pub wide : (c w : ℕ) → decoded.Char c w ≡ decodeAt s i → 0x80 ≤ getD s i 0 → 0x80 ≤ c
   pub others : (c w j : ℕ) → decoded.Char c w ≡ decodeAt s i → i < j → j < i + w → (0x80 ≤ getD s j 0) × (getD s j 0 ≤ 0xBF)
+  -- every scalar value is decoded from the bytes that are written for it
+  pub encodes : (c : ℕ) → Encoding c
 
 -- ---- the text from a place on
 

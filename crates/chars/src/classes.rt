@@ -21,6 +21,7 @@ ghost use Rattle.chars.specs.paper.Classes.{isIdStart, isIdChar, isOpSig
 ghost use Rattle.chars.specs.paper.Text.{from, place, idChar};
 ghost use Rattle.chars.specs.computed.Runs.{afterRun};
 ghost use Rattle.chars.specs.code.Classes.{bitIn, cyrillicAt};
+ghost use Rattle.chars.specs.Promises.{TablesAscend};
 
 // The last code that the tables speak of.
 const LAST: u32 = 0xFFFF;
@@ -163,9 +164,10 @@ fn is_ascii_id_start(c: u32) -> bool
     is_ascii_start(c as u8)
 }
 
-// Whether c may continue an identifier. ASCII reaches no table.
+// Whether c may continue an identifier. ASCII reaches no table. The second clause is of the five tables by which classes are searched.
 pub fn is_id_char(c: u32) -> bool
     ensures { λ r. ⌜ r ≡ isIdChar c ⌝ }
+    ensures { λ r. ⌜ TablesAscend ⌝ }
 {
     if c < 0x80 {
         return is_ascii_id_char(c);

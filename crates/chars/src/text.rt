@@ -2,6 +2,7 @@
 use crate::utf8::Decoded;
 ghost use mathlib.Core.Path.{_≡_};
 ghost use Rattle.chars.specs.code.Text.{stepAt};
+ghost use Rattle.chars.specs.Promises.{Reads};
 
 // The first character from a place on: its code, and where it ends.
 pub enum Step {
@@ -9,9 +10,11 @@ pub enum Step {
     End,
 }
 
-// A byte with which no well-formed character begins counts as a character of its own value.
+// A byte with which no well-formed character begins counts as a character of its own value. The second clause says how the text from there on is
+// read by such steps.
 pub fn char_at(s: &[u8], at: usize) -> Step
     ensures { λ r. ⌜ r ≡ stepAt (now (s .entry)) at ⌝ }
+    ensures { λ r. ⌜ Reads (now (s .entry)) at ⌝ }
 {
     if s.len() <= at {
         return Step::End;

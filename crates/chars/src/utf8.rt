@@ -10,6 +10,7 @@ ghost use Rattle.chars.specs.paper.Ranges.{_to_};
 ghost use Rattle.chars.specs.paper.Utf8.{fits, width, codeOf, LongestValid};
 ghost use Rattle.chars.specs.code.Utf8.{decodeAt};
 ghost use Rattle.chars.specs.computed.Valid.{validPrefix};
+ghost use Rattle.chars.specs.Promises.{Decoding};
 
 // The character that stands at a byte offset, or that none does.
 pub enum Decoded {
@@ -120,9 +121,10 @@ fn code_at(s: &[u8], at: usize, w: usize) -> u32
     a % 8 * 262144 + six_bits(s, at + 1) * 4096 + six_bits(s, at + 2) * 64 + six_bits(s, at + 3)
 }
 
-// The character that stands at a byte offset. Past the end none does.
+// The character that stands at a byte offset. Past the end none does. The second clause says what follows of it.
 pub fn decode(s: &[u8], at: usize) -> Decoded
     ensures { λ r. ⌜ r ≡ decodeAt (now (s .entry)) at ⌝ }
+    ensures { λ r. ⌜ Decoding (now (s .entry)) at ⌝ }
 {
     let w = width_at(s, at);
     if w == 0 {

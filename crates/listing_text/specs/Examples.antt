@@ -1,13 +1,12 @@
 -- Document 01, "Host entry and text": the listing's example, and the twelve marked scripts, as the text that the listing program makes.
+-- There to be read.
 use mathlib.Core.Path.{_≡_, refl}
-use mathlib.Core.Bool.{Bool, true, false, cond}
-use mathlib.Core.List.{List, [], _∷_}
+use mathlib.Core.Bool.{true}
+use mathlib.Core.List.{List}
 use Prim.Native.Nat.{ℕ}
 use lib.ListN.{replicate}
-use Rattle.token.specs.paper.Tests.{same}
 use Rattle.chars.specs.paper.Quoted.{codes}
-use Rattle.chars.specs.computed.Encoded.{script}
-use Rattle.token.specs.computed.Listing.{Example, _gives_}
+use Rattle.token.specs.computed.Listing.{holdBy}
 use Rattle.token.specs.computed.Examples.{marked, listingExample}
 use Rattle.entry.specs.computed.Listing.{entered}
 use Rattle.listing_text.specs.Lines.{printed}
@@ -17,15 +16,11 @@ unfoldable pub made : List ℕ → List ℕ
 unfolding entered printed
 made s = printed s
 
-abbrev pub holds : List Example → Bool
-holds [] = true
-holds (_gives_ s t ∷ es) = cond (same (made (script s)) (codes t)) (holds es) false
-
-pub listing-holds : holds listingExample ≡ true
+pub listing-holds : holdBy made listingExample ≡ true
 unfolding made
 listing-holds = refl
 
-pub marked-holds : holds marked ≡ true
+pub marked-holds : holdBy made marked ≡ true
 unfolding made
 marked-holds = refl
 

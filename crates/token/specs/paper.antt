@@ -1,4 +1,5 @@
--- Document 01's definitions, in its order: the piece table, readings, records, the refusal table's first sixteen rows.
+-- Document 01's definitions: tests of characters and the kinds first, since the rest cites them; then in its order the piece table, readings,
+-- records, and the refusal table's first sixteen rows.
 pub mod Tests
 pub mod Kinds
 pub mod Shapes

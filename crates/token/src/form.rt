@@ -13,9 +13,9 @@ ghost use mathlib.Core.Path.{_≡_};
 ghost use Prim.Native.Nat.{_+_, _-_, _≤_};
 ghost use lib.ListN.{length, take};
 ghost use lib.Seq.{sets};
-ghost use Rattle.token.specs.paper.Records.{fieldsOf, headLength, mostLength};
+ghost use Rattle.token.specs.paper.Records.{fieldsOf, headLength};
+ghost use Rattle.token.specs.code.Form.{mostLength, Known, byForm, valuesAt, heldAt, RecordForm};
 ghost use Rattle.words.specs.Words.{le8};
-ghost use Rattle.token.specs.code.Form.{Known, byForm, valuesAt, heldAt};
 ghost use Rattle.token.specs.code.Records.{storedIf};
 
 // Length, kind, start, end and cut.
@@ -97,10 +97,12 @@ fn read_values(bytes: &[u8], at: usize, size: u64) -> u64
     }
 }
 
-// Every record is read here. Every byte is allowed: past the end a byte counts as 0.
+// Every record is read here. Every byte is allowed: past the end a byte counts as 0. The second clause: what is stored is read back, and what is
+// read is stored again.
 pub fn read_record(bytes: &[u8], at: usize) -> Held
     requires { ⌜ at + mostLength ≤ 18446744073709551615 ⌝ }
     ensures { λ r. ⌜ r ≡ heldAt (now (bytes .entry)) at ⌝ }
+    ensures { λ r. ⌜ RecordForm ⌝ }
 {
     let length = two(bytes, at);
     Held {

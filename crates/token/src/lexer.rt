@@ -11,10 +11,10 @@ ghost use mathlib.Core.Bool.{true, false};
 ghost use Prim.Native.Nat.{_+_, _≤_, _<_};
 ghost use lib.ListN.{length};
 ghost use Rattle.chars.specs.paper.Text.{from};
-ghost use Rattle.token.specs.paper.Tests.{isAny, opensComment, wordless};
+ghost use Rattle.token.specs.paper.Tests.{isAny, opensComment};
+ghost use Rattle.token.specs.code.Lexer.{wordless, seek, nextOf, passedOf, refusedOf};
 ghost use Rattle.token.specs.computed.Answer.{scan};
 ghost use Rattle.token.specs.code.Piece.{pieceOf};
-ghost use Rattle.token.specs.code.Lexer.{seek, nextOf, passedOf, refusedOf};
 
 // What comes next: a token with its start, the cursor after it and its cut; a line end with its start, the cursor after it, its mark and the
 // gap with it; the end of script with its cut; or a refusal's number and place.

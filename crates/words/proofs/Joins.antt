@@ -121,7 +121,7 @@ pub eights : Width le8 eightAt 8 18446744073709551616
 unfolding eightAt
 eights = double _ _ _ _ fours le8 eight-halves
 
--- ---- the laws by their names, there to be read and cited by whoever reads stored numbers
+-- ---- the laws by their names, for whoever reads stored numbers
 
 pub two-fits : (l : List ℕ) (i : ℕ) → Bytes l → twoAt l i < 65536
 two-fits = twos .fits
@@ -176,6 +176,9 @@ joins = record {
   le2-two = le2-two;
   le4-four = le4-four;
   le8-eight = le8-eight;
+  two-fits = two-fits;
+  four-fits = four-fits;
+  eight-fits = eight-fits;
   two-drop = two-drop;
   four-drop = four-drop;
   eight-drop = eight-drop;

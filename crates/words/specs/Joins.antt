@@ -1,4 +1,4 @@
--- What a reader may rely on: reading undoes writing, and writing undoes reading.
+-- What a reader may rely on: reading undoes writing, and writing undoes reading. The contract of `read::eight` asks for it.
 use Prim.Native.Nat.{ℕ, _≤_, _<_}
 use mathlib.Core.Path.{_≡_}
 use mathlib.Core.List.{List, _++_}
@@ -18,6 +18,10 @@ pub record Joins : Type 0 where
   pub le2-two : (l : List ℕ) → Bytes l → 2 ≤ length l → le2 (twoAt l 0) ≡ take 2 l
   pub le4-four : (l : List ℕ) → Bytes l → 4 ≤ length l → le4 (fourAt l 0) ≡ take 4 l
   pub le8-eight : (l : List ℕ) → Bytes l → 8 ≤ length l → le8 (eightAt l 0) ≡ take 8 l
+  -- what bytes make fits
+  pub two-fits : (l : List ℕ) (i : ℕ) → Bytes l → twoAt l i < 65536
+  pub four-fits : (l : List ℕ) (i : ℕ) → Bytes l → fourAt l i < 4294967296
+  pub eight-fits : (l : List ℕ) (i : ℕ) → Bytes l → eightAt l i < 18446744073709551616
   -- the number at a place is the first of what stands from there on
   pub two-drop : (l : List ℕ) (i : ℕ) → twoAt l i ≡ twoAt (drop i l) 0
   pub four-drop : (l : List ℕ) (i : ℕ) → fourAt l i ≡ fourAt (drop i l) 0

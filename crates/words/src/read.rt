@@ -3,6 +3,7 @@
 ghost use mathlib.Core.Path.{_≡_};
 ghost use Prim.Native.Nat.{_+_, _<_, _≤_};
 ghost use Rattle.words.specs.Words.{oneAt, twoAt, fourAt, eightAt};
+ghost use Rattle.words.specs.Joins.{Joins};
 
 fn wide(x: u8) -> u64
     ensures { λ r. ⌜ r ≡ x ⌝ }
@@ -37,10 +38,12 @@ pub fn four(bytes: &[u8], at: usize) -> u64
     two(bytes, at) + two(bytes, at + 2) * 0x1_0000
 }
 
+// The last clause is of all widths: reading undoes writing, and writing undoes reading.
 pub fn eight(bytes: &[u8], at: usize) -> u64
     requires { ⌜ at + 8 ≤ 18446744073709551615 ⌝ }
     ensures { λ r. ⌜ r ≡ eightAt (now (bytes .entry)) at ⌝ }
     ensures { λ r. ⌜ r < 18446744073709551616 ⌝ }
+    ensures { λ r. ⌜ Joins ⌝ }
 {
     four(bytes, at) + four(bytes, at + 4) * 0x1_0000_0000
 }

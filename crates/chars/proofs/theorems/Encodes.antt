@@ -134,6 +134,6 @@ encoded-valid c e rest v =
     let w = writes c e in
     WellFormed.char (w .is-row) (w .met rest) (rw (w .long, drop-append-seam) v)
 
--- There to be read, and to be cited by whoever writes characters.
+-- Part of what `Decoding` promises, and for whoever writes characters.
 pub encoding : (c : ℕ) → Encoding c
 encoding c = record { decodes = encoded-decodes c; valid = encoded-valid c }

@@ -19,6 +19,7 @@ use Rattle.chars.proofs.utf8.Widths.{width-most, width-within}
 use Rattle.chars.proofs.text.Steps.{Stands, char-stands}
 use Rattle.chars.proofs.text.Places.{codeAt, at-char, at-end, next-on, place-from, wide-code, wide-tail}
 use Rattle.chars.proofs.classes.Ranges.{ascending}
+use Rattle.chars.proofs.theorems.Encodes.{encoding}
 
 abbrev allAscend : List (List Range) → Bool
 allAscend [] = true
@@ -30,9 +31,10 @@ all-ascending (u ∷ ts) e t m =
     let k = and-eq-true-iff (ascendingFrom 0 u) (allAscend ts) .0 e in
     ⊎-elim (λ q. rw q (ascending u (k .0))) (λ r. all-ascending ts (k .1) t r) (List·Memᴰ·cases-cons m)
 
--- There to be read: one computed test over the five.
+-- one computed test over the five
 pub tables-ascend : TablesAscend
-tables-ascend = all-ascending tables refl
+unfolding tables
+tables-ascend = record { ascend = all-ascending tables refl }
 
 -- ---- decoding
 
@@ -69,6 +71,7 @@ module _ (s : List ℕ) (i : ℕ) where
         let h = char-stands s i c w e in
         let n : charEnd s i ≡ i + w = next-is c w h in
         wide-tail s i (ends c w e) j l (omega arith);
+    encodes = encoding;
   }
     where
       empty : length s ≤ i → width (drop i s) ≡ 0

@@ -1,14 +1,10 @@
--- What `eights` tests: runs of bytes of a range, or other than some.
+-- What `runs` tests: runs of bytes of a range, or other than some.
 use Prim.Native.Nat.{ℕ, _+_, _≤_, _<_}
 use mathlib.Core.Path.{_≡_}
 use mathlib.Core.Bool.{Bool, true, not, _&&_}
 use mathlib.Core.List.{List}
 use lib.ListN.{length, getD}
 use lib.Dec.{eqb, leb}
-
--- ---- a set of ASCII characters as two masks
-
--- ---- runs of id characters
 
 -- ---- runs of bytes, tested by eights and thirty-twos
 
@@ -91,5 +87,3 @@ fourNeither a b = fourBy (twoNeither a b)
 
 abbrev pub eightNeither : ℕ → ℕ → List ℕ → ℕ → Bool
 eightNeither a b = eightBy (twoNeither a b)
-
--- ---- how the code lends the tables

@@ -7,7 +7,6 @@ use lib.ListN.{length, drop}
 use Rattle.chars.specs.paper.Utf8.{width, codeOf}
 use Rattle.chars.specs.declared.text.Step.{Step}
 use Rattle.chars.specs.declared.text.Step.the-variants as step
-use Rattle.chars.specs.paper.Text.{Char}
 
 -- where the character at i ends
 unfoldable pub charEnd : List ℕ → ℕ → ℕ

@@ -46,7 +46,7 @@ pub record LongestValid (s : List ℕ) (n : ℕ) : Type 0 where
   pub valid : WellFormed (take n s)
   pub most : (m : ℕ) → m ≤ length s → WellFormed (take m s) → m ≤ n
 
--- ---- one character, computed
+-- ---- one character: its width by Table 3-7, its code by Table 3-6. Texts, of which everything is declared, are made of these.
 
 -- the length of the first row that the first bytes meet; 0 where they meet none
 abbrev pub rowLength : List (List Range) → List ℕ → ℕ
@@ -70,5 +70,3 @@ codeOf w s =
     let three = a % 16 * 4096 + b * 64 + c in
     let four = a % 8 * 262144 + b * 4096 + c * 64 + d in
     cond (leb w 1) a (cond (eqb w 2) two (cond (eqb w 3) three four))
-
--- ---- the longest valid prefix, computed

@@ -14,22 +14,22 @@ enum-known-here : tie.Need-enum-known-here
 enum-known-here c = search needs
 
 mul-result : tie.Need-mul-result
-mul-result c = let few = at-most-four _ _ _ _ (sym (c .before .before .before .decode .ensures) ∙ c .before .here .given .1) in search needs
+mul-result c = let few = at-most-four _ _ _ _ (sym (c .before .before .before .decode .ensures .0) ∙ c .before .here .given .1) in search needs
 
 cast-result : tie.Need-cast-result
 cast-result c = search needs
 
 add-result : tie.Need-add-result
-add-result c = let few = at-most-four _ _ _ _ (sym (c .before .before .before .decode .ensures) ∙ c .before .here .given .1) in search needs
+add-result c = let few = at-most-four _ _ _ _ (sym (c .before .before .before .decode .ensures .0) ∙ c .before .here .given .1) in search needs
 
 enum-told : tie.Need-enum-told
 enum-told c = search needs
 
 returns : tie.Need-returns
-returns c = ap packed (sym (c .before .here .given .1) ∙ c .before .before .before .decode .ensures)
+returns c = ap packed (sym (c .before .here .given .1) ∙ c .before .before .before .decode .ensures .0)
 
 returns-2 : tie.Need-returns-2
-returns-2 c = ap packed (sym (c .enum-told .given .1) ∙ c .before .before .decode .ensures)
+returns-2 c = ap packed (sym (c .enum-told .given .1) ∙ c .before .before .decode .ensures .0)
 
 pub chars-decode-spec : {M : Type 1} → statement M
 chars-decode-spec =

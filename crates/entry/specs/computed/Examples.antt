@@ -2,23 +2,30 @@
 use Prim.Native.Nat.{ℕ}
 use mathlib.Core.Path.{_≡_, refl}
 use mathlib.Core.Bool.{true}
-use mathlib.Core.List.{List, [], _∷_, map}
+use mathlib.Core.List.{List, [], _∷_, _++_, map}
 use lib.ListN.{length, replicate}
 use lib.Dec.{ltb}
 use Rattle.chars.specs.paper.Quoted.{codes}
 use Rattle.chars.specs.computed.Encoded.{script}
 use Rattle.token.specs.paper.Records.{mostBytes}
+use Rattle.token.specs.computed.Listing.{holdBy}
+use Rattle.token.specs.computed.Examples.{marked, listingExample, refusalExamples, tieExamples, traps}
 use Rattle.entry.specs.paper.Host.{seen}
 use Rattle.entry.specs.computed.Host.{rejected, verdict}
 use Rattle.entry.specs.paper.TokenText.{hasText, tokenText, textNumber}
 use Rattle.entry.specs.computed.Listing.{entered, hosted}
+
+-- the tokenizer's examples, by the whole verdict
+pub all-hold : holdBy entered (marked ++ listingExample ++ refusalExamples ++ tieExamples ++ traps) ≡ true
+unfolding entered
+all-hold = refl
 
 -- 17, for every script that is so long
 pub too-long : (s : List ℕ) (room : ℕ) → ltb mostBytes (length s) ≡ true → verdict s room ≡ rejected 17 0
 unfolding verdict
 too-long s room long = rw long
 
--- 18: 61 C0 80 hex: 1. Surrogates, what is over U+10FFFF, and a character cut lacking are no UTF-8 either.
+-- 18: 61 C0 80 hex: 1. Surrogates, what is over U+10FFFF, and a character cut short are no UTF-8 either.
 abbrev pub illFormed : List (List ℕ)
 illFormed = (0x61 ∷ 0xC0 ∷ 0x80 ∷ []) ∷ (0xED ∷ 0xA0 ∷ 0x80 ∷ []) ∷ (0x61 ∷ 0xF4 ∷ 0x90 ∷ 0x80 ∷ 0x80 ∷ []) ∷ (0x22 ∷ 0xE4 ∷ 0xB8 ∷ []) ∷ []
 

@@ -20,8 +20,6 @@ numberSeen (seen j buffer block) = j
 abbrev pub bufferSeen : Seen → List ℕ
 bufferSeen (seen j buffer block) = buffer
 
--- ---- declared
-
 -- The order: 20, 17, 18, the first of 1 to 16 from the left, 19. What is not met before each of them, step by step.
 
 -- neither 20 nor 17

@@ -1,4 +1,4 @@
--- A record by its form: the bytes are the token's record, its length is one of four, and its two stores are one.
+-- A record by its form: the bytes are the token's record, its length is one of five, and its two stores are one.
 use Prim.Native.Nat.{ℕ, _+_, _*_, _-_, _/_, _%_, _≤_}
 use mathlib.Core.Path.{_≡_, refl, sym, _∙_, ap}
 use mathlib.Core.Bool.{Bool, true, false}
@@ -7,9 +7,9 @@ use lib.ListN.{length, take, set, length-append}
 use lib.Seq.{sets, length-take-le}
 use native.Mathlib.Omega.{arith}
 use Rattle.token.specs.paper.Kinds.{kindNumber, Token}
-use Rattle.token.specs.paper.Records.{bit, valuesOf, values, headLength, intLength, longLength, lineLength, mostLength, recordLength, fieldsOf, headOf, recordOf}
+use Rattle.token.specs.paper.Records.{bit, valuesOf, values, headLength, intLength, longLength, lineLength, recordLength, fieldsOf, headOf, recordOf}
+use Rattle.token.specs.code.Form.{mostLength, joined, formOf, plainForm, Known, byForm}
 use Rattle.words.specs.Words.{le4, le8}
-use Rattle.token.specs.code.Form.{joined, formOf, plainForm, Known, byForm}
 use Rattle.token.specs.declared.kinds.Form.{Form}
 use Rattle.token.specs.declared.kinds.TokenKind.{TokenKind}
 use Rattle.token.specs.declared.kinds.TokenKind.the-variants as tk
@@ -23,12 +23,14 @@ known-least Known.head = omega arith
 known-least Known.line = omega arith
 known-least Known.int = omega arith
 known-least Known.long = omega arith
+known-least Known.str = omega arith
 
 pub known-most : {n : ℕ} → Known n → n ≤ mostLength
 known-most Known.head = omega arith
 known-most Known.line = omega arith
 known-most Known.int = omega arith
 known-most Known.long = omega arith
+known-most Known.str = omega arith
 
 -- no other length is left
 pub known-else : {n : ℕ} → Known n → (n ≡ lineLength → ⊥) → (n ≡ intLength → ⊥) → (n ≡ longLength → ⊥) → n ≡ headLength
@@ -36,6 +38,7 @@ known-else Known.head a b c = refl
 known-else Known.line a b c = absurd (a refl)
 known-else Known.int a b c = absurd (b refl)
 known-else Known.long a b c = absurd (c refl)
+known-else Known.str a b c = absurd (c refl)
 
 length-eight : (x : ℕ) → length (le8 x) ≡ 8
 unfolding le8 le4
@@ -134,7 +137,7 @@ form-known tk.OpId = Known.head
 form-known tk.BacktickId = Known.head
 form-known (tk.IntLit v) = Known.int
 form-known (tk.LongLit v) = Known.long
-form-known (tk.Str a e) = Known.long
+form-known (tk.Str a e) = Known.str
 form-known tk.CharSym = Known.head
 form-known tk.LParen = Known.head
 form-known tk.RParen = Known.head
@@ -159,9 +162,9 @@ unfolding byForm formOf recordOf headOf
 form-record t = ap (λ v. fieldsOf (recordLength (t .kind)) (kindNumber (t .kind)) (t .start) (t .end) (t .cut) ++ v) (form-values (t .kind))
 
 -- a line end's form, from its mark as a number
-pub line-form : (mark : Bool) (b : ℕ) → b ≡ bit mark → _≡_ {A = Form} (record { number = 17; length = lineLength; values = b }) (formOf (tk.Newline mark))
+pub line-form : (mark : Bool) (b : ℕ) → b ≡ bit mark → _≡_ {A = Form} (record { number = kindNumber (tk.Newline mark); length = lineLength; values = b }) (formOf (tk.Newline mark))
 unfolding formOf recordLength values
-line-form mark b e = ap (λ v. record { number = 17; length = lineLength; values = v }) e
+line-form mark b e = ap (λ v. record { number = kindNumber (tk.Newline mark); length = lineLength; values = v }) e
 
 -- the same for a form that is known to be the kind's
 pub record-by : (f : Form) (t : Token) → f ≡ formOf (t .kind) → byForm f (t .start) (t .end) (t .cut) ≡ recordOf t
@@ -180,7 +183,7 @@ plain-known f n e = rw e Known.head
 pub plain-length : (f : Form) (n : ℕ) → f ≡ plainForm n → f .length ≡ headLength
 plain-length f n e = rw e
 
-pub eof-form : plainForm 18 ≡ formOf tk.Eof
+pub eof-form : plainForm (kindNumber tk.Eof) ≡ formOf tk.Eof
 unfolding formOf recordLength values
 eof-form = refl
 

@@ -1,5 +1,4 @@
--- What is stored is read back, and what is read is stored again. For whoever reads stored records: `held-on`, `read-back` and `stored-again` are
--- there to be read and cited.
+-- What is stored is read back, and what is read is stored again: `RecordForm`, for whoever reads stored records.
 use Prim.Native.Nat.{ℕ, zero, suc, _+_, _-_, _%_, _^_, _≤_, _<_}
 use mathlib.Core.Path.{_≡_, refl, sym, _∙_, ap}
 use mathlib.Core.Bool.{Bool}
@@ -13,7 +12,7 @@ use Rattle.words.specs.Joins.{Bytes}
 use Rattle.words.specs.Words.{le2, le4, le8, oneAt, twoAt, fourAt, eightAt}
 use Rattle.words.proofs.Joins.{drop-bytes, two-from, four-from, eight-from, two-drop, four-drop, two-le2, four-le4, eight-le8, le4-four, le8-eight, Width, twos, fours}
 use Rattle.token.specs.paper.Records.{bit, headLength, fieldsOf}
-use Rattle.token.specs.code.Form.{Known, byForm, valuesAt, heldAt, storedOf, Storable, Whole}
+use Rattle.token.specs.code.Form.{Known, byForm, valuesAt, heldAt, storedOf, Storable, Whole, RecordForm}
 use Rattle.token.specs.declared.kinds.Form.{Form}
 use Rattle.token.proofs.form.Laws.{known-least, known-most, low-four, take-one, take-four, take-eight}
 
@@ -21,7 +20,7 @@ values-from : (l : List ℕ) (i j size : ℕ) → valuesAt (drop i l) j size ≡
 unfolding valuesAt
 values-from l i j size = simp (four-from, eight-from, getD-drop)
 
--- For whoever reads stored records: the record at a place is the first of what stands from there on.
+-- the record at a place is the first of what stands from there on.
 pub held-on : (bytes : List ℕ) (at : ℕ) → heldAt bytes at ≡ heldAt (drop at bytes) 0
 unfolding heldAt
 held-on bytes at = simp (values-from, two-from, four-from, getD-drop, add-zero)
@@ -34,8 +33,9 @@ values-back v rest Known.head h = omega arith
 values-back v rest Known.line h = ap (λ l. oneAt (l ++ rest) 0) (take-one v) ∙ mod-eq-of-lt h
 values-back v rest Known.int h = ap (λ l. fourAt (l ++ rest) 0) (take-four v) ∙ four-le4 (v % 4294967296) rest (omega arith) ∙ omega arith
 values-back v rest Known.long h = ap (λ l. eightAt (l ++ rest) 0) (take-eight v) ∙ eight-le8 v rest h
+values-back v rest Known.str h = ap (λ l. eightAt (l ++ rest) 0) (take-eight v) ∙ eight-le8 v rest h
 
--- For whoever reads stored records: a record that is stored, whatever follows it, is read as it was.
+-- a record that is stored, whatever follows it, is read as it was.
 pub read-back : (f : Form) (start end : ℕ) (cut : Bool) (rest : List ℕ) → Storable f start end
     → heldAt (byForm f start end cut ++ rest) 0
     ≡ record { number = f .number; length = f .length; values = f .values; start = start; end = end; cut = bit cut }
@@ -58,6 +58,7 @@ values-again [] Known.line h k = absurd (omega arith)
 values-again (x ∷ l) Known.line h k = take-one x ∙ rw (mod-eq-of-lt (h 0))
 values-again l Known.int h k = take-four (fourAt l 0) ∙ low-four (fourAt l 0) ∙ le4-four l h (omega arith)
 values-again l Known.long h k = take-eight (eightAt l 0) ∙ le8-eight l h (omega arith)
+values-again l Known.str h k = take-eight (eightAt l 0) ∙ le8-eight l h (omega arith)
 
 bit-again : (c : ℕ) → c ≤ 1 → bit (eqb c 1) ≡ c
 bit-again zero h = refl
@@ -84,7 +85,7 @@ module _ (l : List ℕ) (h : Bytes l) where
       (joined l _ _ 4 4 5 (number-again _ _ _ _ fours 4 (omega arith))
       (joined l _ _ 8 4 1 (number-again _ _ _ _ fours 8 (omega arith)) c)))
 
--- For whoever reads stored records: of a whole record's bytes nothing is lost, since what is read from them is stored as the same bytes.
+-- of a whole record's bytes nothing is lost, since what is read from them is stored as the same bytes.
 pub stored-again : (l : List ℕ) → Whole l → storedOf (heldAt l 0) ≡ take (heldAt l 0 .length) l
 unfolding heldAt byForm
 stored-again l w =
@@ -97,3 +98,6 @@ stored-again l w =
     let all : headLength + (n - headLength) ≡ n = omega arith in
     joined l _ _ 0 headLength (n - headLength) fields (ap (λ v. take (n - headLength) (le8 v)) (sym (values-from l headLength 0 n)) ∙ values)
     ∙ ap (λ m. take m l) all
+
+pub record-form : RecordForm
+record-form = record { held-on = held-on; read-back = read-back; stored-again = stored-again }

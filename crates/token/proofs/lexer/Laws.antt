@@ -17,13 +17,13 @@ use Rattle.chars.proofs.Bools.{clash, and-both}
 use Rattle.chars.proofs.Carry.{every, carry, no-member}
 use Rattle.chars.proofs.classes.Ranges.{between-in, between-out}
 use Rattle.chars.proofs.text.Places.{Ascii, head-byte, at-char, at-end, at-ascii, place-from, next-on}
-use Rattle.token.specs.paper.Tests.{isAny, begins, digit, isDigit, quote, apostrophe, opSign, opensLine, opensBlock, opensComment, wordless, isHexDigit, hexAhead, longSuffix, notBacktick, freeSign, backslash, plainChar, endOfLine}
+use Rattle.token.specs.paper.Tests.{isAny, begins, digit, isDigit, quote, apostrophe, opSign, opensLine, opensBlock, opensComment, isHexDigit, hexAhead, longSuffix, notBacktick, freeSign, backslash, plainChar, endOfLine}
+use Rattle.token.specs.code.Lexer.{wordless, seek, nextOf, passedOf}
 use Rattle.token.specs.computed.Flags.{GapKind, push, cutOf}
 use Rattle.token.specs.computed.Answer.{Found, Start, startOf, signOf, scan, scanAs, scanReturn, scanLine, scanBlock, blockOr, close, Read, read, readDigits, numberOf, scanNumber, Closing, closed, wrong, closeString, prefixedOf, plainOf, orPrefixed, afterIdent, codesTo, wordOr, scanIdent, runOr, scanOperator, backtickOr, scanBacktick, scanString, Esc, unbroken, broken, afterSlash, escapedOf, scanCharSym}
 use Rattle.token.specs.code.Cursor.{cursorAt}
 use Rattle.token.specs.code.Piece.{pieceOf}
 use Rattle.token.specs.code.Gap.{closedOf}
-use Rattle.token.specs.code.Lexer.{seek, nextOf, passedOf}
 use Rattle.token.specs.declared.gap.Gap.{Gap}
 use Rattle.token.specs.declared.gap.Closed.the-variants as shut
 use Rattle.token.specs.declared.kinds.TokenKind.{TokenKind}

@@ -11,7 +11,8 @@ use Rattle.chars.proofs.Bools.{clash}
 use Rattle.token.specs.paper.Kinds.{Token}
 use Rattle.token.specs.computed.Flags.{fresh}
 use Rattle.token.specs.computed.Answer.{Answer, accepted, refused, prepend, walk, answer}
-use Rattle.token.specs.paper.Records.{values, headLength, intLength, longLength, lineLength, mostLength, recordLength, recordOf, records, recordBytes}
+use Rattle.token.specs.paper.Records.{values, headLength, intLength, longLength, lineLength, recordLength, recordOf, records, recordBytes}
+use Rattle.token.specs.code.Form.{mostLength}
 use Rattle.words.specs.Words.{le4, le8}
 use Rattle.token.specs.code.Records.{measuredOf, isAccepted, tokensIn, Fits, Writing}
 use Rattle.token.specs.declared.gap.Gap.{Gap}

@@ -12,7 +12,8 @@ use Rattle.token.specs.paper.Tests.{isAny}
 use Rattle.token.specs.paper.Kinds.{Token}
 use Rattle.token.specs.computed.Flags.{GapKind, fresh, cutOf}
 use Rattle.token.specs.computed.Answer.{accepted, refused, walk, scan}
-use Rattle.token.specs.paper.Records.{intLength, longLength, mostLength, recordLength, recordOf}
+use Rattle.token.specs.paper.Records.{intLength, longLength, recordLength, recordOf}
+use Rattle.token.specs.code.Form.{mostLength}
 use Rattle.token.specs.code.Records.{storedIf, measuredOf, Writing, Reaches}
 use Rattle.token.specs.code.Cursor.{cursorAt}
 use Rattle.token.specs.code.Piece.{pieceOf}

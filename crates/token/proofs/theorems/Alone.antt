@@ -4,15 +4,17 @@ use mathlib.Core.Path.{_≡_, refl, sym, _∙_, ap}
 use mathlib.Core.Bool.{Bool, true, false}
 use mathlib.Core.Logic.{_⊎_, inl, inr, _↔_}
 use mathlib.Core.List.{List, [], _∷_, _++_}
+use mathlib.Core.Option.{Option·some-injective}
 use lib.ListN.{length, drop, length-append}
 use native.Mathlib.Omega.{arith}
 use Rattle.chars.specs.paper.Text.{Char, Text}
 use Rattle.chars.proofs.Bools.{clash}
 use Rattle.token.specs.paper.Tests.{quote}
 use Rattle.token.specs.paper.Kinds.{Kind, TokenType, isComment, isLineEnd, Token}
-use Rattle.token.specs.paper.Reading.{Piece, endsQuote, Content, Valued, Tokens}
+use Rattle.token.specs.paper.Reading.{Piece, endsQuote, LastDropped, Content, Valued, Tokens}
 use Rattle.token.specs.paper.Records.{recordLength, recordOf, records, recordBytes}
 use Rattle.token.specs.declared.kinds.TokenKind.{TokenKind}
+use Rattle.token.proofs.Base.{no-some}
 use Rattle.token.proofs.theorems.Contents.{ends-snoc}
 use Rattle.token.proofs.form.Stores.{length-record}
 
@@ -39,22 +41,22 @@ snoc-same (a ∷ m) [] d x e =
     absurd (let z : _≡_ {A = ℕ} (suc (length (m ++ (d ∷ [])))) 1 = ap length e in let y = length-append m (d ∷ []) in omega arith)
 snoc-same (a ∷ m) (b ∷ o) d x e = let h = snoc-same m o d x (ap (drop 1) e) in (rw (h .0, ap (headOr a) e), h .1)
 
+dropped-one : {t m o : Text} {e f g : ℕ} → LastDropped t e m f → LastDropped t e o g → (m ≡ o) × (f ≡ g)
+dropped-one (LastDropped.dropped m d s q) (LastDropped.dropped o x s′ q′) =
+    let j = snoc-same m o d x (sym s ∙ s′) in
+    (j .0, ap (λ (c : Char). c .at) (j .1))
+dropped-one (LastDropped.dropped m d s q) (LastDropped.kept z) = clash (sym z ∙ ap endsQuote s ∙ ends-snoc m d ∙ q)
+dropped-one (LastDropped.kept z) (LastDropped.dropped m d s q) = clash (sym z ∙ ap endsQuote s ∙ ends-snoc m d ∙ q)
+dropped-one (LastDropped.kept z) (LastDropped.kept z′) = (refl, refl)
+
 content-one : {t u : Text} {e f a b c d : ℕ} → Content t e a b → t ≡ u → e ≡ f → Content u f c d → (a ≡ c) × (b ≡ d)
-content-one (Content.bare q p) h k (Content.bare r s) = (sym p ∙ rw (h, k) s, k)
-content-one (Content.bare q p) h k (Content.two x s r z w) = clash (sym q ∙ ap quote h ∙ r)
-content-one (Content.bare q p) h k (Content.one r z w) = clash (sym q ∙ ap quote h ∙ r)
-content-one (Content.two x s r z w) h k (Content.bare q p) = clash (sym q ∙ sym (ap quote h) ∙ r)
-content-one (Content.two x {m = m} s r z w) h k (Content.two y {m = o} s′ r′ z′ w′) =
-    let j = snoc-same m o x y (ap (drop 1) (sym s ∙ h ∙ s′)) in
-    content-one w (j .0) (ap (λ (c : Char). c .at) (j .1)) w′
-content-one (Content.two x {m = m} s r z w) h k (Content.one {m = o} r′ z′ w′) =
-    let j : o ≡ m ++ (x ∷ []) = ap (drop 1) (sym h ∙ s) in
-    clash (sym z′ ∙ ap endsQuote j ∙ ends-snoc m x ∙ z)
-content-one (Content.one r z w) h k (Content.bare q p) = clash (sym q ∙ sym (ap quote h) ∙ r)
-content-one (Content.one {m = o} r z w) h k (Content.two x {m = m} s r′ z′ w′) =
-    let j : o ≡ m ++ (x ∷ []) = ap (drop 1) (h ∙ s) in
-    clash (sym z ∙ ap endsQuote j ∙ ends-snoc m x ∙ z′)
-content-one (Content.one r z w) h k (Content.one r′ z′ w′) = content-one w (ap (drop 1) h) k w′
+content-one (Content.unquoted q p) h k (Content.unquoted r s) = (sym p ∙ rw (h, k) s, k)
+content-one (Content.unquoted q p) h k (Content.quoted r w v) = clash (sym q ∙ ap quote h ∙ r)
+content-one (Content.quoted r w v) h k (Content.unquoted q p) = clash (sym q ∙ sym (ap quote h) ∙ r)
+content-one (Content.quoted {m} {f} r w v) h k (Content.quoted {t = u} {m = o} {e = i} r′ w′ v′) =
+    let moved : LastDropped u i m f = rw (← ap (drop 1) h, ← k) w in
+    let j = dropped-one moved w′ in
+    content-one v (j .0) (j .1) v′
 
 -- ---- tokens
 
@@ -64,26 +66,21 @@ same-flag false true h k = clash (h .1 (k .0 refl))
 same-flag false false h k = refl
 
 valued-one : {n : ℕ} {s r : Text} {y : TokenType} {t u : TokenKind} → Valued n s r y t → Valued n s r y u → t ≡ u
-valued-one Valued.ident Valued.ident = refl
-valued-one Valued.opId Valued.opId = refl
-valued-one Valued.backtickId Valued.backtickId = refl
+valued-one (Valued.bare e) (Valued.bare f) = Option·some-injective _ _ (sym e ∙ f)
+valued-one (Valued.bare e) Valued.intLit = no-some e
+valued-one (Valued.bare e) Valued.longLit = no-some e
+valued-one (Valued.bare e) (Valued.prefixed f) = no-some e
+valued-one (Valued.bare e) (Valued.plain f w) = no-some e
+valued-one Valued.intLit (Valued.bare e) = no-some e
 valued-one Valued.intLit Valued.intLit = refl
+valued-one Valued.longLit (Valued.bare e) = no-some e
 valued-one Valued.longLit Valued.longLit = refl
+valued-one (Valued.prefixed f) (Valued.bare e) = no-some e
 valued-one (Valued.prefixed e) (Valued.prefixed f) = refl
 valued-one (Valued.prefixed e) (Valued.plain f w) = clash (sym e ∙ f)
+valued-one (Valued.plain f w) (Valued.bare e) = no-some e
 valued-one (Valued.plain f w) (Valued.prefixed e) = clash (sym e ∙ f)
 valued-one (Valued.plain e w) (Valued.plain f v) = let h = content-one w refl refl v in rw (h .0, h .1)
-valued-one Valued.charSym Valued.charSym = refl
-valued-one Valued.lParen Valued.lParen = refl
-valued-one Valued.rParen Valued.rParen = refl
-valued-one Valued.lBracket Valued.lBracket = refl
-valued-one Valued.rBracket Valued.rBracket = refl
-valued-one Valued.lBrace Valued.lBrace = refl
-valued-one Valued.rBrace Valued.rBrace = refl
-valued-one Valued.comma Valued.comma = refl
-valued-one Valued.semi Valued.semi = refl
-valued-one Valued.dot Valued.dot = refl
-valued-one Valued.key Valued.key = refl
 
 valued-same : {n : ℕ} {s r : Text} {y z : TokenType} {t u : TokenKind} → y ≡ z → Valued n s r y t → Valued n s r z u → t ≡ u
 valued-same e h k = valued-one (rw e at h) k

@@ -6,15 +6,16 @@ use mathlib.Core.Path.{_≡_, refl, sym, _∙_, ap}
 use mathlib.Core.Bool.{Bool, true, false}
 use mathlib.Core.Logic.{inl, inr}
 use mathlib.Core.List.{List, [], _∷_, _++_}
+use mathlib.Core.Option.{Option, none, some}
 use lib.ListN.{length, take-append-drop}
 use native.Mathlib.Omega.{arith}
 use Rattle.chars.specs.paper.Utf8.{width}
 use Rattle.chars.specs.paper.Text.{Char, Text, charsAt, from, place}
 use Rattle.chars.proofs.text.Texts.{Suffix, suffix-refl, suffix-trans, TextOf, text-suffix, text-place}
 use Rattle.words.specs.Words.{le4, le8}
-use Rattle.token.specs.paper.Kinds.{Kind, TokenType, kwNumber, kindNumber, Token}
+use Rattle.token.specs.paper.Kinds.{Kind, TokenType, withoutValues, kwNumber, kindNumber, Token}
 use Rattle.token.specs.paper.Shapes.{both, textOf, limit, TokenShape, HasShape, Stands}
-use Rattle.token.specs.paper.Reading.{Piece, Pieces, Content, Valued, Tokens, TokensOf}
+use Rattle.token.specs.paper.Reading.{Piece, Pieces, LastDropped, Content, Valued, Tokens, TokensOf}
 use Rattle.token.specs.paper.Refusals.{Opens, InSingle, InTriple, BadEscape, Met, Refused}
 use Rattle.token.specs.paper.Records.{bit, valuesOf, values, headLength, mostBytes, recordLength, recordOf}
 use Rattle.token.specs.code.Form.{joined, formOf, heldAt, Storable}
@@ -91,25 +92,26 @@ module _ (n : ℕ) (s r : Text) (h : Rising n s) (k : Suffix r s) where
   order : (place n s ≤ place n r) × (place n r ≤ n)
   order = let a = rising-most (place n r) (textOf s r) between in let e = start-of in let b = rising-most n r behind in (omega arith, b)
 
+-- what is left where a last quote is dropped, or kept
+dropped-order : {t m : Text} {e f : ℕ} → LastDropped t e m f → Rising e t → (place e t ≤ place f m) × (f ≤ e) × Rising f m
+dropped-order {t} {e = e} (LastDropped.dropped m d s q) h =
+    let k : Rising e (m ++ (d ∷ [])) = rw s at h in
+    let p : place e t ≡ place (d .at) m = ap (place e) s ∙ place-front e m (d ∷ []) in
+    (omega arith, rising-most e (d ∷ []) (rising-back e m (d ∷ []) k), rising-front e m (d ∷ []) k)
+dropped-order (LastDropped.kept q) h = (omega arith, omega arith, h)
+
 -- a string's content lies within its text
 content-order : {t : Text} {e a b : ℕ} → Content t e a b → Rising e t → (place e t ≤ a) × (a ≤ b) × (b ≤ e)
-content-order {t} {e} (Content.bare q p) h = let l = rising-most e t h in (omega arith, omega arith, omega arith)
-content-order {t} {e} (Content.two {c} d {m = m} s q z w) h =
-    let k : Rising e (c ∷ (m ++ (d ∷ []))) = rw s at h in
-    let l = k .0 in
-    let p = place-front e m (d ∷ []) in
-    let f : place e t ≡ c .at = ap (place e) s in
-    let i = content-order w (rising-front e m (d ∷ []) (k .1)) in
-    let j = rising-most e (d ∷ []) (rising-back e m (d ∷ []) (k .1)) in
+content-order {t} {e} (Content.unquoted q p) h = let l = rising-most e t h in (omega arith, omega arith, omega arith)
+content-order (Content.quoted q d w) h =
+    let l = h .0 in
+    let i = dropped-order d (h .1) in
+    let o = content-order w (i .2) in
     let x = i .0 in
     let y = i .1 in
-    let z = i .2 in
-    (omega arith, y, omega arith)
-content-order (Content.one q z w) h =
-    let l = h .0 in
-    let i = content-order w (h .1) in
-    let x = i .0 in
-    (omega arith, i .1, i .2)
+    let z = o .0 in
+    let v = o .2 in
+    (omega arith, o .1, omega arith)
 
 -- ---- tokens
 
@@ -145,6 +147,30 @@ abbrev pub AllBounded : ℕ → List Token → Type 0
 AllBounded n [] = Unit {0}
 AllBounded n (t ∷ ts) = Bounded n t × AllBounded n ts
 
+-- a kind that carries nothing
+abbrev WithinIf : ℕ → ℕ → Option TokenKind → Type 0
+WithinIf a e none = Unit {0}
+WithinIf a e (some k) = Within a e k
+
+bare-within : (a e : ℕ) (y : TokenType) → WithinIf a e (withoutValues y)
+bare-within a e TokenType.ident = tt
+bare-within a e TokenType.opId = tt
+bare-within a e TokenType.backtickId = tt
+bare-within a e TokenType.intLit = tt
+bare-within a e TokenType.longLit = tt
+bare-within a e TokenType.str = tt
+bare-within a e TokenType.charSym = tt
+bare-within a e TokenType.lParen = tt
+bare-within a e TokenType.rParen = tt
+bare-within a e TokenType.lBracket = tt
+bare-within a e TokenType.rBracket = tt
+bare-within a e TokenType.lBrace = tt
+bare-within a e TokenType.rBrace = tt
+bare-within a e TokenType.comma = tt
+bare-within a e TokenType.semi = tt
+bare-within a e TokenType.dot = tt
+bare-within a e (TokenType.key k) = tt
+
 valued-within : {n : ℕ} {s r : Text} {y : TokenType} {k : TokenKind} → Rising n s → Stands (Kind.token y) s r → Valued n s r y k
     → Within (place n s) (place n r) k
 unfolding Stands HasShape TokenShape
@@ -159,20 +185,7 @@ valued-within {n} {s} {r} h w (Valued.plain q c) =
     let x = o .0 in
     let e = start-of n s r h k in
     (omega arith, o .1, o .2)
-valued-within h w Valued.ident = tt
-valued-within h w Valued.opId = tt
-valued-within h w Valued.backtickId = tt
-valued-within h w Valued.charSym = tt
-valued-within h w Valued.lParen = tt
-valued-within h w Valued.rParen = tt
-valued-within h w Valued.lBracket = tt
-valued-within h w Valued.rBracket = tt
-valued-within h w Valued.lBrace = tt
-valued-within h w Valued.rBrace = tt
-valued-within h w Valued.comma = tt
-valued-within h w Valued.semi = tt
-valued-within h w Valued.dot = tt
-valued-within h w Valued.key = tt
+valued-within {n} {s} {r} h w (Valued.bare {t} e) = rw e at (bare-within (place n s) (place n r) t)
 
 module _ (script : List ℕ) where
   tokens-bounded : {gap ps : List Piece} {ts : List Token} {s r : Text} → TextOf script s → Rising (length script) s

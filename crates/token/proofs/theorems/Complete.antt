@@ -3,13 +3,15 @@ use Prim.Native.Nat.{ℕ}
 use mathlib.Core.Path.{_≡_, refl, sym, _∙_, ap}
 use mathlib.Core.Bool.{Bool, true, false, not, _||_}
 use mathlib.Core.Logic.{_⊎_, inl, inr}
+use mathlib.Core.List.{[], _∷_}
 use mathlib.Core.Option.{some}
 use lib.Dec.{eqb}
 use borrow.Author.Tests.{eqb-true}
-use Rattle.chars.specs.paper.Text.{Text}
+use Rattle.chars.specs.paper.Quoted.{member, oneOf}
+use Rattle.chars.specs.paper.Text.{Text, headIs}
 use Rattle.chars.proofs.Bools.{clash, and-both}
 use Rattle.token.specs.paper.Tests.{isAny, begins, opensComment, quote, opSign, freeSign}
-use Rattle.token.specs.paper.Kinds.{Kind, TokenType, isComment, wordOf, runOf}
+use Rattle.token.specs.paper.Kinds.{Kind, TokenType, withoutValues, isComment, wordOf, runOf}
 use Rattle.token.specs.paper.Shapes.{One, _then_, both, codesOf, Ident, Operator, Str, Body, Prefix, TokenShape, HasShape, Stands}
 use Rattle.token.specs.paper.Reading.{Valued}
 use Rattle.token.specs.computed.Flags.{GapKind}
@@ -48,59 +50,14 @@ code-is x c e = go (eqb c x) refl e
 free-op : (s : Text) → freeSign s ≡ true → opSign s ≡ true
 free-op s e = and-both (opSign s) (not (opensComment s)) e .0
 
-sign-lParen : (n : ℕ) (s r : Text) → Clear s → One (isAny "(") s r → scan n s ≡ Found.token tk.LParen r
+-- a single sign, by its code
+sign-hit : (n x : ℕ) (y : TokenType) (s r : Text) → Clear s → One (headIs (member (x ∷ []))) s r → oneOf "()[]{},;." x ≡ true
+    → withoutValues y ≡ some (signOf (record { code = x; at = 0 } ∷ [])) → Hit n s r (scan n s) (Kind.token y)
 unfolding signOf
-sign-lParen n s r z (One.one {c} e) =
-    let q = code-is 40 (c .code) e in
-    scan-by n s Start.sign (starts-sign s z (rw q)) ∙ (rw q)
-
-sign-rParen : (n : ℕ) (s r : Text) → Clear s → One (isAny ")") s r → scan n s ≡ Found.token tk.RParen r
-unfolding signOf
-sign-rParen n s r z (One.one {c} e) =
-    let q = code-is 41 (c .code) e in
-    scan-by n s Start.sign (starts-sign s z (rw q)) ∙ (rw q)
-
-sign-lBracket : (n : ℕ) (s r : Text) → Clear s → One (isAny "[") s r → scan n s ≡ Found.token tk.LBracket r
-unfolding signOf
-sign-lBracket n s r z (One.one {c} e) =
-    let q = code-is 91 (c .code) e in
-    scan-by n s Start.sign (starts-sign s z (rw q)) ∙ (rw q)
-
-sign-rBracket : (n : ℕ) (s r : Text) → Clear s → One (isAny "]") s r → scan n s ≡ Found.token tk.RBracket r
-unfolding signOf
-sign-rBracket n s r z (One.one {c} e) =
-    let q = code-is 93 (c .code) e in
-    scan-by n s Start.sign (starts-sign s z (rw q)) ∙ (rw q)
-
-sign-lBrace : (n : ℕ) (s r : Text) → Clear s → One (isAny "{") s r → scan n s ≡ Found.token tk.LBrace r
-unfolding signOf
-sign-lBrace n s r z (One.one {c} e) =
-    let q = code-is 123 (c .code) e in
-    scan-by n s Start.sign (starts-sign s z (rw q)) ∙ (rw q)
-
-sign-rBrace : (n : ℕ) (s r : Text) → Clear s → One (isAny "}") s r → scan n s ≡ Found.token tk.RBrace r
-unfolding signOf
-sign-rBrace n s r z (One.one {c} e) =
-    let q = code-is 125 (c .code) e in
-    scan-by n s Start.sign (starts-sign s z (rw q)) ∙ (rw q)
-
-sign-comma : (n : ℕ) (s r : Text) → Clear s → One (isAny ",") s r → scan n s ≡ Found.token tk.Comma r
-unfolding signOf
-sign-comma n s r z (One.one {c} e) =
-    let q = code-is 44 (c .code) e in
-    scan-by n s Start.sign (starts-sign s z (rw q)) ∙ (rw q)
-
-sign-semi : (n : ℕ) (s r : Text) → Clear s → One (isAny ";") s r → scan n s ≡ Found.token tk.Semi r
-unfolding signOf
-sign-semi n s r z (One.one {c} e) =
-    let q = code-is 59 (c .code) e in
-    scan-by n s Start.sign (starts-sign s z (rw q)) ∙ (rw q)
-
-sign-dot : (n : ℕ) (s r : Text) → Clear s → One (isAny ".") s r → scan n s ≡ Found.token tk.Dot r
-unfolding signOf
-sign-dot n s r z (One.one {c} e) =
-    let q = code-is 46 (c .code) e in
-    scan-by n s Start.sign (starts-sign s z (rw q)) ∙ (rw q)
+sign-hit n x y s r z (One.one {c} e) i v =
+    let q = code-is x (c .code) e in
+    let w : withoutValues y ≡ some (signOf s) = rw q v in
+    Hit.token (scan-by n s Start.sign (starts-sign s z (rw q i))) (Valued.bare w)
 
 return-found : (s r : Text) → (One (isAny "\r") then One (isAny "\n")) s r → (isAny "\r" s ≡ true) × (scanReturn s ≡ Found.gap GapKind.lineEnd r)
 unfolding scanReturn begins
@@ -132,13 +89,13 @@ str-hit n s r z (inr (both {m} p b)) = prefix-hit n s m r z p b
 token-hits : (n : ℕ) (y : TokenType) (s r : Text) → Clear s → TokenShape y s r → Hit n s r (scan n s) (Kind.token y)
 token-hits n TokenType.ident s r z h =
     let q = plain-ident-found n s r h in
-    Hit.token (scan-by n s Start.word (starts-word s z (q .0)) ∙ q .1) Valued.ident
+    Hit.token (scan-by n s Start.word (starts-word s z (q .0)) ∙ q .1) (Valued.bare refl)
 token-hits n TokenType.opId s r z h =
     let q = op-id-found s r h in
-    Hit.token (scan-by n s Start.operator (starts-operator s z (free-op s (q .0))) ∙ q .1) Valued.opId
+    Hit.token (scan-by n s Start.operator (starts-operator s z (free-op s (q .0))) ∙ q .1) (Valued.bare refl)
 token-hits n TokenType.backtickId s r z h = unfold TokenShape in
     (let q = backtick-found s r (h .0) in
-    Hit.token (scan-by n s Start.backtick (starts-backtick s z (q .0)) ∙ q .1 n ∙ or-token n tk.BacktickId s r (h .1)) Valued.backtickId)
+    Hit.token (scan-by n s Start.backtick (starts-backtick s z (q .0)) ∙ q .1 n ∙ or-token n tk.BacktickId s r (h .1)) (Valued.bare refl))
 token-hits n TokenType.intLit s r z h = unfold TokenShape in
     (let q = number-found false s r h in
     Hit.token (scan-by n s Start.number (starts-number s z (q .0)) ∙ q .1) Valued.intLit)
@@ -148,24 +105,24 @@ token-hits n TokenType.longLit s r z h = unfold TokenShape in
 token-hits n TokenType.str s r z h = unfold TokenShape in (str-hit n s r z h)
 token-hits n TokenType.charSym s r z h =
     let q = char-sym-found s r h in
-    Hit.token (scan-by n s Start.charSym (starts-tick s z (q .0)) ∙ q .1) Valued.charSym
-token-hits n TokenType.lParen s r z h = unfold TokenShape in (Hit.token (sign-lParen n s r z h) Valued.lParen)
-token-hits n TokenType.rParen s r z h = unfold TokenShape in (Hit.token (sign-rParen n s r z h) Valued.rParen)
-token-hits n TokenType.lBracket s r z h = unfold TokenShape in (Hit.token (sign-lBracket n s r z h) Valued.lBracket)
-token-hits n TokenType.rBracket s r z h = unfold TokenShape in (Hit.token (sign-rBracket n s r z h) Valued.rBracket)
-token-hits n TokenType.lBrace s r z h = unfold TokenShape in (Hit.token (sign-lBrace n s r z h) Valued.lBrace)
-token-hits n TokenType.rBrace s r z h = unfold TokenShape in (Hit.token (sign-rBrace n s r z h) Valued.rBrace)
-token-hits n TokenType.comma s r z h = unfold TokenShape in (Hit.token (sign-comma n s r z h) Valued.comma)
-token-hits n TokenType.semi s r z h = unfold TokenShape in (Hit.token (sign-semi n s r z h) Valued.semi)
-token-hits n TokenType.dot s r z h = unfold TokenShape in (Hit.token (sign-dot n s r z h) Valued.dot)
+    Hit.token (scan-by n s Start.charSym (starts-tick s z (q .0)) ∙ q .1) (Valued.bare refl)
+token-hits n TokenType.lParen s r z h = unfold TokenShape signOf in (sign-hit n 40 TokenType.lParen s r z h refl refl)
+token-hits n TokenType.rParen s r z h = unfold TokenShape signOf in (sign-hit n 41 TokenType.rParen s r z h refl refl)
+token-hits n TokenType.lBracket s r z h = unfold TokenShape signOf in (sign-hit n 91 TokenType.lBracket s r z h refl refl)
+token-hits n TokenType.rBracket s r z h = unfold TokenShape signOf in (sign-hit n 93 TokenType.rBracket s r z h refl refl)
+token-hits n TokenType.lBrace s r z h = unfold TokenShape signOf in (sign-hit n 123 TokenType.lBrace s r z h refl refl)
+token-hits n TokenType.rBrace s r z h = unfold TokenShape signOf in (sign-hit n 125 TokenType.rBrace s r z h refl refl)
+token-hits n TokenType.comma s r z h = unfold TokenShape signOf in (sign-hit n 44 TokenType.comma s r z h refl refl)
+token-hits n TokenType.semi s r z h = unfold TokenShape signOf in (sign-hit n 59 TokenType.semi s r z h refl refl)
+token-hits n TokenType.dot s r z h = unfold TokenShape signOf in (sign-hit n 46 TokenType.dot s r z h refl refl)
 token-hits n (TokenType.key k) s r z h = unfold TokenShape in (key-hit h)
   where
     key-hit : (Ident s r × (wordOf (codesOf s r) ≡ some k)) ⊎ (Operator s r × (runOf (codesOf s r) ≡ some k) × (opensComment r ≡ false))
         → Hit n s r (scan n s) (Kind.token (TokenType.key k))
-    key-hit (inl (w, e)) = let q = word-key-found n s r k w e in Hit.token (scan-by n s Start.word (starts-word s z (q .0)) ∙ q .1) Valued.key
+    key-hit (inl (w, e)) = let q = word-key-found n s r k w e in Hit.token (scan-by n s Start.word (starts-word s z (q .0)) ∙ q .1) (Valued.bare refl)
     key-hit (inr (w, e, f)) =
         let q = run-key-found s r k w e f in
-        Hit.token (scan-by n s Start.operator (starts-operator s z (free-op s (q .0))) ∙ q .1) Valued.key
+        Hit.token (scan-by n s Start.operator (starts-operator s z (free-op s (q .0))) ∙ q .1) (Valued.bare refl)
 
 -- what stands is what the scanner finds, with its values
 pub scan-hits : (n : ℕ) (k : Kind) (s r : Text) → Stands k s r → Hit n s r (scan n s) k

@@ -10,7 +10,7 @@ use borrow.Author.Tests.{ne-eqb, le-leb}
 use Rattle.chars.specs.paper.Text.{Char, Text, place}
 use Rattle.token.specs.paper.Tests.{begins, quote}
 use Rattle.token.specs.paper.Shapes.{textOf}
-use Rattle.token.specs.paper.Reading.{endsQuote, Content}
+use Rattle.token.specs.paper.Reading.{endsQuote, LastDropped, Content}
 use Rattle.token.specs.computed.Answer.{strip, plainContent}
 use Rattle.token.specs.declared.kinds.TokenKind.the-variants as tk
 
@@ -61,8 +61,8 @@ strip-none [] back e = refl
 strip-none (c ∷ t) back e = refl
 
 strip-is : (f : ℕ) (u z y : Text) (e : ℕ) → length u ≤ f → Stripped u z y e
-strip-is zero [] z y e l = (e, e, strip-none z y e, Content.bare no-quote refl)
-strip-is (suc f) [] z y e l = (e, e, strip-none z y e, Content.bare no-quote refl)
+strip-is zero [] z y e l = (e, e, strip-none z y e, Content.unquoted no-quote refl)
+strip-is (suc f) [] z y e l = (e, e, strip-none z y e, Content.unquoted no-quote refl)
 strip-is zero (c ∷ v) z y e l = absurd (omega arith)
 strip-is (suc f) (c ∷ v) z y e l = go (quote (c ∷ v)) refl (λ u z y e h. strip-is f u z y e h)
   where
@@ -98,7 +98,7 @@ strip-is (suc f) (c ∷ v) z y e l = go (quote (c ∷ v)) refl (λ u z y e h. st
               h .0,
               h .1,
               strip-turn (length v) c (v ++ z) (reverseAux v (c ∷ y)) e ∙ rw (quote-first c (v ++ z) v, q, two, test, x) (rw (back, m, k) (h .2)),
-              Content.two d (ap {B = Text} (λ t. c ∷ t) (s .split)) q x (h .3),
+              Content.quoted q (LastDropped.dropped w d (s .split) x) (h .3),
             )
         by false x =
             let h = below v z (c ∷ y) e l in
@@ -106,18 +106,18 @@ strip-is (suc f) (c ∷ v) z y e l = go (quote (c ∷ v)) refl (λ u z y e h. st
               h .0,
               h .1,
               strip-turn (length v) c (v ++ z) (reverseAux v (c ∷ y)) e ∙ rw (quote-first c (v ++ z) v, q, two, test, x, k) (h .2),
-              Content.one q (ap endsQuote (s .split) ∙ ends-snoc w d ∙ x) (h .3),
+              Content.quoted q (LastDropped.kept (ap endsQuote (s .split) ∙ ends-snoc w d ∙ x)) (h .3),
             )
 
     long : (v : Text) → length v ≤ f → quote (c ∷ v) ≡ true → Below → Stripped (c ∷ v) z y e
     long [] l q below =
         let h = below [] z (c ∷ y) e (omega arith) in
-        (h .0, h .1, strip-turn 0 c z (c ∷ y) e ∙ rw (quote-first c z [], q) (h .2), Content.one q refl (h .3))
+        (h .0, h .1, strip-turn 0 c z (c ∷ y) e ∙ rw (quote-first c z [], q) (h .2), Content.quoted q (LastDropped.kept refl) (h .3))
     long (d ∷ v) l q below = ends (d ∷ v) l q (snoc d v) below
 
     go : (b : Bool) → quote (c ∷ v) ≡ b → Below → Stripped (c ∷ v) z y e
     go true q below = long v (omega (arith, l)) q below
-    go false q below = (c .at, e, strip-turn (length v) c (v ++ z) (reverseAux v (c ∷ y)) e ∙ rw (quote-first c (v ++ z) v, q), Content.bare q refl)
+    go false q below = (c .at, e, strip-turn (length v) c (v ++ z) (reverseAux v (c ∷ y)) e ∙ rw (quote-first c (v ++ z) v, q), Content.unquoted q refl)
 
 pub content-is : (n : ℕ) (s r : Text) → (a : ℕ) × (b : ℕ) × (plainContent n s r ≡ tk.Str a b) × Content (textOf s r) (place n r) a b
 unfolding plainContent

@@ -5,7 +5,7 @@ use mathlib.Core.Path.{_≡_, refl, sym, _∙_, ap}
 use mathlib.Core.Bool.{Bool, true, false, cond, not, _&&_, _||_}
 use mathlib.Core.Logic.{_⊎_, inl, inr}
 use mathlib.Core.List.{[], _∷_}
-use mathlib.Core.Option.{none}
+use mathlib.Core.Option.{none, some}
 use lib.ListN.{drop}
 use lib.Dec.{eqb, leb}
 use native.Mathlib.Omega.{arith}
@@ -17,7 +17,7 @@ use Rattle.chars.proofs.classes.Laws.{signs, sign-is, sign-not, start-not, sign
 use Rattle.chars.proofs.Bools.{clash, and-both, not-true}
 use Rattle.chars.proofs.Carry.{every, carry}
 use Rattle.token.specs.paper.Tests.{isDigit, isAny, begins, startsWith, opensLine, opensBlock, opensComment, endsLine, quote, digit, opSign, freeSign, apostrophe}
-use Rattle.token.specs.paper.Kinds.{Kind, TokenType}
+use Rattle.token.specs.paper.Kinds.{Kind, TokenType, withoutValues}
 use Rattle.token.specs.paper.Shapes.{One, both, Block, TokenShape, HasShape, Stands}
 use Rattle.token.specs.paper.Reading.{Valued}
 use Rattle.token.specs.paper.Refusals.{starts, Met}
@@ -296,7 +296,7 @@ unfolding scan
 scan-by n s x e = rw e
 
 -- a single sign
-pub sign-of : (s : Text) → isAny "()[]{},;." s ≡ true → (y : TokenType) × TokenShape y s (drop 1 s) × ((n : ℕ) → Valued n s (drop 1 s) y (signOf s))
+pub sign-of : (s : Text) → isAny "()[]{},;." s ≡ true → (y : TokenType) × TokenShape y s (drop 1 s) × (withoutValues y ≡ some (signOf s))
 unfolding signOf TokenShape
 sign-of [] e = clash e
 sign-of (c ∷ s) e =
@@ -304,7 +304,7 @@ sign-of (c ∷ s) e =
     (oneOf "," (c .code)) (oneOf ";" (c .code)) refl refl refl refl refl refl refl refl
   where
     Answer : Type 0
-    Answer = (y : TokenType) × TokenShape y (c ∷ s) s × ((n : ℕ) → Valued n (c ∷ s) s y (signOf (c ∷ s)))
+    Answer = (y : TokenType) × TokenShape y (c ∷ s) s × (withoutValues y ≡ some (signOf (c ∷ s)))
 
     bits : (a b : Bool) → a || b ≡ true → a || false ≡ false → b ≡ true
     bits true b x y = clash (sym y)
@@ -312,23 +312,23 @@ sign-of (c ∷ s) e =
 
     go : (b1 b2 b3 b4 b5 b6 b7 b8 : Bool) → oneOf "(" (c .code) ≡ b1 → oneOf ")" (c .code) ≡ b2 → oneOf "[" (c .code) ≡ b3 → oneOf "]" (c .code) ≡ b4
         → oneOf "{" (c .code) ≡ b5 → oneOf "}" (c .code) ≡ b6 → oneOf "," (c .code) ≡ b7 → oneOf ";" (c .code) ≡ b8 → Answer
-    go true b2 b3 b4 b5 b6 b7 b8 e1 e2 e3 e4 e5 e6 e7 e8 = (TokenType.lParen, One.one e1, λ n. rw e1 Valued.lParen)
-    go false true b3 b4 b5 b6 b7 b8 e1 e2 e3 e4 e5 e6 e7 e8 = (TokenType.rParen, One.one e2, λ n. rw (e1, e2) Valued.rParen)
-    go false false true b4 b5 b6 b7 b8 e1 e2 e3 e4 e5 e6 e7 e8 = (TokenType.lBracket, One.one e3, λ n. rw (e1, e2, e3) Valued.lBracket)
-    go false false false true b5 b6 b7 b8 e1 e2 e3 e4 e5 e6 e7 e8 = (TokenType.rBracket, One.one e4, λ n. rw (e1, e2, e3, e4) Valued.rBracket)
-    go false false false false true b6 b7 b8 e1 e2 e3 e4 e5 e6 e7 e8 = (TokenType.lBrace, One.one e5, λ n. rw (e1, e2, e3, e4, e5) Valued.lBrace)
+    go true b2 b3 b4 b5 b6 b7 b8 e1 e2 e3 e4 e5 e6 e7 e8 = (TokenType.lParen, One.one e1, rw e1)
+    go false true b3 b4 b5 b6 b7 b8 e1 e2 e3 e4 e5 e6 e7 e8 = (TokenType.rParen, One.one e2, rw (e1, e2))
+    go false false true b4 b5 b6 b7 b8 e1 e2 e3 e4 e5 e6 e7 e8 = (TokenType.lBracket, One.one e3, rw (e1, e2, e3))
+    go false false false true b5 b6 b7 b8 e1 e2 e3 e4 e5 e6 e7 e8 = (TokenType.rBracket, One.one e4, rw (e1, e2, e3, e4))
+    go false false false false true b6 b7 b8 e1 e2 e3 e4 e5 e6 e7 e8 = (TokenType.lBrace, One.one e5, rw (e1, e2, e3, e4, e5))
     go false false false false false true b7 b8 e1 e2 e3 e4 e5 e6 e7 e8 =
-        (TokenType.rBrace, One.one e6, λ n. rw (e1, e2, e3, e4, e5, e6) Valued.rBrace)
+        (TokenType.rBrace, One.one e6, rw (e1, e2, e3, e4, e5, e6))
     go false false false false false false true b8 e1 e2 e3 e4 e5 e6 e7 e8 =
-        (TokenType.comma, One.one e7, λ n. rw (e1, e2, e3, e4, e5, e6, e7) Valued.comma)
+        (TokenType.comma, One.one e7, rw (e1, e2, e3, e4, e5, e6, e7))
     go false false false false false false false true e1 e2 e3 e4 e5 e6 e7 e8 =
-        (TokenType.semi, One.one e8, λ n. rw (e1, e2, e3, e4, e5, e6, e7, e8) Valued.semi)
+        (TokenType.semi, One.one e8, rw (e1, e2, e3, e4, e5, e6, e7, e8))
     go false false false false false false false false e1 e2 e3 e4 e5 e6 e7 e8 =
         let x = c .code in
         let d = bits (eqb x 59) _
         (bits (eqb x 44) _ (bits (eqb x 125) _
         (bits (eqb x 123) _ (bits (eqb x 93) _ (bits (eqb x 91) _ (bits (eqb x 41) _ (bits (eqb x 40) _ e e1) e2) e3) e4) e5) e6) e7) e8 in
-        (TokenType.dot, One.one d, λ n. rw (e1, e2, e3, e4, e5, e6, e7, e8) Valued.dot)
+        (TokenType.dot, One.one d, rw (e1, e2, e3, e4, e5, e6, e7, e8))
 
 -- ---- what is found stands
 
@@ -411,7 +411,7 @@ as-stands n c s _ (Fact.cr z e) = go (return-scan n (c ∷ s) e)
         → Scanned n (c ∷ s) (scanReturn (c ∷ s))
     go (inl (r, q, w)) = gap-hit n Kind.lineEnd (c ∷ s) r _ z w (Hit.lineEnd q)
     go (inr w) = Scanned.fell w
-as-stands n c s _ (Fact.sign z e) = let h = sign-of (c ∷ s) e in gap-hit n (Kind.token (h .0)) (c ∷ s) s _ z (h .1) (Hit.token refl (h .2 n))
+as-stands n c s _ (Fact.sign z e) = let h = sign-of (c ∷ s) e in gap-hit n (Kind.token (h .0)) (c ∷ s) s _ z (h .1) (Hit.token refl (Valued.bare (h .2)))
 as-stands n c s _ (Fact.number z e) = go (number-stands n (c ∷ s) e)
   where
     go : Stood n (c ∷ s) (scanNumber (c ∷ s)) ⊎ ((scanNumber (c ∷ s) ≡ Found.stuck 6 (c ∷ s)) × Met (c ∷ s) 6 (c ∷ s))

@@ -15,7 +15,7 @@ use Rattle.chars.proofs.text.Texts.{suffix-same}
 use Rattle.token.specs.paper.Tests.{isAny, begins, endsLine}
 use Rattle.token.specs.paper.Kinds.{Kind, isComment, isLineEnd}
 use Rattle.token.specs.paper.Shapes.{One, both, LineEnd, HasShape, Stands}
-use Rattle.token.specs.paper.Reading.{Piece, some, AfterComment, NoEndAfter, Cut}
+use Rattle.token.specs.paper.Reading.{Piece, hasPiece, AfterComment, NoEndAfter, Cut}
 use Rattle.token.specs.computed.Flags.{GapKind, fresh, push, cutOf}
 use Rattle.token.specs.declared.gap.Gap.{Gap}
 use Rattle.token.specs.computed.Answer.{Found, Start, scan, scanReturn}
@@ -48,13 +48,13 @@ split2 (g ∷ gap) p (x ∷ front) back e = go (split2 gap p front back (ap (dro
     go (inl h) = inl h
     go (inr (b, h, k)) = inr (b, h, rw (← k) (ap {B = List Piece} (λ z. z ∷ gap) (ap (headOr g) e)))
 
-some-snoc : (t : Kind → Bool) (l : List Piece) (p : Piece) → some t (l ++ (p ∷ [])) ≡ some t l || t (p .kind)
-some-snoc t [] p = go (t (p .kind))
+has-snoc : (t : Kind → Bool) (l : List Piece) (p : Piece) → hasPiece t (l ++ (p ∷ [])) ≡ hasPiece t l || t (p .kind)
+has-snoc t [] p = go (t (p .kind))
   where
     go : (b : Bool) → b || false ≡ b
     go true = refl
     go false = refl
-some-snoc t (x ∷ l) p = go (t (x .kind)) (some t (l ++ (p ∷ []))) (some t l) (t (p .kind)) (some-snoc t l p)
+has-snoc t (x ∷ l) p = go (t (x .kind)) (hasPiece t (l ++ (p ∷ []))) (hasPiece t l) (t (p .kind)) (has-snoc t l p)
   where
     go : (b c d e : Bool) → c ≡ d || e → b || c ≡ (b || d) || e
     go true c d e h = refl
@@ -74,6 +74,16 @@ or-left false b e = refl
 
 -- ---- after-comment marks
 
+mark-end : (gap : List Piece) (p : Piece) → isLineEnd (p .kind) ≡ true → AfterComment (gap ++ (p ∷ [])) → ⊥
+mark-end gap p y h = go (split2 gap p (h .front) (h .back) (h .split))
+  where
+    go : (h .back ≡ []) ⊎ ((b : List Piece) × (h .back ≡ b ++ (p ∷ [])) × (gap ≡ h .front ++ b)) → ⊥
+    go (inl e) = clash (sym (ap (hasPiece isComment) e) ∙ h .comment)
+    go (inr (b, e, k)) =
+        let d : hasPiece isLineEnd (h .back) ≡ true = ap (hasPiece isLineEnd) e ∙ has-snoc isLineEnd b p ∙ ap (λ x. hasPiece isLineEnd b || x) y
+        ∙ or-true (hasPiece isLineEnd b) in
+        clash (sym (h .noEnd) ∙ d)
+
 mark-blank : (gap : List Piece) (p : Piece) → isComment (p .kind) ≡ false → isLineEnd (p .kind) ≡ false
     → AfterComment gap ↔ AfterComment (gap ++ (p ∷ []))
 mark-blank gap p z y = (there, back)
@@ -84,67 +94,43 @@ mark-blank gap p z y = (there, back)
           front = h .front;
           back = h .back ++ (p ∷ []);
           split = ap (λ l. l ++ (p ∷ [])) (h .split) ∙ append-assoc (h .front) (h .back) (p ∷ []);
-          comment = some-snoc isComment (h .back) p ∙ rw (h .comment);
-          noEnd = some-snoc isLineEnd (h .back) p ∙ rw (h .noEnd, y);
+          comment = has-snoc isComment (h .back) p ∙ rw (h .comment);
+          noEnd = has-snoc isLineEnd (h .back) p ∙ rw (h .noEnd, y);
         }
 
     back : AfterComment (gap ++ (p ∷ [])) → AfterComment gap
     back h = go (split2 gap p (h .front) (h .back) (h .split))
       where
         go : (h .back ≡ []) ⊎ ((b : List Piece) × (h .back ≡ b ++ (p ∷ [])) × (gap ≡ h .front ++ b)) → AfterComment gap
-        go (inl e) = clash (sym (ap (some isComment) e) ∙ h .comment)
+        go (inl e) = clash (sym (ap (hasPiece isComment) e) ∙ h .comment)
         go (inr (b, e, k)) =
-            let c : some isComment b ≡ true = sym (or-false _) ∙ sym (ap (λ x. some isComment b || x) z) ∙ sym (some-snoc isComment b p)
-            ∙ sym (ap (some isComment) e) ∙ h .comment in
-            let d : some isLineEnd b ≡ false = or-left (some isLineEnd b) (isLineEnd (p .kind))
-            (sym (some-snoc isLineEnd b p) ∙ sym (ap (some isLineEnd) e) ∙ h .noEnd) in
+            let c : hasPiece isComment b ≡ true = sym (or-false _) ∙ sym (ap (λ x. hasPiece isComment b || x) z) ∙ sym (has-snoc isComment b p)
+            ∙ sym (ap (hasPiece isComment) e) ∙ h .comment in
+            let d : hasPiece isLineEnd b ≡ false = or-left (hasPiece isLineEnd b) (isLineEnd (p .kind))
+            (sym (has-snoc isLineEnd b p) ∙ sym (ap (hasPiece isLineEnd) e) ∙ h .noEnd) in
             record { front = h .front; back = b; split = k; comment = c; noEnd = d }
-
-mark-end : (gap : List Piece) (p : Piece) → isLineEnd (p .kind) ≡ true → AfterComment (gap ++ (p ∷ [])) → ⊥
-mark-end gap p y h = go (split2 gap p (h .front) (h .back) (h .split))
-  where
-    go : (h .back ≡ []) ⊎ ((b : List Piece) × (h .back ≡ b ++ (p ∷ [])) × (gap ≡ h .front ++ b)) → ⊥
-    go (inl e) = clash (sym (ap (some isComment) e) ∙ h .comment)
-    go (inr (b, e, k)) =
-        let d : some isLineEnd (h .back) ≡ true = ap (some isLineEnd) e ∙ some-snoc isLineEnd b p ∙ ap (λ x. some isLineEnd b || x) y
-        ∙ or-true (some isLineEnd b) in
-        clash (sym (h .noEnd) ∙ d)
 
 mark-comment : (gap : List Piece) (p : Piece) → isComment (p .kind) ≡ true → isLineEnd (p .kind) ≡ false → AfterComment (gap ++ (p ∷ []))
 mark-comment gap p z y = record { front = gap; back = p ∷ []; split = refl; comment = rw z; noEnd = rw y }
 
 -- ---- cuts
 
-cut-keep : (script : List ℕ) (gap : List Piece) (p : Piece) → Cut script gap → Cut script (gap ++ (p ∷ []))
-cut-keep script gap p h =
-    record {
-      front = h .front;
-      back = h .back ++ (p ∷ []);
-      start = h .start;
-      end = h .end;
-      split =
-          ap (λ l. l ++ (p ∷ [])) (h .split)
-          ∙ append-assoc (h .front) (record { kind = Kind.blockComment; start = h .start; end = h .end } ∷ h .back) (p ∷ []);
-      after = h .after;
-      unended = h .unended;
-    }
-
 -- a cut of the longer gap is one of the gap, or p's own
 cut-back : (script : List ℕ) (gap : List Piece) (p : Piece) → Cut script (gap ++ (p ∷ []))
-    → Cut script gap ⊎ ((p .kind ≡ Kind.blockComment) × (some isLineEnd gap ≡ true) × NoEndAfter (from script (p .end)))
+    → Cut script gap ⊎ ((p .kind ≡ Kind.blockComment) × (hasPiece isLineEnd gap ≡ true) × NoEndAfter (from script (p .end)))
 cut-back script gap p h = go (split2 gap p (h .front) (b ∷ h .back) (h .split))
   where
     b : Piece
     b = record { kind = Kind.blockComment; start = h .start; end = h .end }
 
     Answer : Type 0
-    Answer = Cut script gap ⊎ ((p .kind ≡ Kind.blockComment) × (some isLineEnd gap ≡ true) × NoEndAfter (from script (p .end)))
+    Answer = Cut script gap ⊎ ((p .kind ≡ Kind.blockComment) × (hasPiece isLineEnd gap ≡ true) × NoEndAfter (from script (p .end)))
 
     by : (c : List Piece) → (b ∷ h .back) ≡ c ++ (p ∷ []) → gap ≡ h .front ++ c → Answer
     by [] e k =
         let q : b ≡ p = ap (headOr b) e in
         let g : gap ≡ h .front = k ∙ append-nil (h .front) in
-        inr (sym (ap (λ (x : Piece). x .kind) q), ap (some isLineEnd) g ∙ h .after, rw (← q) (h .unended))
+        inr (sym (ap (λ (x : Piece). x .kind) q), ap (hasPiece isLineEnd) g ∙ h .after, rw (← q) (h .unended))
     by (x ∷ c) e k =
         let q : b ≡ x = ap (headOr b) e in
         inl (record {
@@ -160,6 +146,20 @@ cut-back script gap p h = go (split2 gap p (h .front) (b ∷ h .back) (h .split)
     go : ((b ∷ h .back) ≡ []) ⊎ ((c : List Piece) × ((b ∷ h .back) ≡ c ++ (p ∷ [])) × (gap ≡ h .front ++ c)) → Answer
     go (inl e) = no-cons b (h .back) (sym e)
     go (inr (c, e, k)) = by c e k
+
+cut-keep : (script : List ℕ) (gap : List Piece) (p : Piece) → Cut script gap → Cut script (gap ++ (p ∷ []))
+cut-keep script gap p h =
+    record {
+      front = h .front;
+      back = h .back ++ (p ∷ []);
+      start = h .start;
+      end = h .end;
+      split =
+          ap (λ l. l ++ (p ∷ [])) (h .split)
+          ∙ append-assoc (h .front) (record { kind = Kind.blockComment; start = h .start; end = h .end } ∷ h .back) (p ∷ []);
+      after = h .after;
+      unended = h .unended;
+    }
 
 -- ---- past spaces and tabs
 
@@ -244,7 +244,7 @@ line-no-block e = zero-one (cc)
 
 -- what they say of the gap, where the text s follows
 pub record Knows (script : List ℕ) (gap : List Piece) (g : Gap) (s : Text) : Type 0 where
-  pub newline : g .newline ≡ some isLineEnd gap
+  pub newline : g .newline ≡ hasPiece isLineEnd gap
   pub comment : g .comment ≡ true ↔ AfterComment gap
   pub cut : g .cut || g .pending && not (lineEnds s) ≡ true ↔ Cut script gap
 
@@ -273,8 +273,8 @@ knows-fresh script s =
       cut = ((λ e. clash e), λ h. none (h .front) (h .back) _ (h .split));
     }
   where
-    nothing : (f b : List Piece) → [] ≡ f ++ b → some isComment b ≡ true → false ≡ true
-    nothing [] b e c = ap (some isComment) e ∙ c
+    nothing : (f b : List Piece) → [] ≡ f ++ b → hasPiece isComment b ≡ true → false ≡ true
+    nothing [] b e c = ap (hasPiece isComment) e ∙ c
     nothing (x ∷ f) b e c = no-cons x (f ++ b) e
 
     none : (f b : List Piece) (x : Piece) → [] ≡ f ++ (x ∷ b) → false ≡ true
@@ -286,13 +286,13 @@ same-cut : (script : List ℕ) (gap : List Piece) (p : Piece) {b : Bool} → b �
     → b ≡ true ↔ Cut script (gap ++ (p ∷ []))
 same-cut script gap p {b} k n = ((λ e. cut-keep script gap p (k .0 e)), λ h. go (cut-back script gap p h))
   where
-    go : Cut script gap ⊎ ((p .kind ≡ Kind.blockComment) × (some isLineEnd gap ≡ true) × NoEndAfter (from script (p .end))) → b ≡ true
+    go : Cut script gap ⊎ ((p .kind ≡ Kind.blockComment) × (hasPiece isLineEnd gap ≡ true) × NoEndAfter (from script (p .end))) → b ≡ true
     go (inl h) = k .1 h
     go (inr h) = absurd (n (h .0))
 
 module _ (script : List ℕ) (gap : List Piece) (g : Gap) (s : Text) (K : Knows script gap g s) (p : Piece) (r : Text) where
-  keep-newline : isLineEnd (p .kind) ≡ false → g .newline ≡ some isLineEnd (gap ++ (p ∷ []))
-  keep-newline y = K .newline ∙ sym (some-snoc isLineEnd gap p ∙ ap (λ x. some isLineEnd gap || x) y ∙ or-false (some isLineEnd gap))
+  keep-newline : isLineEnd (p .kind) ≡ false → g .newline ≡ hasPiece isLineEnd (gap ++ (p ∷ []))
+  keep-newline y = K .newline ∙ sym (has-snoc isLineEnd gap p ∙ ap (λ x. hasPiece isLineEnd gap || x) y ∙ or-false (hasPiece isLineEnd gap))
 
   pub knows-blank : p .kind ≡ Kind.blank → lineEnds s ≡ lineEnds r → Knows script (gap ++ (p ∷ [])) g r
   knows-blank q h =
@@ -309,7 +309,7 @@ module _ (script : List ℕ) (gap : List Piece) (g : Gap) (s : Text) (K : Knows 
   knows-end q h =
       let y : isLineEnd (p .kind) ≡ true = rw q in
       record {
-        newline = sym (some-snoc isLineEnd gap p ∙ ap (λ x. some isLineEnd gap || x) y ∙ or-true (some isLineEnd gap));
+        newline = sym (has-snoc isLineEnd gap p ∙ ap (λ x. hasPiece isLineEnd gap || x) y ∙ or-true (hasPiece isLineEnd gap));
         comment = ((λ e. clash e), λ h. absurd (mark-end gap p y h));
         cut = iff-of (yes-end (g .cut) (g .pending) (lineEnds s) h) (same-cut script gap p (K .cut) (λ e. clash (sym (ap isLineEnd e) ∙ y)));
       }
@@ -350,7 +350,7 @@ module _ (script : List ℕ) (gap : List Piece) (g : Gap) (s : Text) (K : Knows 
       there false true true ea eb ec e = clash e
       there false false c ea eb ec e = clash e
 
-      back : Cut script gap ⊎ ((p .kind ≡ Kind.blockComment) × (some isLineEnd gap ≡ true) × NoEndAfter (from script (p .end)))
+      back : Cut script gap ⊎ ((p .kind ≡ Kind.blockComment) × (hasPiece isLineEnd gap ≡ true) × NoEndAfter (from script (p .end)))
           → cutOf g || g .newline && not (lineEnds r) ≡ true
       back (inl c) = rw (cut-here K h .1 c)
       back (inr (k, l, n)) =

@@ -5,7 +5,7 @@ use mathlib.Core.Bool.{Bool, true, false, not, _&&_, _||_}
 use mathlib.Core.Logic.{_⊎_, inl, inr}
 use mathlib.Core.List.{[], _∷_}
 use mathlib.Core.Option.{none, some}
-use lib.ListN.{length, drop}
+use lib.ListN.{length, drop, length-drop}
 use lib.Dec.{eqb}
 use native.Mathlib.Omega.{arith}
 use borrow.Author.Tests.{eqb-true}
@@ -15,7 +15,7 @@ use Rattle.chars.specs.computed.Runs.{afterRun}
 use Rattle.chars.proofs.classes.IdRuns.{run-stays}
 use Rattle.chars.proofs.Bools.{clash, and-both}
 use Rattle.token.specs.paper.Tests.{isAny, begins, startsWith, opensLine, opensBlock, closesBlock, endOfLine}
-use Rattle.token.specs.paper.Shapes.{Run, Times, _then_, both, LineComment, Items, Block}
+use Rattle.token.specs.paper.Shapes.{Shape, One, Run, Times, _then_, both, LineComment, Block, Item, Items}
 use Rattle.token.specs.computed.Flags.{GapKind}
 use Rattle.token.specs.computed.Answer.{Found, scanLine, close, blockOr, scanBlock}
 use Rattle.token.proofs.Base.{no-some}
@@ -50,13 +50,13 @@ line-times s e =
     let h = two-codes 47 47 s e in
     rw (h .3) (Times.more {c = h .0} {s = h .1 ∷ h .2} (rw (h .4)) (Times.more {c = h .1} {s = h .2} (rw (h .5)) Times.done))
 
+or-none : (x : Bool) → x || false ≡ true → x ≡ true
+or-none true e = refl
+or-none false e = clash e
+
 times-line : (s t : Text) → Times (isAny "/") 2 s t → (opensLine s ≡ true) × (t ≡ drop 2 s)
 unfolding begins
 times-line s t (Times.more {c = a} e (Times.more {c = b} f Times.done)) = (rw (or-none (eqb (a .code) 47) e, or-none (eqb (b .code) 47) f), refl)
-  where
-    or-none : (x : Bool) → x || false ≡ true → x ≡ true
-    or-none true e = refl
-    or-none false e = clash e
 
 line-ends : (m t : Text) → afterRun inLine t ≡ m → endOfLine m ≡ true
 line-ends [] t q = refl
@@ -82,6 +82,33 @@ line-found s r h = go (h .0) (h .1)
 
 -- ---- block comments
 
+-- `/*` and `*/`
+abbrev Opening : Shape
+Opening s r = (One (isAny "/") then One (isAny "*")) s r
+
+abbrev Closing : Shape
+Closing s r = (One (isAny "*") then One (isAny "/")) s r
+
+opening : (s : Text) → opensBlock s ≡ true → Opening s (drop 2 s)
+unfolding begins
+opening s e =
+    let h = two-codes 47 42 s e in
+    rw (h .3) (both (One.one {c = h .0} {s = h .1 ∷ h .2} (rw (h .4))) (One.one {c = h .1} {s = h .2} (rw (h .5))))
+
+closing : (s : Text) → closesBlock s ≡ true → Closing s (drop 2 s)
+unfolding begins
+closing s e =
+    let h = two-codes 42 47 s e in
+    rw (h .3) (both (One.one {c = h .0} {s = h .1 ∷ h .2} (rw (h .4))) (One.one {c = h .1} {s = h .2} (rw (h .5))))
+
+opening-opens : {s r : Text} → Opening s r → (opensBlock s ≡ true) × (r ≡ drop 2 s)
+unfolding begins
+opening-opens (both (One.one {c = a} e) (One.one {c = b} f)) = (rw (or-none (eqb (a .code) 47) e, or-none (eqb (b .code) 42) f), refl)
+
+closing-closes : {s r : Text} → Closing s r → (closesBlock s ≡ true) × (r ≡ drop 2 s)
+unfolding begins
+closing-closes (both (One.one {c = a} e) (One.one {c = b} f)) = (rw (or-none (eqb (a .code) 42) e, or-none (eqb (b .code) 47) f), refl)
+
 close-skip : (d k : ℕ) (s : Text) → close d k s ≡ close d 0 (drop k s)
 unfolding close
 close-skip d zero s = refl
@@ -97,44 +124,61 @@ close-char : (d : ℕ) (c : Char) (s : Text) → opensBlock (c ∷ s) ≡ false 
 unfolding close
 close-char d c s o k = rw (k, o)
 
-close-open : (d : ℕ) (a b : Char) (s : Text) → opensBlock (a ∷ b ∷ s) ≡ true → close d 0 (a ∷ b ∷ s) ≡ close (suc d) 0 s
+close-open : (d : ℕ) {s r : Text} → Opening s r → close d 0 s ≡ close (suc d) 0 r
 unfolding close
-close-open d a b s o = rw (open-no-close (a ∷ b ∷ s) o, o) (close-skip (suc d) 0 s)
+close-open d o = go o (opening-opens o .0)
+  where
+    go : {s r : Text} → Opening s r → opensBlock s ≡ true → close d 0 s ≡ close (suc d) 0 r
+    go (both (One.one {c = a} e) (One.one {c = b} {s} f)) z = rw (open-no-close (a ∷ b ∷ s) z, z) (close-skip (suc d) 0 s)
 
-close-last : (a b : Char) (s : Text) → closesBlock (a ∷ b ∷ s) ≡ true → close 0 0 (a ∷ b ∷ s) ≡ some s
+close-last : {s r : Text} → Closing s r → close 0 0 s ≡ some r
 unfolding close
-close-last a b s k = rw k
+close-last k = go k (closing-closes k .0)
+  where
+    go : {s r : Text} → Closing s r → closesBlock s ≡ true → close 0 0 s ≡ some r
+    go (both (One.one {c = a} e) (One.one {c = b} {s} f)) z = rw z
 
-close-more : (d : ℕ) (a b : Char) (s : Text) → closesBlock (a ∷ b ∷ s) ≡ true → close (suc d) 0 (a ∷ b ∷ s) ≡ close d 0 s
+close-more : (d : ℕ) {s r : Text} → Closing s r → close (suc d) 0 s ≡ close d 0 r
 unfolding close
-close-more d a b s k = rw k
+close-more d k = go k (closing-closes k .0)
+  where
+    go : {s r : Text} → Closing s r → closesBlock s ≡ true → close (suc d) 0 s ≡ close d 0 r
+    go (both (One.one {c = a} e) (One.one {c = b} {s} f)) z = rw z
 
-pass-items : (d : ℕ) {s m : Text} → Items s m → close d 0 s ≡ close d 0 m
-pass-items d Items.done = refl
-pass-items d (Items.char {c} {s} o k w) = close-char d c s o k ∙ pass-items d w
-pass-items d (Items.nest {a} {b} {d = x} {e = y} {s} {m} o i k w) =
-    close-open d a b s o ∙ pass-items (suc d) i ∙ close-more d x y m k ∙ pass-items d w
+-- inside of open comments a block comment, an item and items are passed
+mutual
+  pass-block : {s r : Text} → Block s r → (d : ℕ) → close d 0 s ≡ close d 0 r
+  pass-block (Block.block o i k) d = close-open d o ∙ pass-items i (suc d) ∙ close-more d k
+
+  pass-item : {s r : Text} → Item s r → (d : ℕ) → close d 0 s ≡ close d 0 r
+  pass-item (Item.comment b) d = pass-block b d
+  pass-item (Item.char {c} {s} o k) d = close-char d c s o k
+
+  pass-items : {s r : Text} → Items s r → (d : ℕ) → close d 0 s ≡ close d 0 r
+  pass-items Items.done d = refl
+  pass-items (Items.item i w) d = pass-item i d ∙ pass-items w d
+
+block-close : {s r : Text} → Block s r → close 0 0 (drop 2 s) ≡ some r
+block-close (Block.block o i k) = ap (close 0 0) (sym (opening-opens o .1)) ∙ pass-items i 0 ∙ close-last k
 
 pub block-found : (s r : Text) → Block s r → (opensBlock s ≡ true) × (scanBlock s ≡ Found.gap GapKind.blockComment r)
 unfolding scanBlock
-block-found s r (Block.block {d = x} {e = y} {s = t} o i k) = (o, ap (blockOr s) (pass-items 0 i ∙ close-last x y r k))
+block-found s r h = (opens h, ap (blockOr s) (block-close h))
+  where
+    opens : {s r : Text} → Block s r → opensBlock s ≡ true
+    opens (Block.block o i k) = opening-opens o .0
 
 -- the closings of (suc d) comments, one after another
-pub data Closes : ℕ → Text → Text → Type 0 where
-  last : {x y : Char} {s r : Text} → Items s (x ∷ y ∷ r) → closesBlock (x ∷ y ∷ r) ≡ true → Closes 0 s r
-  more : {d : ℕ} {x y : Char} {s m r : Text} → Items s (x ∷ y ∷ m) → closesBlock (x ∷ y ∷ m) ≡ true → Closes d m r → Closes (suc d) s r
+data Closes : ℕ → Text → Text → Type 0 where
+  last : {s m r : Text} → Items s m → Closing m r → Closes 0 s r
+  more : {d : ℕ} {s m t r : Text} → Items s m → Closing m t → Closes d t r → Closes (suc d) s r
 
-closes-char : {d : ℕ} {c : Char} {s r : Text} → opensBlock (c ∷ s) ≡ false → closesBlock (c ∷ s) ≡ false → Closes d s r → Closes d (c ∷ s) r
-closes-char o k (Closes.last i e) = Closes.last (Items.char o k i) e
-closes-char o k (Closes.more i e w) = Closes.more (Items.char o k i) e w
+closes-item : {d : ℕ} {s m r : Text} → Item s m → Closes d m r → Closes d s r
+closes-item i (Closes.last j k) = Closes.last (Items.item i j) k
+closes-item i (Closes.more j k w) = Closes.more (Items.item i j) k w
 
-closes-nest : {d : ℕ} {a b x y : Char} {s m r : Text} → opensBlock (a ∷ b ∷ s) ≡ true → Items s (x ∷ y ∷ m) → closesBlock (x ∷ y ∷ m) ≡ true
-    → Closes d m r → Closes d (a ∷ b ∷ s) r
-closes-nest o i k (Closes.last j e) = Closes.last (Items.nest o i k j) e
-closes-nest o i k (Closes.more j e w) = Closes.more (Items.nest o i k j) e w
-
-closes-open : (d : ℕ) {a b : Char} {s r : Text} → opensBlock (a ∷ b ∷ s) ≡ true → Closes (suc d) s r → Closes d (a ∷ b ∷ s) r
-closes-open d o (Closes.more i k w) = closes-nest o i k w
+closes-open : {d : ℕ} {s m r : Text} → Opening s m → Closes (suc d) m r → Closes d s r
+closes-open o (Closes.more i k w) = closes-item (Item.comment (Block.block o i k)) w
 
 abbrev Outcome : ℕ → Text → Type 0
 Outcome d s = (close d 0 s ≡ none) ⊎ ((r : Text) × (close d 0 s ≡ some r) × Closes d s r)
@@ -154,45 +198,34 @@ close-finds (suc f) d (c ∷ s) l = go (closesBlock (c ∷ s)) (opensBlock (c �
 
     char : opensBlock (c ∷ s) ≡ false → closesBlock (c ∷ s) ≡ false → Outcome d s → Outcome d (c ∷ s)
     char o k (inl n) = inl (close-char d c s o k ∙ n)
-    char o k (inr (r, q, w)) = inr (r, close-char d c s o k ∙ q, closes-char o k w)
+    char o k (inr (r, q, w)) = inr (r, close-char d c s o k ∙ q, closes-item (Item.char o k) w)
 
-    opened : (b : Char) (t : Text) → opensBlock (c ∷ b ∷ t) ≡ true → Outcome (suc d) t → Outcome d (c ∷ b ∷ t)
-    opened b t o (inl n) = inl (close-open d c b t o ∙ n)
-    opened b t o (inr (r, q, w)) = inr (r, close-open d c b t o ∙ q, closes-open d o w)
+    opened : {s t : Text} → Opening s t → Outcome (suc d) t → Outcome d s
+    opened o (inl n) = inl (close-open d o ∙ n)
+    opened o (inr (r, q, w)) = inr (r, close-open d o ∙ q, closes-open o w)
 
-    shut : (d : ℕ) (b : Char) (t : Text) → closesBlock (c ∷ b ∷ t) ≡ true → ((e : ℕ) → Outcome e t) → Outcome d (c ∷ b ∷ t)
-    shut zero b t k below = inr (t, close-last c b t k, Closes.last Items.done k)
-    shut (suc d) b t k below = by (below d)
+    shut : (d : ℕ) {s t : Text} → Closing s t → ((e : ℕ) → Outcome e t) → Outcome d s
+    shut zero {t} k below = inr (t, close-last k, Closes.last Items.done k)
+    shut (suc d) {s} {t} k below = by (below d)
       where
-        by : Outcome d t → Outcome (suc d) (c ∷ b ∷ t)
-        by (inl n) = inl (close-more d c b t k ∙ n)
-        by (inr (r, q, w)) = inr (r, close-more d c b t k ∙ q, Closes.more Items.done k w)
-
-    two : (s : Text) → length s ≤ f → (x : ℕ) (y : ℕ) → startsWith (x ∷ y ∷ []) (c ∷ s) ≡ true
-        → ((b : Char) (t : Text) → length t ≤ f → s ≡ b ∷ t → Outcome d (c ∷ s)) → Outcome d (c ∷ s)
-    two [] l x y e next = clash (and-both (eqb (c .code) x) false e .1)
-    two (b ∷ t) l x y e next = next b t (omega arith) refl
+        by : Outcome d t → Outcome (suc d) s
+        by (inl n) = inl (close-more d k ∙ n)
+        by (inr (r, q, w)) = inr (r, close-more d k ∙ q, Closes.more Items.done k w)
 
     go : (x y : Bool) → closesBlock (c ∷ s) ≡ x → opensBlock (c ∷ s) ≡ y → Below → Outcome d (c ∷ s)
-    go true y ex ey below = two s (omega arith) 42 47 (unfold begins in ex) (λ b t h q. rw q (shut d b t (rw q at ex) (λ e. below e t h)))
-    go false true ex ey below = two s (omega arith) 47 42 (unfold begins in ey) (λ b t h q. rw q (opened b t (rw q at ey) (below (suc d) t h)))
+    go true y ex ey below = shut d (closing (c ∷ s) ex) (λ e. below e (drop 1 s) (simp length-drop (omega arith)))
+    go false true ex ey below = opened (opening (c ∷ s) ey) (below (suc d) (drop 1 s) (simp length-drop (omega arith)))
     go false false ex ey below = char ey ex (below d s (omega arith))
 
 pub block-stands : (s : Text) → opensBlock s ≡ true
     → ((r : Text) × (scanBlock s ≡ Found.gap GapKind.blockComment r) × Block s r) ⊎ ((scanBlock s ≡ Found.stuck 2 s) × ((r : Text) → Block s r → ⊥))
-unfolding scanBlock begins
-block-stands [] e = clash e
-block-stands (a ∷ []) e = clash (and-both (eqb (a .code) 47) false e .1)
-block-stands (a ∷ b ∷ s) e = go (close-finds (length s) 0 s (omega arith))
+unfolding scanBlock
+block-stands s e = go (close-finds (length (drop 2 s)) 0 (drop 2 s) (omega arith))
   where
-    block : {r : Text} → Closes 0 s r → Block (a ∷ b ∷ s) r
-    block (Closes.last i k) = Block.block e i k
+    block : {r : Text} → Closes 0 (drop 2 s) r → Block s r
+    block (Closes.last i k) = Block.block (opening s e) i k
 
-    go : Outcome 0 s
-        → ((r : Text) × (scanBlock (a ∷ b ∷ s) ≡ Found.gap GapKind.blockComment r) × Block (a ∷ b ∷ s) r)
-        ⊎ ((scanBlock (a ∷ b ∷ s) ≡ Found.stuck 2 (a ∷ b ∷ s)) × ((r : Text) → Block (a ∷ b ∷ s) r → ⊥))
-    go (inl n) = inr (ap (blockOr (a ∷ b ∷ s)) n, λ r h. never r h)
-      where
-        never : (r : Text) → Block (a ∷ b ∷ s) r → ⊥
-        never r (Block.block {d = x} {e = y} o i k) = no-some (sym n ∙ pass-items 0 i ∙ close-last x y r k)
-    go (inr (r, q, w)) = inl (r, ap (blockOr (a ∷ b ∷ s)) q, block w)
+    go : Outcome 0 (drop 2 s)
+        → ((r : Text) × (scanBlock s ≡ Found.gap GapKind.blockComment r) × Block s r) ⊎ ((scanBlock s ≡ Found.stuck 2 s) × ((r : Text) → Block s r → ⊥))
+    go (inl n) = inr (ap (blockOr s) n, λ r h. no-some (sym n ∙ block-close h))
+    go (inr (r, q, w)) = inl (r, ap (blockOr s) q, block w)

@@ -168,6 +168,19 @@ pub scan-ident : (n : ℕ) (s : Text) → scanIdent n s ≡ wordOr n s (afterIde
 unfolding scanIdent codesTo
 scan-ident n s = refl
 
+-- what stands is what it finds
+pub plain-ident-found : (n : ℕ) (s r : Text) → TokenShape TokenType.ident s r → (headIs isIdStart s ≡ true) × (scanIdent n s ≡ Found.token tk.Ident r)
+unfolding TokenShape orPrefixed
+plain-ident-found n s r h =
+    let q = ident-found s r (h .0 .0) in
+    (q .0, scan-ident n s ∙ rw (← q .1) (rw (h .0 .1, h .1)))
+
+pub word-key-found : (n : ℕ) (s r : Text) (k : Kw) → Ident s r → wordOf (codesOf s r) ≡ some k
+    → (headIs isIdStart s ≡ true) × (scanIdent n s ≡ Found.token (tk.Kw k) r)
+word-key-found n s r k h e =
+    let q = ident-found s r h in
+    (q .0, scan-ident n s ∙ rw (← q .1) (rw e))
+
 -- where no quote follows, what it finds stands
 pub ident-stands : (n : ℕ) (s : Text) → headIs isIdStart s ≡ true
     → (quote (afterIdent false (drop 1 s)) ≡ false) ⊎ ((k : Kw) × (wordOf (codesOf s (afterIdent false (drop 1 s))) ≡ some k))
@@ -189,7 +202,7 @@ ident-stands n s e o = go (wordOf (codesOf s r)) refl o
           rest = r;
           found = scan-ident n s ∙ ap (wordOr n s r) f ∙ rw q;
           shape = (((id, f), q));
-          valued = Valued.ident;
+          valued = Valued.bare refl;
         }
     go none f (inr k) = no-some (sym f ∙ k .1)
     go (some k) f o =
@@ -199,18 +212,5 @@ ident-stands n s e o = go (wordOf (codesOf s r)) refl o
           rest = r;
           found = scan-ident n s ∙ ap (wordOr n s r) f;
           shape = inl (id, f);
-          valued = Valued.key;
+          valued = Valued.bare refl;
         }
-
--- what stands is what it finds
-pub plain-ident-found : (n : ℕ) (s r : Text) → TokenShape TokenType.ident s r → (headIs isIdStart s ≡ true) × (scanIdent n s ≡ Found.token tk.Ident r)
-unfolding TokenShape orPrefixed
-plain-ident-found n s r h =
-    let q = ident-found s r (h .0 .0) in
-    (q .0, scan-ident n s ∙ rw (← q .1) (rw (h .0 .1, h .1)))
-
-pub word-key-found : (n : ℕ) (s r : Text) (k : Kw) → Ident s r → wordOf (codesOf s r) ≡ some k
-    → (headIs isIdStart s ≡ true) × (scanIdent n s ≡ Found.token (tk.Kw k) r)
-word-key-found n s r k h e =
-    let q = ident-found s r h in
-    (q .0, scan-ident n s ∙ rw (← q .1) (rw e))

@@ -48,7 +48,7 @@ operator-stands n s e = go (runOf (codesOf s r)) (opensComment r) refl refl
           rest = r;
           found = scan-operator s ∙ ap (runOr r) eo;
           shape = (op, inl eo);
-          valued = Valued.opId;
+          valued = Valued.bare refl;
         }
     go (some k) true eo eb =
         record {
@@ -57,7 +57,7 @@ operator-stands n s e = go (runOf (codesOf s r)) (opensComment r) refl refl
           rest = r;
           found = scan-operator s ∙ ap (runOr r) eo ∙ rw eb;
           shape = (op, inr eb);
-          valued = Valued.opId;
+          valued = Valued.bare refl;
         }
     go (some k) false eo eb =
         record {
@@ -66,7 +66,7 @@ operator-stands n s e = go (runOf (codesOf s r)) (opensComment r) refl refl
           rest = r;
           found = scan-operator s ∙ ap (runOr r) eo ∙ rw eb;
           shape = inr (op, eo, eb);
-          valued = Valued.key;
+          valued = Valued.bare refl;
         }
 
 pub op-id-found : (s r : Text) → TokenShape TokenType.opId s r → (freeSign s ≡ true) × (scanOperator s ≡ Found.token tk.OpId r)

@@ -16,7 +16,7 @@ use Rattle.chars.proofs.classes.Laws.{no-start}
 use Rattle.chars.proofs.Bools.{clash, not-true}
 use Rattle.token.specs.paper.Tests.{isAny, begins, quote, notBacktick}
 use Rattle.token.specs.paper.Kinds.{TokenType, wordOf}
-use Rattle.token.specs.paper.Shapes.{One, Run, Run1, Times, both, Ident, PlainIdent, Backtick, Body, Prefix, codesOf, TokenShape}
+use Rattle.token.specs.paper.Shapes.{One, Run, Run1, Times, both, PlainIdent, Backtick, Body, Prefix, codesOf, TokenShape}
 use Rattle.token.specs.paper.Reading.{Valued}
 use Rattle.token.specs.paper.Refusals.{Met}
 use Rattle.token.specs.computed.Answer.{Found, afterIdent, closeString, prefixedOf, orPrefixed, wordOr, scanIdent, backtickOr, scanBacktick}
@@ -159,7 +159,7 @@ backtick-stands n (b ∷ c ∷ u) e = go (back (c ∷ u)) refl
           rest = r;
           found = or-token n tk.BacktickId s r q;
           shape = (k, q);
-          valued = Valued.backtickId;
+          valued = Valued.bare refl;
         })
 
     name : back (c ∷ u) ≡ false → (m : Text) → afterRun notBacktick (c ∷ u) ≡ m → Run notBacktick (c ∷ u) m → Answer

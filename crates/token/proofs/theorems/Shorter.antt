@@ -9,7 +9,7 @@ use Rattle.chars.specs.paper.Classes.{isIdStart}
 use Rattle.chars.proofs.text.Texts.{drop-suffix, Suffix, suffix-refl, suffix-cons, suffix-trans}
 use Rattle.token.specs.paper.Tests.{isAny, quote, digit, hexDigit, freeSign, notBacktick, apostrophe, endOfLine}
 use Rattle.token.specs.paper.Kinds.{Kind, TokenType}
-use Rattle.token.specs.paper.Shapes.{One, Run, Run1, Times, UpTo, _then_, both, Items, Block, LineEnd, LineComment, Digits, NumberText, Chunks, Tail, Ident, Operator, Backtick, Escape, Single, Body, Prefix, Str, Character, Name, Symbol, TokenShape, HasShape, Stands}
+use Rattle.token.specs.paper.Shapes.{One, Run, Run1, Times, UpTo, _then_, both, Block, Item, Items, LineEnd, LineComment, Digits, NumberText, Chunks, Tail, Ident, Operator, Backtick, Escape, Single, Body, Prefix, Str, Character, Name, Symbol, TokenShape, HasShape, Stands}
 use Rattle.token.proofs.theorems.Runs.{run-suffix}
 use Rattle.token.proofs.theorems.Idents.{rest-suffix}
 
@@ -41,17 +41,20 @@ upto-suffix UpTo.full = suffix-refl _
 upto-suffix (UpTo.fewer e) = suffix-refl _
 upto-suffix (UpTo.more {c} e w) = suffix-cons c (upto-suffix w)
 
-items-suffix : {s r : Text} → Items s r → Suffix r s
-items-suffix Items.done = suffix-refl _
-items-suffix (Items.char {c} o k w) = suffix-cons c (items-suffix w)
-items-suffix (Items.nest {a} {b} {d} {e} {m} o i k w) =
-    suffix-trans (items-suffix w) (suffix-trans (suffix-cons d (suffix-cons e (suffix-refl m))) (suffix-cons a (suffix-cons b (items-suffix i))))
+pair-strict : {p q : Text → Bool} {s r : Text} → (One p then One q) s r → Strict r s
+pair-strict (both a b) = strict-then (one-strict a) (one-strict b .0)
 
-block-strict : {s r : Text} → Block s r → Strict r s
-block-strict (Block.block {a} {b} {d} {e} {r} o i k) =
-    let h = suffix-trans (suffix-cons d (suffix-cons e (suffix-refl r))) (items-suffix i) in
-    let w = h .within in
-    (suffix-cons a (suffix-cons b h), omega arith)
+mutual
+  block-strict : {s r : Text} → Block s r → Strict r s
+  block-strict (Block.block o i k) = strict-then (pair-strict o) (suffix-trans (pair-strict k .0) (items-suffix i))
+
+  item-suffix : {s r : Text} → Item s r → Suffix r s
+  item-suffix (Item.comment b) = block-strict b .0
+  item-suffix (Item.char {c} {s} o k) = suffix-cons c (suffix-refl s)
+
+  items-suffix : {s r : Text} → Items s r → Suffix r s
+  items-suffix Items.done = suffix-refl _
+  items-suffix (Items.item i w) = suffix-trans (items-suffix w) (item-suffix i)
 
 pub escape-suffix : {s r : Text} → Escape s r → Suffix r s
 escape-suffix (Escape.simple (both a b)) = suffix-trans (one-strict b .0) (one-strict a .0)
@@ -113,7 +116,7 @@ symbol-strict s r h = go (h .0)
 
 line-end-strict : (s r : Text) → LineEnd s r → Strict r s
 line-end-strict s r (inl o) = one-strict o
-line-end-strict s r (inr (both a b)) = strict-then (one-strict a) (one-strict b .0)
+line-end-strict s r (inr h) = pair-strict h
 
 line-strict : (s r : Text) → LineComment s r → Strict r s
 line-strict s r h = go (h .0)

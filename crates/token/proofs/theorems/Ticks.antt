@@ -31,7 +31,7 @@ pub record Fell (s : Text) (f : Found) : Type 0 where
   pub found : f ≡ Found.stuck number rest
   pub met : Met s number rest
 
--- a test of the first character of a text that a headIs test implies another
+-- a test of the first character of a text that a test of the first character implies another
 head-other : (p q : ℕ → Bool) → ((c : ℕ) → p c ≡ true → q c ≡ false) → (s : Text) → headIs p s ≡ true → headIs q s ≡ false
 head-other p q f [] e = clash e
 head-other p q f (c ∷ s) e = f (c .code) e
@@ -120,7 +120,7 @@ tick-stands n (t ∷ m) e = go (backslash m) refl
     Answer = Stood n (t ∷ m) (scanCharSym (t ∷ m)) ⊎ Fell (t ∷ m) (scanCharSym (t ∷ m))
 
     stood : (r : Text) → scanCharSym (t ∷ m) ≡ Found.token tk.CharSym r → TokenShape TokenType.charSym (t ∷ m) r → Stood n (t ∷ m) (scanCharSym (t ∷ m))
-    stood r f h = record { type = TokenType.charSym; token = tk.CharSym; rest = r; found = f; shape = h; valued = Valued.charSym }
+    stood r f h = record { type = TokenType.charSym; token = tk.CharSym; rest = r; found = f; shape = h; valued = Valued.bare refl }
 
     -- an escape
     closes : (b : Bool) → backslash m ≡ true → (g : Good m) → apostrophe (drop (g .count) (drop 1 m)) ≡ b → Answer

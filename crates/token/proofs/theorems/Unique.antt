@@ -3,12 +3,14 @@ use Prim.Native.Nat.{ℕ}
 use mathlib.Core.Path.{_≡_, refl, sym, _∙_, ap}
 use mathlib.Core.Bool.{Bool, true, false}
 use mathlib.Core.List.{List, []}
+use mathlib.Core.Option.{Option, none, some}
 use Rattle.chars.specs.paper.Text.{Text}
 use Rattle.chars.proofs.Bools.{clash}
 use Rattle.token.specs.paper.Tests.{begins}
-use Rattle.token.specs.paper.Kinds.{Kind, TokenType}
+use Rattle.token.specs.paper.Kinds.{Kind, TokenType, withoutValues}
 use Rattle.token.specs.paper.Shapes.{Stands}
 use Rattle.token.specs.paper.Reading.{Piece, Pieces, Reading, Valued}
+use Rattle.token.specs.paper.Records.{valuesOf}
 use Rattle.token.specs.computed.Flags.{GapKind}
 use Rattle.token.specs.computed.Answer.{Found, startOf, scan}
 use Rattle.token.specs.declared.kinds.TokenKind.{TokenKind}
@@ -17,7 +19,7 @@ use Rattle.token.proofs.theorems.Ticks.{Fell}
 use Rattle.token.proofs.theorems.Dispatch.{Hit}
 use Rattle.token.proofs.theorems.Complete.{scan-hits}
 
-abbrev kindOf : TokenKind → Kind
+abbrev pub kindOf : TokenKind → Kind
 kindOf tk.Ident = Kind.token TokenType.ident
 kindOf tk.OpId = Kind.token TokenType.opId
 kindOf tk.BacktickId = Kind.token TokenType.backtickId
@@ -38,25 +40,39 @@ kindOf (tk.Newline b) = Kind.lineEnd
 kindOf tk.Eof = Kind.blank
 kindOf (tk.Kw k) = Kind.token (TokenType.key k)
 
+-- the table of the kinds without values: each is its own kind's, and has none
+abbrev Bare : TokenType → Option TokenKind → Type 0
+Bare y none = Unit {0}
+Bare y (some t) = (Kind.token y ≡ kindOf t) × (valuesOf t ≡ [])
+
+bare-all : (y : TokenType) → Bare y (withoutValues y)
+bare-all TokenType.ident = (refl, refl)
+bare-all TokenType.opId = (refl, refl)
+bare-all TokenType.backtickId = (refl, refl)
+bare-all TokenType.intLit = tt
+bare-all TokenType.longLit = tt
+bare-all TokenType.str = tt
+bare-all TokenType.charSym = (refl, refl)
+bare-all TokenType.lParen = (refl, refl)
+bare-all TokenType.rParen = (refl, refl)
+bare-all TokenType.lBracket = (refl, refl)
+bare-all TokenType.rBracket = (refl, refl)
+bare-all TokenType.lBrace = (refl, refl)
+bare-all TokenType.rBrace = (refl, refl)
+bare-all TokenType.comma = (refl, refl)
+bare-all TokenType.semi = (refl, refl)
+bare-all TokenType.dot = (refl, refl)
+bare-all (TokenType.key k) = (refl, refl)
+
+pub bare-kind : (y : TokenType) (t : TokenKind) → withoutValues y ≡ some t → (Kind.token y ≡ kindOf t) × (valuesOf t ≡ [])
+bare-kind y t e = rw e at (bare-all y)
+
 valued-kind : {n : ℕ} {s r : Text} {y : TokenType} {t : TokenKind} → Valued n s r y t → Kind.token y ≡ kindOf t
-valued-kind Valued.ident = refl
-valued-kind Valued.opId = refl
-valued-kind Valued.backtickId = refl
+valued-kind {y} {t} (Valued.bare e) = bare-kind y t e .0
 valued-kind Valued.intLit = refl
 valued-kind Valued.longLit = refl
 valued-kind (Valued.prefixed e) = refl
 valued-kind (Valued.plain e c) = refl
-valued-kind Valued.charSym = refl
-valued-kind Valued.lParen = refl
-valued-kind Valued.rParen = refl
-valued-kind Valued.lBracket = refl
-valued-kind Valued.rBracket = refl
-valued-kind Valued.lBrace = refl
-valued-kind Valued.rBrace = refl
-valued-kind Valued.comma = refl
-valued-kind Valued.semi = refl
-valued-kind Valued.dot = refl
-valued-kind Valued.key = refl
 
 abbrev gapKind : GapKind → Kind
 gapKind GapKind.blank = Kind.blank

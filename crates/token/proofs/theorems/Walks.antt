@@ -20,7 +20,7 @@ use Rattle.token.specs.declared.kinds.TokenKind.{TokenKind}
 use Rattle.token.specs.declared.kinds.TokenKind.the-variants as tk
 use Rattle.token.proofs.theorems.Ticks.{Fell}
 use Rattle.token.proofs.theorems.Dispatch.{Hit, Scanned, scan-stands}
-use Rattle.token.proofs.theorems.Unique.{fell-none}
+use Rattle.token.proofs.theorems.Unique.{bare-kind, fell-none}
 use Rattle.token.proofs.theorems.Shorter.{Strict, stands-strict, two-str, two-long}
 use Rattle.token.proofs.theorems.Flags.{Knows, cut-here, knows-fresh, knows-blank, knows-end, knows-line, knows-block, spaces, end-ends, blank-same, line-end-ends, other-ends}
 
@@ -86,24 +86,11 @@ newline-bytes mark a e ts m k b l = omega arith
 token-bytes : (k : TokenType) (t : TokenKind) (s r : Text) (n : ℕ) (x y : Text) → Stands (Kind.token k) s r → Valued n x y k t
     → recordLength t + perByte * length r ≤ perByte * length s
 unfolding recordLength values le4 le8
+token-bytes k t s r n x y h (Valued.bare e) = let a = stands-strict (Kind.token k) s r h .1 in rw (bare-kind k t e .1) (omega arith)
+token-bytes k t s r n x y h Valued.intLit = let a = stands-strict (Kind.token k) s r h .1 in omega arith
 token-bytes k t s r n x y h Valued.longLit = let a = two-long s r h in omega arith
 token-bytes k t s r n x y h (Valued.prefixed e) = let a = two-str s r h in omega arith
 token-bytes k t s r n x y h (Valued.plain e w) = let a = two-str s r h in omega arith
-token-bytes k t s r n x y h Valued.ident = let a = stands-strict (Kind.token k) s r h .1 in omega arith
-token-bytes k t s r n x y h Valued.opId = let a = stands-strict (Kind.token k) s r h .1 in omega arith
-token-bytes k t s r n x y h Valued.backtickId = let a = stands-strict (Kind.token k) s r h .1 in omega arith
-token-bytes k t s r n x y h Valued.intLit = let a = stands-strict (Kind.token k) s r h .1 in omega arith
-token-bytes k t s r n x y h Valued.charSym = let a = stands-strict (Kind.token k) s r h .1 in omega arith
-token-bytes k t s r n x y h Valued.lParen = let a = stands-strict (Kind.token k) s r h .1 in omega arith
-token-bytes k t s r n x y h Valued.rParen = let a = stands-strict (Kind.token k) s r h .1 in omega arith
-token-bytes k t s r n x y h Valued.lBracket = let a = stands-strict (Kind.token k) s r h .1 in omega arith
-token-bytes k t s r n x y h Valued.rBracket = let a = stands-strict (Kind.token k) s r h .1 in omega arith
-token-bytes k t s r n x y h Valued.lBrace = let a = stands-strict (Kind.token k) s r h .1 in omega arith
-token-bytes k t s r n x y h Valued.rBrace = let a = stands-strict (Kind.token k) s r h .1 in omega arith
-token-bytes k t s r n x y h Valued.comma = let a = stands-strict (Kind.token k) s r h .1 in omega arith
-token-bytes k t s r n x y h Valued.semi = let a = stands-strict (Kind.token k) s r h .1 in omega arith
-token-bytes k t s r n x y h Valued.dot = let a = stands-strict (Kind.token k) s r h .1 in omega arith
-token-bytes k t s r n x y h Valued.key = let a = stands-strict (Kind.token k) s r h .1 in omega arith
 
 -- no more characters than bytes
 module _ (script : List ℕ) where

@@ -1,4 +1,4 @@
--- What `direct` answers.
+-- What `ascii` answers.
 use Prim.Native.Nat.{ℕ, _+_, _≤_}
 use mathlib.Core.Path.{_≡_}
 use mathlib.Core.Bool.{true, false, cond, _&&_}

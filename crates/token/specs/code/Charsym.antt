@@ -5,7 +5,6 @@ use Rattle.chars.specs.paper.Classes.{isIdStart}
 use Rattle.chars.specs.paper.Text.{Text, headIs}
 use Rattle.chars.specs.computed.Runs.{afterRun}
 use Rattle.token.specs.paper.Tests.{isAny, opSign, freeSign}
-use Rattle.token.specs.paper.Kinds.{word}
 use Rattle.token.specs.computed.Answer.{Found, afterSlash, afterIdent, escapedOf}
 use Rattle.token.specs.declared.kinds.TokenKind.the-variants as tk
 

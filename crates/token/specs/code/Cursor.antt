@@ -2,7 +2,7 @@
 use Prim.Native.Nat.{ℕ}
 use mathlib.Core.List.{List, [], _∷_}
 use lib.ListN.{length}
-use Rattle.chars.specs.paper.Text.{Char, Text, from, place}
+use Rattle.chars.specs.paper.Text.{Text, from, place}
 use Rattle.token.specs.declared.cursor.Cursor.{Cursor}
 use Rattle.token.specs.declared.cursor.Peeked.{Peeked}
 use Rattle.token.specs.declared.cursor.Peeked.the-variants as peeked
@@ -17,5 +17,3 @@ peekedOf n (c ∷ r) = peeked.Char (c .code) (cursorAt (place n r))
 
 unfoldable pub peekAt : List ℕ → ℕ → Peeked
 peekAt s i = peekedOf (length s) (from s i)
-
--- ---- a plain string's content, quotes taken off by eights

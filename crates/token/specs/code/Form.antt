@@ -1,11 +1,12 @@
 -- A record by its form: what it has of its kind, as the code hands it on.
 use Prim.Native.Nat.{ℕ, _+_, _*_, _-_, _%_, _^_, _≤_, _<_}
+use mathlib.Core.Path.{_≡_}
 use mathlib.Core.Bool.{Bool, cond}
 use mathlib.Core.List.{List, [], _∷_, _++_}
 use lib.Dec.{eqb}
-use lib.ListN.{length, take}
+use lib.ListN.{length, take, drop}
 use Rattle.token.specs.paper.Kinds.{kindNumber}
-use Rattle.token.specs.paper.Records.{Value, one, four, eight, valuesOf, headLength, intLength, longLength, lineLength, recordLength, fieldsOf}
+use Rattle.token.specs.paper.Records.{bit, Value, one, four, eight, valuesOf, headLength, intLength, longLength, strLength, lineLength, recordLength, fieldsOf}
 use Rattle.words.specs.Joins.{Bytes}
 use Rattle.words.specs.Words.{le8, oneAt, twoAt, fourAt, eightAt}
 use Rattle.token.specs.declared.kinds.TokenKind.{TokenKind}
@@ -27,12 +28,17 @@ formOf k = record { number = kindNumber k; length = recordLength k; values = joi
 abbrev pub plainForm : ℕ → Form
 plainForm number = record { number = number; length = headLength; values = 0 }
 
+-- no record is longer
+abbrev pub mostLength : ℕ
+mostLength = longLength
+
 -- the lengths that records have
 pub data Known : ℕ → Type 0 where
   head : Known headLength
   line : Known lineLength
   int : Known intLength
   long : Known longLength
+  str : Known strLength
 
 -- the first 13 bytes, then as many bytes of the values as the length has
 unfoldable pub byForm : Form → ℕ → ℕ → Bool → List ℕ
@@ -75,3 +81,14 @@ pub record Whole (l : List ℕ) : Type 0 where
   pub known : Known (heldAt l 0 .length)
   pub room : heldAt l 0 .length ≤ length l
   pub cut : heldAt l 0 .cut ≤ 1
+
+-- What whoever reads stored records may rely on. The contract of `read_record` asks for it.
+pub record RecordForm : Type 0 where
+  -- the record at a place is the first of what stands from there on
+  pub held-on : (bytes : List ℕ) (at : ℕ) → heldAt bytes at ≡ heldAt (drop at bytes) 0
+  -- a record that is stored, whatever follows it, is read as it was
+  pub read-back : (f : Form) (start end : ℕ) (cut : Bool) (rest : List ℕ) → Storable f start end
+      → heldAt (byForm f start end cut ++ rest) 0
+      ≡ record { number = f .number; length = f .length; values = f .values; start = start; end = end; cut = bit cut }
+  -- of a whole record's bytes nothing is lost: what is read from them is stored as the same bytes
+  pub stored-again : (l : List ℕ) → Whole l → storedOf (heldAt l 0) ≡ take (heldAt l 0 .length) l

@@ -1,5 +1,6 @@
 -- One step of the code's walk: the next token, line end or end of script, past blanks and comments.
 use Prim.Native.Nat.{ℕ, zero, suc, _-_}
+use Prim.Native.String.{String}
 use mathlib.Core.Bool.{Bool}
 use mathlib.Core.List.{[], _∷_}
 use lib.ListN.{length}
@@ -51,7 +52,12 @@ passedOf n g (Found.gap k r) = passed.To (cursorAt (place n r)) (push k g)
 passedOf n g (Found.token k r) = passed.Open
 passedOf n g (Found.stuck j q) = passed.Open
 
--- a refusal of a piece
+-- A refusal of a piece. The first line stands for a case that cannot come: it is asked of a piece that was refused, so its 3 is no refusal of
+-- the script.
 abbrev pub refusedOf : Piece → Next
 refusedOf (piece.Token k c) = next.Refused 3 0
 refusedOf (piece.Refused j a) = next.Refused j a
+
+-- the ASCII characters with which a piece other than an identifier or an operator starts
+abbrev pub wordless : String
+wordless = " \t\n\r()[]{},;.0123456789`\"'"

@@ -7,7 +7,8 @@ use Rattle.token.specs.declared.piece.Piece.{Piece}
 use Rattle.token.specs.declared.piece.Piece.the-variants as piece
 use Rattle.token.specs.code.Cursor.{cursorAt}
 
--- a piece: its token and the cursor after it, or a refusal's number and place. Where a gap piece stands no token is asked for.
+-- A piece: its token and the cursor after it, or a refusal's number and place. The last line stands for a case that cannot come: where a gap
+-- piece stands no token is asked for, so its 3 is no refusal of the script.
 unfoldable pub pieceOf : ℕ → Found → Piece
 pieceOf n (Found.token k r) = piece.Token k (cursorAt (place n r))
 pieceOf n (Found.stuck j q) = piece.Refused j (place n q)

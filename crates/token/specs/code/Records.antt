@@ -10,7 +10,8 @@ use Rattle.chars.specs.paper.Text.{from}
 use Rattle.token.specs.paper.Kinds.{Token}
 use Rattle.token.specs.declared.kinds.TokenKind.the-variants as tk
 use Rattle.token.specs.computed.Answer.{Answer, accepted, refused, walk}
-use Rattle.token.specs.paper.Records.{mostLength, records, recordBytes}
+use Rattle.token.specs.paper.Records.{records, recordBytes}
+use Rattle.token.specs.code.Form.{mostLength}
 use Rattle.token.specs.declared.gap.Gap.{Gap}
 use Rattle.token.specs.declared.records.Measured.{Measured}
 use Rattle.token.specs.declared.records.Measured.the-variants as measured

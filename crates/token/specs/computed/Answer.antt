@@ -1,5 +1,7 @@
--- The answer for a script, computed: its tokens with their values, or a refusal's number and place. Of the declared part it shares the
--- character classes and tests alone.
+-- The answer for a script, computed: its tokens with their values, or a refusal's number and place. With the declared part it shares: the
+-- script as a text and a text's place (`from`, `place`); the character classes; the tests of what a text begins with, and a digit's value
+-- (`Tests`); the keywords' texts (`wordOf`, `runOf`); what a token is (`Token`). Of shapes, readings, values, marks, cuts and refusals it shares
+-- nothing. With the code it shares the enums `Kw` and `TokenKind` and the struct `Gap`.
 use Prim.Native.Nat.{ℕ, zero, suc, _+_, _*_, _-_}
 use mathlib.Core.Bool.{Bool, true, false, cond, not, _&&_}
 use mathlib.Core.List.{List, [], _∷_, map, reverse}

@@ -2,7 +2,7 @@
 use mathlib.Core.Path.{_≡_, refl}
 use mathlib.Core.Bool.{true}
 use mathlib.Core.List.{List, [], _∷_, _++_}
-use Rattle.token.specs.computed.Listing.{Example, _gives_, listed, holds}
+use Rattle.token.specs.computed.Listing.{Example, _gives_, listed, holdBy}
 
 abbrev pub marked : List Example
 marked =
@@ -41,7 +41,7 @@ marked =
     ∷ "a一" gives "1 0 4 0\n18 4 4 0\n"
     ∷ []
 
-pub marked-hold : holds marked ≡ true
+pub marked-hold : holdBy listed marked ≡ true
 unfolding listed
 marked-hold = refl
 
@@ -89,6 +89,6 @@ traps =
     ∷ "\n/**/ /**/\nx" gives "17 0 1 0 0\n17 10 11 0 1\n1 11 12 1\n18 12 12 0\n"
     ∷ []
 
-pub examples-hold : holds (listingExample ++ refusalExamples ++ tieExamples ++ traps) ≡ true
+pub examples-hold : holdBy listed (listingExample ++ refusalExamples ++ tieExamples ++ traps) ≡ true
 unfolding listed
 examples-hold = refl

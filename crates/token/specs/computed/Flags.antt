@@ -1,5 +1,5 @@
 -- What is kept of a gap while its pieces pass by: enough for the marks and the cut, with no look past a comment. A block comment after a line
--- end pending for what follows it: the next line end of the gap lets it go, any comment, token or the end of script makes it the cut.
+-- end is pending until what follows it is known: the next line end of the gap lets it go, any comment, token or the end of script makes it the cut.
 use mathlib.Core.Bool.{Bool, true, false, _||_}
 use Rattle.token.specs.declared.gap.Gap.{Gap}
 

@@ -58,6 +58,7 @@ unfoldable pub listed : List ℕ → List ℕ
 unfolding alphabetic lowercase uppercase nd alphaNotLetter width codeOf charsAt from isIdStart isIdChar isOpSign isPrintable isDigit isHexDigit begins wordOf runOf afterRun codesTo scanReturn scanLine close scanBlock readDigits scanNumber hexes digitsUpTo afterSlash closePlain closePrefixed closeTriple closeString strip plainContent scanString orPrefixed afterIdent scanIdent scanOperator scanBacktick scanCharSym startOf signOf scan walk answer decimalFor shown refusedAt listing
 listed s = listing (answer s)
 
-abbrev pub holds : List Example → Bool
-holds [] = true
-holds (_gives_ s t ∷ es) = cond (same (listed (script s)) (codes t)) (holds es) false
+-- by any way of listing a script
+abbrev pub holdBy : (List ℕ → List ℕ) → List Example → Bool
+holdBy f [] = true
+holdBy f (_gives_ s t ∷ es) = cond (same (f (script s)) (codes t)) (holdBy f es) false

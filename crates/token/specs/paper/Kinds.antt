@@ -1,4 +1,13 @@
 -- Document 01, "Records": the kinds, their numbers, and the keywords' texts.
+--
+-- Five types say kinds. Two are the paper's, both below:
+--   `Kind`       of a piece: blank, line end, line comment, block comment, or a token of a type
+--   `TokenType`  of a piece that is a token, without its values. Line ends are a `Kind` of their own, and Eof is no piece.
+-- One is the code's enum (`src/kinds.rt`), on all sides what a token or record is:
+--   `TokenKind`  with its values, Newline and Eof among them; `kindNumber` is its number under Records
+-- Two are the computed side's own:
+--   `GapKind`    (`computed/Flags`) the four of `Kind` that are no token
+--   `Start`      (`computed/Answer`) what a piece's first characters are, so which pieces can stand there: no kind
 use Prim.Native.Nat.{ℕ}
 use Prim.Native.String.{String}
 use mathlib.Core.Bool.{Bool, true, false, cond}
@@ -82,6 +91,26 @@ pub data TokenType : Type 0 where
   ident opId backtickId intLit longLit str charSym : TokenType
   lParen rParen lBracket rBracket lBrace rBrace comma semi dot : TokenType
   key : Kw → TokenType
+
+-- the token kinds that carry no value, each as the code has it: 13 bytes without values
+abbrev pub withoutValues : TokenType → Option TokenKind
+withoutValues TokenType.ident = some tk.Ident
+withoutValues TokenType.opId = some tk.OpId
+withoutValues TokenType.backtickId = some tk.BacktickId
+withoutValues TokenType.intLit = none
+withoutValues TokenType.longLit = none
+withoutValues TokenType.str = none
+withoutValues TokenType.charSym = some tk.CharSym
+withoutValues TokenType.lParen = some tk.LParen
+withoutValues TokenType.rParen = some tk.RParen
+withoutValues TokenType.lBracket = some tk.LBracket
+withoutValues TokenType.rBracket = some tk.RBracket
+withoutValues TokenType.lBrace = some tk.LBrace
+withoutValues TokenType.rBrace = some tk.RBrace
+withoutValues TokenType.comma = some tk.Comma
+withoutValues TokenType.semi = some tk.Semi
+withoutValues TokenType.dot = some tk.Dot
+withoutValues (TokenType.key k) = some (tk.Kw k)
 
 -- The kinds are blank, line end (Newline under Records, one kind), line comment, block comment and the other token kinds under Records.
 pub data Kind : Type 0 where

@@ -4,12 +4,12 @@ use mathlib.Core.Path.{_≡_}
 use mathlib.Core.Bool.{Bool, true, false, _||_}
 use mathlib.Core.Logic.{_⊎_, _↔_}
 use mathlib.Core.List.{List, [], _∷_, _++_}
+use mathlib.Core.Option.{some}
 use lib.ListN.{length}
 use Rattle.chars.specs.paper.Text.{Char, Text, from, place}
 use Rattle.token.specs.paper.Tests.{isAny, endsLine, quote}
-use Rattle.token.specs.paper.Kinds.{Kind, TokenType, isComment, isLineEnd, Token}
+use Rattle.token.specs.paper.Kinds.{Kind, TokenType, withoutValues, isComment, isLineEnd, Token}
 use Rattle.token.specs.paper.Shapes.{Run, Longest, textOf, numberValue, Stands}
-use Rattle.token.specs.declared.kinds.Kw.{Kw}
 use Rattle.token.specs.declared.kinds.TokenKind.{TokenKind}
 use Rattle.token.specs.declared.kinds.TokenKind.the-variants as tk
 
@@ -31,35 +31,41 @@ Reading script ps = Pieces (length script) (from script 0) ps []
 
 -- ---- string content
 
+-- a quote stands last
 abbrev pub endsQuote : Text → Bool
 endsQuote [] = false
 endsQuote (c ∷ []) = quote (c ∷ [])
 endsQuote (c ∷ d ∷ s) = endsQuote (d ∷ s)
 
--- For a plain one, while its text starts with a quote, drop that quote and each time a last one too, if one is left. Of a text that ends at
--- the place e the content lies from a to b.
+-- "a last one too, if one is left": from a text and the place where it ends to what is left of it, and the place where that ends
+pub data LastDropped (t : Text) (e : ℕ) : Text → ℕ → Type 0 where
+  dropped : (m : Text) (d : Char) → t ≡ m ++ (d ∷ []) → quote (d ∷ []) ≡ true → LastDropped t e m (d .at)
+  kept : endsQuote t ≡ false → LastDropped t e t e
+
+-- For a plain one, while its text starts with a quote, drop that quote and each time a last one too, if one is left: from a text and the
+-- place where it ends to the places where its content starts and ends. M8, both texts from 0 to 8:
+-- `"""a""""`: 0 and 7, 1 and 6, 2 and 5 are dropped; `a"`, from 3 to 5, starts with no quote: content 3 to 5.
+-- `""""a"""`: 0 and 7, 1 and 6, 2 and 5 are dropped; of `"a`, from 3 to 5, the first alone: content 4 to 5.
 pub data Content : Text → ℕ → ℕ → ℕ → Type 0 where
-  bare : {t : Text} {e a : ℕ} → quote t ≡ false → place e t ≡ a → Content t e a e
-  two : {c : Char} (d : Char) {t m : Text} {e a b : ℕ} → t ≡ c ∷ (m ++ (d ∷ [])) → quote t ≡ true → quote (d ∷ []) ≡ true → Content m (d .at) a b
-      → Content t e a b
-  one : {c : Char} {m : Text} {e a b : ℕ} → quote (c ∷ m) ≡ true → endsQuote m ≡ false → Content m e a b → Content (c ∷ m) e a b
+  unquoted : {t : Text} {e a : ℕ} → quote t ≡ false → place e t ≡ a → Content t e a e
+  quoted : {c : Char} {t m : Text} {e f a b : ℕ} → quote (c ∷ t) ≡ true → LastDropped t e m f → Content m f a b → Content (c ∷ t) e a b
 
 -- ---- gaps
 
 -- A gap is all gap pieces since the last token that isn't a line end: a list of pieces, the latest last.
 
--- some piece of the list is of such a kind
-abbrev pub some : (Kind → Bool) → List Piece → Bool
-some p [] = false
-some p (q ∷ g) = p (q .kind) || some p g
+-- a piece of such a kind is in the list
+abbrev pub hasPiece : (Kind → Bool) → List Piece → Bool
+hasPiece p [] = false
+hasPiece p (q ∷ g) = p (q .kind) || hasPiece p g
 
 -- A line end's after-comment mark is set exactly when a comment stands between it and the previous line end of its gap, or the gap's start.
 pub record AfterComment (gap : List Piece) : Type 0 where
   pub front : List Piece
   pub back : List Piece
   pub split : gap ≡ front ++ back
-  pub comment : some isComment back ≡ true
-  pub noEnd : some isLineEnd back ≡ false
+  pub comment : hasPiece isComment back ≡ true
+  pub noEnd : hasPiece isLineEnd back ≡ false
 
 -- past spaces and tabs no LF or CR LF follows
 abbrev pub NoEndAfter : Text → Type 0
@@ -73,32 +79,20 @@ pub record Cut (script : List ℕ) (gap : List Piece) : Type 0 where
   pub start : ℕ
   pub end : ℕ
   pub split : gap ≡ front ++ (record { kind = Kind.blockComment; start = start; end = end } ∷ back)
-  pub after : some isLineEnd front ≡ true
+  pub after : hasPiece isLineEnd front ≡ true
   pub unended : NoEndAfter (from script end)
 
 -- ---- the tokens of a reading: one for each of its tokens and line ends, in order, then one Eof that starts and ends at the script's length
 
 -- the token kind with its values, of a token between two texts
 pub data Valued (n : ℕ) (s r : Text) : TokenType → TokenKind → Type 0 where
-  ident : Valued n s r TokenType.ident tk.Ident
-  opId : Valued n s r TokenType.opId tk.OpId
-  backtickId : Valued n s r TokenType.backtickId tk.BacktickId
+  -- a kind that carries nothing
+  bare : {t : TokenType} {k : TokenKind} → withoutValues t ≡ some k → Valued n s r t k
   intLit : Valued n s r TokenType.intLit (tk.IntLit (numberValue s))
   longLit : Valued n s r TokenType.longLit (tk.LongLit (numberValue s))
   -- for a prefixed one all its text
   prefixed : quote s ≡ false → Valued n s r TokenType.str (tk.Str (place n s) (place n r))
   plain : {a b : ℕ} → quote s ≡ true → Content (textOf s r) (place n r) a b → Valued n s r TokenType.str (tk.Str a b)
-  charSym : Valued n s r TokenType.charSym tk.CharSym
-  lParen : Valued n s r TokenType.lParen tk.LParen
-  rParen : Valued n s r TokenType.rParen tk.RParen
-  lBracket : Valued n s r TokenType.lBracket tk.LBracket
-  rBracket : Valued n s r TokenType.rBracket tk.RBracket
-  lBrace : Valued n s r TokenType.lBrace tk.LBrace
-  rBrace : Valued n s r TokenType.rBrace tk.RBrace
-  comma : Valued n s r TokenType.comma tk.Comma
-  semi : Valued n s r TokenType.semi tk.Semi
-  dot : Valued n s r TokenType.dot tk.Dot
-  key : {k : Kw} → Valued n s r (TokenType.key k) (tk.Kw k)
 
 -- the tokens of pieces that follow a gap
 pub data Tokens (script : List ℕ) : List Piece → List Piece → List Token → Type 0 where

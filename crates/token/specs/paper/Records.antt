@@ -1,4 +1,5 @@
--- Document 01, "Records": a token's record as bytes, the records of a list of tokens, the token count and the record bytes.
+-- Document 01, "Records": a token's record as bytes, its length, the records of a list of tokens, the token count and the record bytes, and how
+-- many bytes a script needs at most.
 use Prim.Native.Nat.{ℕ, _+_, _*_}
 use mathlib.Core.Bool.{Bool, true, false}
 use mathlib.Core.List.{List, [], _∷_, _++_}
@@ -11,6 +12,10 @@ use Rattle.token.specs.declared.kinds.TokenKind.the-variants as tk
 abbrev pub bit : Bool → ℕ
 bit true = 1
 bit false = 0
+
+-- length (2 bytes, whole record), kind (2), start (4), end (4), cut (1)
+unfoldable pub fieldsOf : ℕ → ℕ → ℕ → ℕ → Bool → List ℕ
+fieldsOf size kind start end cut = le2 size ++ (le2 kind ++ (le4 start ++ (le4 end ++ (bit cut ∷ []))))
 
 -- a value of a record, by how many bytes it takes
 pub data Value : Type 0 where
@@ -55,35 +60,18 @@ headLength = 13
 abbrev pub intLength : ℕ
 intLength = headLength + 4
 
--- LongLit and Str
 abbrev pub longLength : ℕ
 longLength = headLength + 8
+
+abbrev pub strLength : ℕ
+strLength = headLength + 8
 
 abbrev pub lineLength : ℕ
 lineLength = headLength + 1
 
--- no record is longer
-abbrev pub mostLength : ℕ
-mostLength = longLength
-
 -- length (2 bytes, whole record)
 unfoldable pub recordLength : TokenKind → ℕ
 recordLength k = headLength + length (values k)
-
--- 17: over 16,777,216 bytes. The tokenizer is given none that is longer.
-abbrev pub mostBytes : ℕ
-mostBytes = 16777216
-
--- A script of n bytes needs at most 17 times n plus 13 bytes: no byte of it needs more than a digit's IntLit, and Eof is without values.
-abbrev pub perByte : ℕ
-perByte = intLength
-
-abbrev pub mostNeed : ℕ → ℕ
-mostNeed n = perByte * n + headLength
-
--- length (2 bytes, whole record), kind (2), start (4), end (4), cut (1)
-unfoldable pub fieldsOf : ℕ → ℕ → ℕ → ℕ → Bool → List ℕ
-fieldsOf size kind start end cut = le2 size ++ (le2 kind ++ (le4 start ++ (le4 end ++ (bit cut ∷ []))))
 
 unfoldable pub headOf : Token → List ℕ
 headOf t = fieldsOf (recordLength (t .kind)) (kindNumber (t .kind)) (t .start) (t .end) (t .cut)
@@ -103,3 +91,14 @@ tokenCount ts = length ts
 unfoldable pub recordBytes : List Token → ℕ
 recordBytes [] = 0
 recordBytes (t ∷ ts) = recordLength (t .kind) + recordBytes ts
+
+-- 17: over 16,777,216 bytes. The tokenizer is given none that is longer.
+abbrev pub mostBytes : ℕ
+mostBytes = 16777216
+
+-- A script of n bytes needs at most 17 times n plus 13 bytes: no byte of it needs more than a digit's IntLit, and Eof is without values.
+abbrev pub perByte : ℕ
+perByte = intLength
+
+abbrev pub mostNeed : ℕ → ℕ
+mostNeed n = perByte * n + headLength

@@ -71,15 +71,20 @@ LineEnd s r = One (isAny "\n") s r ⊎ (One (isAny "\r") then One (isAny "\n")) 
 abbrev pub LineComment : Shape
 LineComment s r = (Times (isAny "/") 2 then Run (λ t. not (endOfLine t))) s r × (endOfLine r ≡ true)
 
--- Block comment: `/*`, items, `*/`. An item is a block comment, or one character that begins neither `/*` nor `*/`.
-pub data Items : Text → Text → Type 0 where
-  done : {s : Text} → Items s s
-  char : {c : Char} {s r : Text} → opensBlock (c ∷ s) ≡ false → closesBlock (c ∷ s) ≡ false → Items s r → Items (c ∷ s) r
-  nest : {a b d e : Char} {s m r : Text} → opensBlock (a ∷ b ∷ s) ≡ true → Items s (d ∷ e ∷ m) → closesBlock (d ∷ e ∷ m) ≡ true → Items m r
-      → Items (a ∷ b ∷ s) r
+mutual
+  -- Block comment: `/*`, items, `*/`.
+  pub data Block : Text → Text → Type 0 where
+    block : {s t u r : Text} → (One (isAny "/") then One (isAny "*")) s t → Items t u → (One (isAny "*") then One (isAny "/")) u r → Block s r
 
-pub data Block : Text → Text → Type 0 where
-  block : {a b d e : Char} {s r : Text} → opensBlock (a ∷ b ∷ s) ≡ true → Items s (d ∷ e ∷ r) → closesBlock (d ∷ e ∷ r) ≡ true → Block (a ∷ b ∷ s) r
+  -- An item is a block comment, or one character that begins neither `/*` nor `*/`.
+  pub data Item : Text → Text → Type 0 where
+    comment : {s r : Text} → Block s r → Item s r
+    char : {c : Char} {s : Text} → opensBlock (c ∷ s) ≡ false → closesBlock (c ∷ s) ≡ false → Item (c ∷ s) s
+
+  -- items: zero or more
+  pub data Items : Text → Text → Type 0 where
+    done : {s : Text} → Items s s
+    item : {s m r : Text} → Item s m → Items m r → Items s r
 
 -- ---- Number
 

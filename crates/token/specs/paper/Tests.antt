@@ -106,7 +106,3 @@ same [] [] = true
 same [] (y ∷ b) = false
 same (x ∷ a) [] = false
 same (x ∷ a) (y ∷ b) = eqb x y && same a b
-
--- the ASCII characters with which a piece other than an identifier or an operator starts
-abbrev pub wordless : String
-wordless = " \t\n\r()[]{},;.0123456789`\"'"

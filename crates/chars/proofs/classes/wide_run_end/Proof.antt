@@ -37,7 +37,7 @@ enum-told c = search needs
 -- src/classes.rt:207:13
 returns : tie.Need-returns Inv-loop μ-loop
 returns c =
-    let z = step-none ((c .before .before .before .before .before .before .before .before .before .args) .s .now) ((c .before .before .before .before .loop) .i) (sym ((c .enum-told) .given .1) ∙ (c .before .before .char-at) .ensures) in
+    let z = step-none ((c .before .before .before .before .before .before .before .before .before .args) .s .now) ((c .before .before .before .before .loop) .i) (sym ((c .enum-told) .given .1) ∙ (c .before .before .char-at) .ensures .0) in
     absurd (omega arith)
 
 -- src/classes.rt:209:13
@@ -47,21 +47,21 @@ is-lent-id-char-requires c κs = (c .before .before .before .before .before .bef
 -- src/classes.rt:210:13
 returns-2 : tie.Need-returns-2 Inv-loop μ-loop
 returns-2 c =
-    let t = step-text ((c .before .before .before .before .before .before .before .before .before .before .before .before .args) .s .now) ((c .before .before .before .before .before .before .before .loop) .i) _ _ (sym ((c .before .before .before .here) .given .1) ∙ (c .before .before .before .before .before .char-at) .ensures) in
+    let t = step-text ((c .before .before .before .before .before .before .before .before .before .before .before .before .args) .s .now) ((c .before .before .before .before .before .before .before .loop) .i) _ _ (sym ((c .before .before .before .here) .given .1) ∙ (c .before .before .before .before .before .char-at) .ensures .0) in
     let e = ap isIdChar (t .1) ∙ sym ((c .before .is-lent-id-char) .ensures) ∙ not-true _ ((c .if1) .taken) in
     runs-out isIdChar ((c .before .before .before .before .before .before .before .before .before .before .before .before .args) .s .now) ((c .before .before .before .before .before .before .before .loop) .i) _ ((c .before .before .before .before .before .before .loop-test) .taken) e ((c .before .before .before .before .before .before .before .loop) .inv)
 
 -- src/classes.rt:204:5
 loop-less : tie.Need-loop-less Inv-loop μ-loop
 loop-less c =
-    let t = step-text ((c .before .before .before .before .before .before .before .before .before .before .before .before .args) .s .now) ((c .before .before .before .before .before .before .before .loop) .i) _ _ (sym ((c .before .before .before .here) .given .1) ∙ (c .before .before .before .before .before .char-at) .ensures) in
+    let t = step-text ((c .before .before .before .before .before .before .before .before .before .before .before .before .args) .s .now) ((c .before .before .before .before .before .before .before .loop) .i) _ _ (sym ((c .before .before .before .here) .given .1) ∙ (c .before .before .before .before .before .char-at) .ensures .0) in
     let n = next-on ((c .before .before .before .before .before .before .before .before .before .before .before .before .args) .s .now) ((c .before .before .before .before .before .before .before .loop) .i) ((c .before .before .before .before .before .before .loop-test) .taken) in
     omega (arith, t .2)
 
 -- src/classes.rt:204:5
 loop-again : tie.Need-loop-again Inv-loop μ-loop
 loop-again c =
-    let t = step-text ((c .before .before .before .before .before .before .before .before .before .before .before .before .args) .s .now) ((c .before .before .before .before .before .before .before .loop) .i) _ _ (sym ((c .before .before .before .here) .given .1) ∙ (c .before .before .before .before .before .char-at) .ensures) in
+    let t = step-text ((c .before .before .before .before .before .before .before .before .before .before .before .before .args) .s .now) ((c .before .before .before .before .before .before .before .loop) .i) _ _ (sym ((c .before .before .before .here) .given .1) ∙ (c .before .before .before .before .before .char-at) .ensures .0) in
     let e = ap isIdChar (t .1) ∙ sym ((c .before .is-lent-id-char) .ensures) ∙ not-false _ ((c .if1) .left) in
     ap (λ j. afterRun idChar (from ((c .before .before .before .before .before .before .before .before .before .before .before .before .args) .s .now) j)) (sym (t .2)) ∙ runs-on isIdChar ((c .before .before .before .before .before .before .before .before .before .before .before .before .args) .s .now) ((c .before .before .before .before .before .before .before .loop) .i) _ ((c .before .before .before .before .before .before .loop-test) .taken) e ((c .before .before .before .before .before .before .before .loop) .inv)
 

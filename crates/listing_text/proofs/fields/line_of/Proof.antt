@@ -17,7 +17,7 @@ first-value-requires c κs = search needs
 returns : tie.Need-returns
 unfolding lineOf
 returns c =
-    let held = c .before .before .before .read-record .ensures in
+    let held = c .before .before .before .read-record .ensures .0 in
     simp (c .before .before .value-count .ensures, c .before .first-value .ensures) (ap lineOf held)
 
 pub line-of-spec : {M : Type 1} → statement M

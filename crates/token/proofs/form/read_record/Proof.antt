@@ -1,5 +1,6 @@
 -- Each number is read at its place, the values by the length.
 use Rattle.token.specs.code.Form.{heldAt}
+use Rattle.token.proofs.form.ReadBack.{record-form}
 use borrow.Author.Needs.{needs}
 use Rattle.token.proofs.form.read_record.Statement.{statement}
 use Rattle.token.proofs.form.read_record.Tie as tie
@@ -49,7 +50,7 @@ returns c =
     let start = c .before .before .four .ensures .0 in
     let end = c .before .four2 .ensures .0 in
     let cut = c .one .ensures .0 in
-    simp (values, length, number, start, end, cut)
+    (simp (values, length, number, start, end, cut), record-form)
 
 pub read-record-spec : {M : Type 1} → statement M
 read-record-spec =

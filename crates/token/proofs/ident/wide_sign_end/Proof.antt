@@ -21,7 +21,7 @@ returns : tie.Need-returns
 returns c =
     let s = c .before .before .before .before .args .s .now in
     let i = c .before .before .before .before .args .at in
-    past-off isOpSign s i (ap (headIs isOpSign) (at-end s i (step-none s i (sym (c .enum-told .given .1) ∙ c .before .before .char-at .ensures))))
+    past-off isOpSign s i (ap (headIs isOpSign) (at-end s i (step-none s i (sym (c .enum-told .given .1) ∙ c .before .before .char-at .ensures .0))))
 
 is-op-char-requires : tie.Need-is-op-char-requires
 is-op-char-requires c κs = search needs
@@ -30,14 +30,14 @@ returns-2 : tie.Need-returns-2
 returns-2 c =
     let s = c .before .before .before .before .before .before .before .args .s .now in
     let i = c .before .before .before .before .before .before .before .args .at in
-    let t = step-text s i _ _ (sym (c .before .before .before .here .given .1) ∙ c .before .before .before .before .before .char-at .ensures) in
+    let t = step-text s i _ _ (sym (c .before .before .before .here .given .1) ∙ c .before .before .before .before .before .char-at .ensures .0) in
     past-on isOpSign s i _ (head-at isOpSign s i (t .0) ∙ ap isOpSign (t .1) ∙ sym (c .before .is-op-char .ensures) ∙ c .if1 .taken) (sym (t .2))
 
 returns-3 : tie.Need-returns-3
 returns-3 c =
     let s = c .before .before .before .before .before .before .before .args .s .now in
     let i = c .before .before .before .before .before .before .before .args .at in
-    let t = step-text s i _ _ (sym (c .before .before .before .here .given .1) ∙ c .before .before .before .before .before .char-at .ensures) in
+    let t = step-text s i _ _ (sym (c .before .before .before .here .given .1) ∙ c .before .before .before .before .before .char-at .ensures .0) in
     past-off isOpSign s i (head-at isOpSign s i (t .0) ∙ ap isOpSign (t .1) ∙ sym (c .before .is-op-char .ensures) ∙ c .if1 .left)
 
 pub wide-sign-end-spec : {M : Type 1} → statement M

@@ -1,7 +1,8 @@
--- `read::eight` meets its contract: its sum is that of the definition, and fits.
+-- `read::eight` meets its contract: its sum is that of the definition, and fits; the laws hold at each width.
 -- Assumes nothing.
 use native.Mathlib.Omega.{arith}
 use Rattle.words.specs.Words.{eightAt}
+use Rattle.words.proofs.Joins.{joins}
 use borrow.Author.Needs.{needs}
 use Rattle.words.proofs.read.eight.Statement.{statement}
 use Rattle.words.proofs.read.eight.Tie as tie
@@ -23,7 +24,10 @@ add-result c = search needs
 
 returns : tie.Need-returns
 unfolding eightAt
-returns c = omega (arith, c .four2 .ensures, c .before .four .ensures)
+returns c =
+    let low = c .before .four .ensures in
+    let high = c .four2 .ensures in
+    (omega (arith, low, high), (omega (arith, low, high), joins))
 
 pub eight-spec : {M : Type 1} → statement M
 eight-spec =

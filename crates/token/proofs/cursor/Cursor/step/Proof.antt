@@ -19,7 +19,7 @@ returns : tie.Need-returns
 returns c =
     let args = c .before .before .before .before .before .args in
     let char-at = c .before .before .before .char-at in
-    let h = here (args .s .now) (args .self .at) _ _ (sym (c .before .here .given .1) ∙ char-at .ensures) in
+    let h = here (args .s .now) (args .self .at) _ _ (sym (c .before .here .given .1) ∙ char-at .ensures .0) in
     (h .within, sym (ap (drop 1) (h .text)))
 
 returns-2 : tie.Need-returns-2
@@ -27,7 +27,7 @@ returns-2 c =
     let args = c .before .before .before .before .args in
     let char-at = c .before .before .char-at in
     let pre = c .before .before .before .before .pre in
-    let e = at-end (args .s .now) (args .self .at) (step-none (args .s .now) (args .self .at) (sym (c .enum-told .given .1) ∙ char-at .ensures)) in
+    let e = at-end (args .s .now) (args .self .at) (step-none (args .s .now) (args .self .at) (sym (c .enum-told .given .1) ∙ char-at .ensures .0)) in
     (pre, e ∙ sym (ap (drop 1) e))
 
 pub step-spec : {M : Type 1} → statement M
