@@ -9,6 +9,7 @@ use Rattle.chars.specs.paper.Utf8.{WellFormed}
 use Rattle.token.specs.paper.Kinds.{Token}
 use Rattle.token.specs.paper.Reading.{Piece, Reading, Tokens}
 use Rattle.token.specs.paper.Records.{mostBytes, mostNeed, records, tokenCount, recordBytes}
+use Rattle.token.specs.Theorems.{Theorems}
 use Rattle.entry.specs.paper.Host.{Seen, seen, numberSeen, bufferSeen, Sees}
 use Rattle.entry.specs.computed.Host.{hostOf}
 
@@ -19,10 +20,12 @@ pub record Lends (script buffer block : List ℕ) : Type 0 where
   pub room : mostNeed (length script) ≤ length buffer
   pub sixteen : length block ≡ 16
 
--- Then the number is 0 exactly when a reading exists; and then the buffer holds the records of its tokens, every byte past them as before, and
--- the block their count and their bytes.
+-- Then the number is 0 exactly when a reading exists. There is no second one, and it has a list of tokens. Then the buffer holds the records of
+-- these tokens, every byte past them as before, and the block their count and their bytes.
 pub record Accepts (script buffer block : List ℕ) : Type 0 where
   pub exactly : (numberSeen (hostOf script buffer block) ≡ 0) ↔ ((ps : List Piece) × Reading script ps)
+  pub one : (ps qs : List Piece) → Reading script ps → Reading script qs → ps ≡ qs
+  pub tokens : (ps : List Piece) → Reading script ps → (ts : List Token) × Tokens script [] ps ts
   pub writes : (ps : List Piece) (ts : List Token) → Reading script ps → Tokens script [] ps ts
       → hostOf script buffer block ≡ seen 0 (records ts ++ drop (recordBytes ts) buffer) (blockOf 0 0 (tokenCount ts) (recordBytes ts))
 
@@ -33,5 +36,7 @@ pub record HostTheorems (script buffer block : List ℕ) : Type 0 where
   -- Every refusal leaves the records buffer unchanged; the number is 0 or one of the table's 1 to 20.
   pub unchanged : (numberSeen (hostOf script buffer block) ≡ 0 → ⊥) → bufferSeen (hostOf script buffer block) ≡ buffer
   pub numbers : numberSeen (hostOf script buffer block) ≤ 20
+  -- Of the script alone: its readings, their tokens, and refusals 1 to 16.
+  pub script-theorems : Theorems script
   -- To a host that lends enough the tokens of every reading are handed, and nothing else is accepted.
   pub accepts : Lends script buffer block → Accepts script buffer block

@@ -1,6 +1,6 @@
 // Token text: the part of a script from start to end. Document 01, "Host entry and text".
 ghost use mathlib.Core.Path.{_≡_};
-ghost use Rattle.entry.specs.paper.TokenText.{insideCharacter, hasText, tokenText, textNumber};
+ghost use Rattle.entry.specs.paper.TokenText.{insideCharacter, hasText, tokenText, TextPart, textNumber};
 
 // Does the place lie inside a character?
 fn is_inside(script: &[u8], at: usize) -> bool
@@ -32,9 +32,10 @@ pub fn has_text(script: &[u8], start: usize, end: usize) -> bool
     !is_inside(script, end)
 }
 
-// The part itself; where 21 is met the empty part at 0.
+// The part itself; where 21 is met the empty part at 0. The first clause is of the bytes, the second also of where they are.
 pub fn token_text(script: &[u8], start: usize, end: usize) -> &[u8]
     ensures { λ r. ⌜ now r ≡ tokenText (now (script .entry)) start end ⌝ }
+    ensures { λ r. ⌜ TextPart (script .entry) start end r ⌝ }
 {
     if has_text(script, start, end) {
         return &script[start..end];

@@ -10,7 +10,7 @@ use native.Mathlib.Nat.{add-zero, zero-add, sub-zero}
 use native.Mathlib.Numerals.{add-one}
 use native.Mathlib.Omega.{arith}
 use borrow.Author.Tests.{eq-eqb, ne-eqb, eqb-true, leb-true, le-leb, lt-leb, lt-ltb, le-ltb}
-use Rattle.replay.specs.Cases.{numberAt, untouched, zeros, same, standsAt, isUntouched, holdsRecords, listedBytes, seenAt, lentAfter, asListed, agreesAt, cutShort, endAt, bytesAt, lentAt, nextAt, caseAt, bufferAt, placeOf, casesFrom, caseCount, differing, bufferAfter}
+use Rattle.replay.specs.Cases.{numberAt, untouched, zeros, same, standsAt, isUntouched, holdsRecords, listedBytes, seenAt, lentAfter, asListed, agreesAt, cutShort, endAt, bytesAt, lentAt, nextAt, caseAt, bufferAt, placeOf, casesFrom, caseCount, differing, bufferAfter, Agreement}
 use Rattle.entry.specs.paper.Host.{seen, bufferSeen}
 use Rattle.entry.specs.computed.Host.{hostOf}
 
@@ -337,25 +337,26 @@ turn-end {list} {records₀} {records} {at} {scripts} t h =
 
 -- ---- what agreement means
 
--- There to be read. A case that agrees: the number is the one listed, the block is listed from the eighth byte on, the records are those listed from `end` on,
--- and behind them each byte is as it was.
-pub agrees-means : (list : List ℕ) (at end bytes room : ℕ) {number : ℕ} {buffer block : List ℕ} → seen number buffer block ≡ seenAt list at end room
-    → agreesAt list at end bytes room ≡ true
-    → (number ≡ numberAt list (at + 8)) × (take (length block) (drop (at + 8) list) ≡ block)
-    × (take bytes (drop end list) ++ untouched (length buffer - bytes) ≡ buffer)
-unfolding agreesAt asListed holdsRecords isUntouched
-agrees-means list at end bytes room {number} {buffer} {block} is yes-all =
-    let h = rw (← is) at yes-all in
-    let both = and-eq-true-iff (eqb number (numberAt list (at + 8)) && standsAt list (at + 8) block) (holdsRecords list end bytes buffer) .0 h in
-    let one = and-eq-true-iff (eqb number (numberAt list (at + 8))) (standsAt list (at + 8) block) .0 (both .0) in
-    let front = leb bytes (length buffer) && standsAt list end (take bytes buffer) in
-    let held = and-eq-true-iff front (isUntouched (drop bytes buffer)) .0 (both .1) in
-    let fits = and-eq-true-iff (leb bytes (length buffer)) (standsAt list end (take bytes buffer)) .0 (held .0) in
-    let size = length-take-le bytes buffer (leb-true bytes (length buffer) (fits .0)) in
-    let first = ap (λ n. take n (drop end list)) (sym size) ∙ stands-is list (take bytes buffer) end (fits .1) .1 in
-    let clean = same-is (drop bytes buffer) (untouched (length (drop bytes buffer))) (held .1) in
-    let rest = ap untouched (sym (length-drop bytes buffer)) ∙ sym clean in (
-      eqb-true number (numberAt list (at + 8)) (one .0),
-      stands-is list block (at + 8) (one .1) .1,
-      ap (λ l. l ++ untouched (length buffer - bytes)) first ∙ ap (λ l. take bytes buffer ++ l) rest ∙ take-append-drop bytes buffer,
-    )
+module _ (list : List ℕ) (at end bytes room : ℕ) where
+  agrees-means : (number : ℕ) (buffer block : List ℕ) → seen number buffer block ≡ seenAt list at end room → agreesAt list at end bytes room ≡ true
+      → (number ≡ numberAt list (at + 8)) × (take (length block) (drop (at + 8) list) ≡ block)
+      × (take bytes (drop end list) ++ untouched (length buffer - bytes) ≡ buffer)
+  unfolding agreesAt asListed holdsRecords isUntouched
+  agrees-means number buffer block is yes-all =
+      let h = rw (← is) at yes-all in
+      let both = and-eq-true-iff (eqb number (numberAt list (at + 8)) && standsAt list (at + 8) block) (holdsRecords list end bytes buffer) .0 h in
+      let one = and-eq-true-iff (eqb number (numberAt list (at + 8))) (standsAt list (at + 8) block) .0 (both .0) in
+      let front = leb bytes (length buffer) && standsAt list end (take bytes buffer) in
+      let held = and-eq-true-iff front (isUntouched (drop bytes buffer)) .0 (both .1) in
+      let fits = and-eq-true-iff (leb bytes (length buffer)) (standsAt list end (take bytes buffer)) .0 (held .0) in
+      let size = length-take-le bytes buffer (leb-true bytes (length buffer) (fits .0)) in
+      let first = ap (λ n. take n (drop end list)) (sym size) ∙ stands-is list (take bytes buffer) end (fits .1) .1 in
+      let clean = same-is (drop bytes buffer) (untouched (length (drop bytes buffer))) (held .1) in
+      let rest = ap untouched (sym (length-drop bytes buffer)) ∙ sym clean in (
+        eqb-true number (numberAt list (at + 8)) (one .0),
+        stands-is list block (at + 8) (one .1) .1,
+        ap (λ l. l ++ untouched (length buffer - bytes)) first ∙ ap (λ l. take bytes buffer ++ l) rest ∙ take-append-drop bytes buffer,
+      )
+
+  pub agreement : Agreement list at end bytes room
+  agreement = record { means = agrees-means }

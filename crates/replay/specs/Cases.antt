@@ -1,5 +1,6 @@
 -- A list of cases, as src/main.rt describes it, and what the program finds out of it. A place is a byte's offset in the list.
 use Prim.Native.Nat.{ℕ, zero, suc, _+_, _*_, _-_, min}
+use mathlib.Core.Path.{_≡_}
 use mathlib.Core.Bool.{Bool, true, false, cond, _&&_}
 use mathlib.Core.List.{List, [], _∷_, _++_}
 use lib.Dec.{eqb, leb, ltb}
@@ -65,6 +66,13 @@ asListed list at end bytes (seen number buffer block) =
 -- whether the case at a place agrees, with `bytes` record bytes listed and `room` bytes lent
 unfoldable pub agreesAt : List ℕ → ℕ → ℕ → ℕ → ℕ → Bool
 agreesAt list at end bytes room = asListed list at end bytes (seenAt list at end room)
+
+-- What it means that it agrees: what a host sees has the number listed, the block listed from the eighth byte on, the records listed from `end` on,
+-- and behind them each byte as it was. The contract of `agrees` asks for it.
+pub record Agreement (list : List ℕ) (at end bytes room : ℕ) : Type 0 where
+  pub means : (number : ℕ) (buffer block : List ℕ) → seen number buffer block ≡ seenAt list at end room → agreesAt list at end bytes room ≡ true
+      → (number ≡ numberAt list (at + 8)) × (take (length block) (drop (at + 8) list) ≡ block)
+      × (take bytes (drop end list) ++ untouched (length buffer - bytes) ≡ buffer)
 
 -- whether the end of the list cuts the 24 bytes before a script short
 unfoldable pub cutShort : List ℕ → ℕ → Bool

@@ -16,7 +16,7 @@ use libc::STDOUT_FILENO;
 ghost use mathlib.Core.Path.{_≡_};
 ghost use Prim.Native.Nat.{_+_, _≤_, _<_, min};
 ghost use lib.ListN.{length};
-ghost use Rattle.replay.specs.Cases.{numberAt, untouched, zeros, standsAt, isUntouched, holdsRecords, listedBytes, agreesAt, lentAfter, nextAt, caseAt, bufferAt, placeOf, caseCount, differing, bufferAfter};
+ghost use Rattle.replay.specs.Cases.{numberAt, untouched, zeros, standsAt, isUntouched, holdsRecords, listedBytes, agreesAt, lentAfter, nextAt, caseAt, bufferAt, placeOf, caseCount, differing, bufferAfter, Agreement};
 
 const HEAD_BYTES: usize = 24;
 
@@ -127,6 +127,7 @@ fn agrees(list: &[u8], at: usize, end: usize, bytes: usize, lent: &mut [u8]) -> 
     requires { ⌜ end ≤ length (now list) ⌝ }
     ensures { λ r. ⌜ r ≡ agreesAt (now (list .entry)) at end bytes (length (now (lent .entry))) ⌝ }
     ensures { λ r. ⌜ now (lent .exit) ≡ lentAfter (now (list .entry)) at end (length (now (lent .entry))) ⌝ }
+    ensures { λ r. ⌜ Agreement (now (list .entry)) at end bytes (length (now (lent .entry))) ⌝ }
 {
     let start = at + HEAD_BYTES;
     let mut block = [UNTOUCHED; 16];

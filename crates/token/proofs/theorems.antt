@@ -8,8 +8,10 @@ pub mod Strings
 pub mod Contents
 pub mod Prefixed
 pub mod Ticks
+pub mod Heads
 pub mod Dispatch
 pub mod Complete
+pub mod Starts
 pub mod Shorter
 pub mod Unique
 pub mod Mets

@@ -10,7 +10,7 @@ ghost use lib.ListN.{length};
 ghost use Rattle.chars.specs.paper.Text.{from};
 ghost use Rattle.token.specs.paper.Tests.{hexAhead};
 ghost use Rattle.token.specs.computed.Answer.{read, readDigits, numberOf, scanNumber};
-ghost use Rattle.token.specs.code.Digits.{digitIn, digitOf, upTo, valueOf, intOr};
+ghost use Rattle.token.specs.code.Digits.{digitIn, digitOf, afterUpTo, valueOf, intOr};
 ghost use Rattle.token.specs.code.Piece.{pieceOf};
 
 // A value of at most 9223372036854775807, or that it is larger.
@@ -55,7 +55,7 @@ fn digit_of(b: u8) -> u64
 // Past the digits of this base that stand there, at most so many.
 pub fn consume_digits(s: &[u8], c: Cursor, base: u64, most: usize) -> Cursor
     requires { ⌜ c .at ≤ length (now s) ⌝ }
-    ensures { λ r. ⌜ (r .at ≤ length (now (s .entry))) × (c .at ≤ r .at) × (from (now (s .entry)) (r .at) ≡ upTo (digitIn base) most (from (now (s .entry)) (c .at))) ⌝ }
+    ensures { λ r. ⌜ (r .at ≤ length (now (s .entry))) × (c .at ≤ r .at) × (from (now (s .entry)) (r .at) ≡ afterUpTo (digitIn base) most (from (now (s .entry)) (c .at))) ⌝ }
 {
     let mut i = c.at;
     let mut left = most;

@@ -20,7 +20,7 @@ use Rattle.entry.specs.computed.Host.{granted, rejected, lacking, Verdic
 use Rattle.words.specs.Words.{blockOf}
 use Rattle.entry.specs.Theorems.{HostTheorems, Lends, Accepts}
 use Rattle.entry.proofs.host.Verdicts.{verdict-17, verdict-18, verdict-rest, room-granted, room-lacking, room-rejected}
-use Rattle.token.proofs.theorems.Theorems.{complete, refusal, need, answer-tokens, tokens-answer}
+use Rattle.token.proofs.theorems.Theorems.{complete, refusal, need, answer-tokens, tokens-answer, theorems}
 
 -- ---- the order, computed
 
@@ -36,7 +36,7 @@ escape-range (BadEscape.e14 o z) = (omega arith, omega arith)
 pub met-range : {s q : Text} {j : ℕ} → Met s j q → (1 ≤ j) × (j ≤ 16)
 met-range (Met.m1 a b) = (omega arith, omega arith)
 met-range (Met.m2 a b) = (omega arith, omega arith)
-met-range (Met.m3 a b) = (omega arith, omega arith)
+met-range (Met.m3 a b d) = (omega arith, omega arith)
 met-range (Met.m4 a) = (omega arith, omega arith)
 met-range (Met.m5 a) = (omega arith, omega arith)
 met-range (Met.m6 a b d) = (omega arith, omega arith)
@@ -133,6 +133,8 @@ module _ (script buffer block : List ℕ) where
   accepts L =
       record {
         exactly = (reading-by sees-host, λ h. let c = complete script (h .0) (h .1) in ap numberSeen (writes (h .0) (c .0) (h .1) (c .2)));
+        one = theorems script .one-reading;
+        tokens = λ ps h. let c = complete script ps h in (c .0, c .2);
         writes = writes;
       }
     where
@@ -152,5 +154,6 @@ module _ (script buffer block : List ℕ) where
         sees = λ x. ((λ e. rw e at sees-host), sees-only);
         unchanged = unchanged-by sees-host;
         numbers = number-by sees-host;
+        script-theorems = theorems script;
         accepts = accepts;
       }

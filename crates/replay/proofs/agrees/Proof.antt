@@ -3,7 +3,7 @@
 -- Assumes nothing.
 use borrow.Author.Needs.{needs}
 use lib.ListN.{length}
-use Rattle.replay.proofs.Laws.{seen-is, lent-is, number-off, block-off, agrees-is}
+use Rattle.replay.proofs.Laws.{seen-is, lent-is, number-off, block-off, agrees-is, agreement}
 use borrow.Author.Tests.{not-true, not-false}
 use mathlib.Core.Path.{sym, _∙_}
 use Rattle.replay.proofs.agrees.Statement.{statement}
@@ -49,7 +49,7 @@ returns c =
     let args = fill .before .before .before .before .args in
     let room = length (args .lent .now) in
     let e = seen-is (args .list .now) (args .at) (args .end) room (fill .fill .ensures) (call .ergo-tokenize .ensures .0) in
-    (sym (number-off _ _ _ _ (args .bytes) e (c .before .number-at .ensures) (c .if1 .taken)), lent-is _ _ _ _ e)
+    (sym (number-off _ _ _ _ (args .bytes) e (c .before .number-at .ensures) (c .if1 .taken)), (lent-is _ _ _ _ e, agreement _ _ _ _ _))
 
 add-stands-at : tie.Need-add-stands-at
 add-stands-at c = search needs
@@ -71,7 +71,7 @@ returns-2 c =
     let room = length (args .lent .now) in
     let e = seen-is (args .list .now) (args .at) (args .end) room (fill .fill .ensures) (call .ergo-tokenize .ensures .0) in
     let stands = sym (c .before .stands-at .ensures) ∙ not-true _ (c .if2 .taken) in
-    (sym (block-off _ _ _ _ (args .bytes) e stands), lent-is _ _ _ _ e)
+    (sym (block-off _ _ _ _ (args .bytes) e stands), (lent-is _ _ _ _ e, agreement _ _ _ _ _))
 
 holds-records-requires : tie.Need-holds-records-requires
 holds-records-requires c κs = search needs
@@ -88,7 +88,7 @@ returns-3 c =
     let e = seen-is (args .list .now) (args .at) (args .end) room (fill .fill .ensures) (call .ergo-tokenize .ensures .0) in
     let number = c .before .before .before .before .before .if1 .left ∙ c .before .before .before .before .before .before .number-at .ensures in
     let stands = sym (c .before .before .before .stands-at .ensures) ∙ not-false _ (c .before .before .if2 .left) in
-    (c .holds-records .ensures ∙ sym (agrees-is _ _ _ _ (args .bytes) e number stands), lent-is _ _ _ _ e)
+    (c .holds-records .ensures ∙ sym (agrees-is _ _ _ _ (args .bytes) e number stands), (lent-is _ _ _ _ e, agreement _ _ _ _ _))
 
 pub agrees-spec : {M : Type 1} → statement M
 agrees-spec =

@@ -87,7 +87,7 @@ returns-2 c =
     let lent = room-is list at (length records) (third .before .number-at2 .ensures) (third .least3 .ensures .0) in
     let part = length-take-le (third .least3 .result) records (third .least3 .ensures .1) in
     let agrees = case-is list at whole is has (length records) lent part (call .agrees .ensures .0) in
-    let buffer = buffer-is list at whole is has records lent part (call .agrees .ensures .1) in
+    let buffer = buffer-is list at whole is has records lent part (call .agrees .ensures .1 .0) in
     (next-is list at whole is has, ((omega arith, omega arith), (agrees, buffer)))
 
 pub replay-case-spec : {M : Type 1} → statement M

@@ -6,7 +6,7 @@ use mathlib.Core.Logic.{_⊎_, inl, inr}
 use mathlib.Core.List.{List, [], _∷_}
 use lib.ListN.{length, drop, getD}
 use lib.Dec.{eqb, leb, ltb}
-use native.Mathlib.Nat.{le-div-iff-mul-le, div-lt-iff-lt-mul, le-mul-of-pos-right}
+use native.Mathlib.Nat.{le-div-iff-mul-le, div-lt-iff-lt-mul, le-mul-of-pos-right, one-le-pow}
 use native.Mathlib.Omega.{arith}
 use borrow.Author.Tests.{ltb-true, ltb-false, lt-ltb, le-ltb, leb-true, leb-false, le-leb, lt-leb, eqb-true}
 use Rattle.chars.specs.paper.Quoted.{between, codes, oneOf}
@@ -16,17 +16,16 @@ use Rattle.chars.proofs.Bools.{clash, and-both}
 use Rattle.chars.proofs.classes.Ranges.{between-in, between-out, in-between, not-between}
 use Rattle.chars.proofs.text.Places.{Ascii, head-byte, at-ascii, at-end, place-from}
 use Rattle.token.specs.paper.Tests.{isDigit, isHexDigit, digitValue, begins, hexDigit, hexAhead, longSuffix}
-use Rattle.token.specs.paper.Shapes.{valueFrom}
 use Rattle.token.specs.computed.Answer.{Found, read, readDigits, numberOf, scanNumber}
 use Rattle.token.specs.code.Cursor.{cursorAt}
 use Rattle.token.specs.code.Piece.{pieceOf}
-use Rattle.token.specs.code.Digits.{digitIn, digitOf, upTo, valueOf, intOr}
+use Rattle.token.specs.code.Digits.{digitIn, digitOf, afterUpTo, valueOf, intOr}
 use Rattle.token.specs.declared.kinds.TokenKind.the-variants as tk
 use Rattle.token.specs.declared.piece.Piece.the-variants as piece
 use Rattle.token.specs.declared.digits.Value.the-variants as value
 use Rattle.token.proofs.Base.{zero-one}
 use Rattle.token.proofs.cursor.Bytes.{any-byte, ascii-list, inside, past, two-bytes}
-use Rattle.token.proofs.theorems.Numbers.{read-is}
+use Rattle.token.proofs.theorems.Numbers.{valueAfter, digitsOf, read-is}
 
 -- ---- the digits of a base
 
@@ -144,14 +143,14 @@ module _ (base b : ℕ) (h : (base ≡ 10) ⊎ (base ≡ 16)) where
 -- ---- runs of a class
 
 module _ (p : ℕ → Bool) where
-  none-up : (m : ℕ) (t : Text) → headIs p t ≡ false → upTo p m t ≡ t
-  unfolding upTo
+  none-up : (m : ℕ) (t : Text) → headIs p t ≡ false → afterUpTo p m t ≡ t
+  unfolding afterUpTo
   none-up zero t e = refl
   none-up (suc m) [] e = refl
-  none-up (suc m) (c ∷ t) e = rw (e, upTo)
+  none-up (suc m) (c ∷ t) e = rw (e, afterUpTo)
 
-  pub up-full : (m : ℕ) (t : Text) → m ≤ 0 → upTo p m t ≡ t
-  unfolding upTo
+  pub up-full : (m : ℕ) (t : Text) → m ≤ 0 → afterUpTo p m t ≡ t
+  unfolding afterUpTo
   up-full zero t h = refl
   up-full (suc m) t h = absurd (omega arith)
 
@@ -174,15 +173,15 @@ module _ (p : ℕ → Bool) (a : Ascii p) where
     pub class-at : p (getD s i 0) ≡ true → (i < length s) × (from s i ≡ record { code = getD s i 0; at = i } ∷ from s (i + 1))
     class-at e = let h = low (getD s i 0) e in let k = inside s i (h .0) in (k, at-ascii s i k (h .1))
 
-    pub up-stop : (m : ℕ) → p (getD s i 0) ≡ false → upTo p m (from s i) ≡ from s i
+    pub up-stop : (m : ℕ) → p (getD s i 0) ≡ false → afterUpTo p m (from s i) ≡ from s i
     up-stop m e = none-up p m (from s i) (head-byte p a s i ∙ e)
 
-    pub up-next : (m : ℕ) → 1 ≤ m → p (getD s i 0) ≡ true → upTo p (m - 1) (from s (i + 1)) ≡ upTo p m (from s i)
-    unfolding upTo
+    pub up-next : (m : ℕ) → 1 ≤ m → p (getD s i 0) ≡ true → afterUpTo p (m - 1) (from s (i + 1)) ≡ afterUpTo p m (from s i)
+    unfolding afterUpTo
     up-next zero h e = absurd (omega arith)
     up-next (suc m) h e =
         let z : suc m - 1 ≡ m = omega arith in
-        rw z (sym (ap (upTo p (suc m)) (class-at e .1) ∙ rw (e, upTo)))
+        rw z (sym (ap (afterUpTo p (suc m)) (class-at e .1) ∙ rw (e, afterUpTo)))
 
     pub read-next : (base v : ℕ) → p (getD s i 0) ≡ true
         → readDigits p base (v * base + digitValue (getD s i 0)) (from s (i + 1)) ≡ readDigits p base v (from s i)
@@ -194,16 +193,9 @@ module _ (p : ℕ → Bool) (a : Ascii p) where
 
 -- ---- values in any base and below any limit
 
-module _ (p : ℕ → Bool) (base : ℕ) (h : 1 ≤ base) where
-  -- more digits make no smaller number
-  pub no-less : (t : Text) (v : ℕ) → v ≤ valueFrom p base v t
-  unfolding valueFrom
-  no-less [] v = omega arith
-  no-less (c ∷ t) v = go (p (c .code)) refl (no-less t (v * base + digitValue (c .code)))
-    where
-      go : (b : Bool) → p (c .code) ≡ b → v * base + digitValue (c .code) ≤ valueFrom p base (v * base + digitValue (c .code)) t → v ≤ valueFrom p base v (c ∷ t)
-      go true e k = rw (e, valueFrom) (let m = le-mul-of-pos-right v h in omega (arith, m))
-      go false e k = rw (e, valueFrom) (omega arith)
+-- more digits make no smaller number
+no-less : (base v : ℕ) (ds : List ℕ) → 1 ≤ base → v ≤ valueAfter base v ds
+no-less base v ds h = let m = le-mul-of-pos-right v (one-le-pow (length ds) base h) in omega (arith, m)
 
 -- the test before a digit is taken
 module _ (base : ℕ) (h : 1 ≤ base) where
@@ -293,8 +285,8 @@ module _ (s : List ℕ) (start : ℕ) (h : start ≤ length s) where
   pub over-read : (p : ℕ → Bool) (base : ℕ) → 1 ≤ base → (v : ℕ) (t : Text) → 9223372036854775807 < v
       → piece.Refused 6 start ≡ pieceOf (length s) (numberOf (from s start) (readDigits p base v t))
   over-read p base some v t k =
-      let l = no-less p base some t v in
-      over-piece (valueFrom p base v t) (afterRun (headIs p) t) (omega arith)
+      let l = no-less base v (digitsOf p t) some in
+      over-piece (valueAfter base v (digitsOf p t)) (afterRun (headIs p) t) (omega arith)
       ∙ ap (λ r. pieceOf (length s) (numberOf (from s start) r)) (sym (read-is p base v t))
 
 -- ---- `0x`

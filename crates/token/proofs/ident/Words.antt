@@ -6,7 +6,6 @@ use mathlib.Core.List.{List, [], _∷_, _++_}
 use mathlib.Core.Option.{Option, none, some}
 use lib.ListN.{length, drop, getD, length-drop}
 use lib.Dec.{eqb, leb, ltb}
-use native.Mathlib.Nat.{sub-self}
 use native.Mathlib.Omega.{arith}
 use borrow.Author.Tests.{ltb-true, ltb-false, eqb-true, eqb-false, eq-eqb, ne-eqb}
 use Rattle.chars.specs.paper.Quoted.{codes, member}
@@ -24,6 +23,7 @@ use Rattle.token.specs.declared.kinds.Kw.the-variants as kw
 use Rattle.token.specs.declared.ident.Keyword.the-variants as key
 use Rattle.token.proofs.Base.{zero-one}
 use Rattle.token.proofs.cursor.Bytes.{plain}
+use Rattle.token.proofs.theorems.Runs as runs
 
 -- ---- codes between two places
 
@@ -32,11 +32,11 @@ left-suffix r s e = record { within = let h = ap length e in let k = length-drop
 
 codes-none : (s : Text) → codesTo s s ≡ []
 unfolding codesTo
-codes-none s = rw sub-self
+codes-none s = runs.codes-none s
 
 codes-more : (c : Char) (s r : Text) → length r ≤ length s → codesTo (c ∷ s) r ≡ c .code ∷ codesTo s r
 unfolding codesTo
-codes-more c s r h = let e : suc (length s) - length r ≡ suc (length s - length r) = omega arith in rw e
+codes-more c s r h = runs.codes-more c s r h
 
 suffix-tail : (c : Char) (r s : Text) → Suffix r (c ∷ s) → length r ≤ length s → Suffix r s
 suffix-tail c r s h k =

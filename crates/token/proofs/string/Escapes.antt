@@ -15,10 +15,10 @@ use Rattle.chars.specs.code.Text.{charEnd}
 use Rattle.chars.proofs.Bools.{clash}
 use Rattle.chars.proofs.text.Places.{Ascii, head-byte, at-ascii, at-end, at-char, place-from, codeAt}
 use Rattle.token.specs.paper.Tests.{isDigit, isHexDigit, isAny, digit}
-use Rattle.token.specs.computed.Answer.{unbroken, broken, hexes, digitsUpTo, afterSlash}
+use Rattle.token.specs.computed.Answer.{unbroken, broken, exactHexes, digitsUpTo, afterSlash}
 use Rattle.token.specs.code.Cursor.{cursorAt}
 use Rattle.token.specs.code.String.{escEnd, escapeOf, hexesOf}
-use Rattle.token.specs.code.Digits.{digitIn, upTo}
+use Rattle.token.specs.code.Digits.{digitIn, afterUpTo}
 use Rattle.token.specs.declared.piece.Ended.{Ended}
 use Rattle.token.specs.declared.piece.Ended.the-variants as ended
 use Rattle.token.proofs.cursor.Bytes.{inside, any-byte, past}
@@ -61,48 +61,48 @@ module _ (p : ℕ → Bool) (a : Ascii p) where
 pub same-place : (s : List ℕ) (i e : ℕ) → i ≤ length s → e ≤ length s → from s e ≡ from s i → e ≡ i
 same-place s i e h k q = sym (place-from s e k) ∙ ap (place (length s)) q ∙ place-from s i h
 
-upto-stop : (p : ℕ → Bool) (m : ℕ) (t : Text) → headIs p t ≡ false → upTo p (suc m) t ≡ t
-unfolding upTo
+upto-stop : (p : ℕ → Bool) (m : ℕ) (t : Text) → headIs p t ≡ false → afterUpTo p (suc m) t ≡ t
+unfolding afterUpTo
 upto-stop p m [] e = refl
 upto-stop p m (c ∷ t) e = rw e
 
-hexes-stop : (m k : ℕ) (t : Text) → headIs isHexDigit t ≡ false → hexes (suc m) k t ≡ broken 13 t
-unfolding hexes
+hexes-stop : (m k : ℕ) (t : Text) → headIs isHexDigit t ≡ false → exactHexes (suc m) k t ≡ broken 13 t
+unfolding exactHexes
 hexes-stop m k [] e = refl
 hexes-stop m k (c ∷ t) e = rw e
 
-hexes-next : (m k : ℕ) (c : Char) (t : Text) → isHexDigit (c .code) ≡ true → (hexes (suc m) k (c ∷ t) ≡ hexes m (suc k) t) × (upTo isHexDigit (suc m) (c ∷ t) ≡ upTo isHexDigit m t)
-unfolding hexes upTo
+hexes-next : (m k : ℕ) (c : Char) (t : Text) → isHexDigit (c .code) ≡ true → (exactHexes (suc m) k (c ∷ t) ≡ exactHexes m (suc k) t) × (afterUpTo isHexDigit (suc m) (c ∷ t) ≡ afterUpTo isHexDigit m t)
+unfolding exactHexes afterUpTo
 hexes-next m k c t e = (rw e, rw e)
 
 -- ---- four hex digits
 
 abbrev Hexes : List ℕ → ℕ → ℕ → ℕ → ℕ → Type 0
 Hexes s e m k i =
-    ((e < i + m) × (hexes m k (from s i) ≡ broken 13 (from s e))) ⊎ ((e ≡ i + m) × (hexes m k (from s i) ≡ unbroken (k + m)) × (drop m (from s i) ≡ from s e))
+    ((e < i + m) × (exactHexes m k (from s i) ≡ broken 13 (from s e))) ⊎ ((e ≡ i + m) × (exactHexes m k (from s i) ≡ unbroken (k + m)) × (drop m (from s i) ≡ from s e))
 
 module _ (s : List ℕ) (e : ℕ) (within : e ≤ length s) where
-  hexes-read : (m k i : ℕ) → i ≤ length s → from s e ≡ upTo isHexDigit m (from s i) → Hexes s e m k i
-  unfolding upTo hexes
+  hexes-read : (m k i : ℕ) → i ≤ length s → from s e ≡ afterUpTo isHexDigit m (from s i) → Hexes s e m k i
+  unfolding afterUpTo exactHexes
   hexes-read zero k i h q = inr (let z = same-place s i e h within q in (omega arith, ap unbroken (omega arith), sym q))
   hexes-read (suc m) k i h q = go (isHexDigit (getD s i 0)) refl (λ l w. hexes-read m (suc k) (i + 1) l w)
     where
-      go : (b : Bool) → isHexDigit (getD s i 0) ≡ b → (i + 1 ≤ length s → from s e ≡ upTo isHexDigit m (from s (i + 1)) → Hexes s e m (suc k) (i + 1)) → Hexes s e (suc m) k i
+      go : (b : Bool) → isHexDigit (getD s i 0) ≡ b → (i + 1 ≤ length s → from s e ≡ afterUpTo isHexDigit m (from s (i + 1)) → Hexes s e m (suc k) (i + 1)) → Hexes s e (suc m) k i
       go true x below =
           let n = step-in isHexDigit hex-ascii s i x in
           let c : Char = record { code = getD s i 0; at = i } in
           let w = hexes-next m k c (from s (i + 1)) x in
           ⊎-elim
-          (λ l. inl (omega (arith, l .0), ap (hexes (suc m) k) (n .1) ∙ w .0 ∙ l .1))
-          (λ l. inr (omega (arith, l .0), ap (hexes (suc m) k) (n .1) ∙ w .0 ∙ l .1 ∙ ap unbroken (omega arith), ap (drop (suc m)) (n .1) ∙ l .2))
-          (below (n .0) (q ∙ ap (upTo isHexDigit (suc m)) (n .1) ∙ w .1))
+          (λ l. inl (omega (arith, l .0), ap (exactHexes (suc m) k) (n .1) ∙ w .0 ∙ l .1))
+          (λ l. inr (omega (arith, l .0), ap (exactHexes (suc m) k) (n .1) ∙ w .0 ∙ l .1 ∙ ap unbroken (omega arith), ap (drop (suc m)) (n .1) ∙ l .2))
+          (below (n .0) (q ∙ ap (afterUpTo isHexDigit (suc m)) (n .1) ∙ w .1))
       go false x below =
           let f = head-byte isHexDigit hex-ascii s i ∙ x in
           let r = q ∙ upto-stop isHexDigit m (from s i) f in
           let z = same-place s i e h within r in
           inl (omega arith, hexes-stop m k (from s i) f ∙ ap (broken 13) (sym r))
 
-  module _ (i : ℕ) (inside : i ≤ length s) (read : from s e ≡ upTo (digitIn 16) 4 (from s i)) where
+  module _ (i : ℕ) (inside : i ≤ length s) (read : from s e ≡ afterUpTo (digitIn 16) 4 (from s i)) where
     pub hexes-short : e - i < 4 → ended.Refused 13 e ≡ hexesOf (length s) (from s i)
     unfolding hexesOf digitIn
     hexes-short l = ⊎-elim (λ h. sym (rw (h .1) (ap (ended.Refused 13) (place-from s e within)))) (λ h. absurd (omega (arith, h .0, l))) (hexes-read 4 0 i inside read)
@@ -115,29 +115,29 @@ module _ (s : List ℕ) (e : ℕ) (within : e ≤ length s) where
 
 -- ---- what follows a backslash
 
-upto-digits : (m k : ℕ) (x t : Text) → drop k x ≡ t → drop (digitsUpTo m k t) x ≡ upTo isDigit m t
-unfolding digitsUpTo upTo
+upto-digits : (m k : ℕ) (x t : Text) → drop k x ≡ t → drop (digitsUpTo m k t) x ≡ afterUpTo isDigit m t
+unfolding digitsUpTo afterUpTo
 upto-digits zero k x t e = e
 upto-digits (suc m) k x [] e = e
 upto-digits (suc m) k x (c ∷ t) e = go (isDigit (c .code)) refl (upto-digits m (suc k) x t)
   where
-    go : (b : Bool) → isDigit (c .code) ≡ b → (drop (suc k) x ≡ t → drop (digitsUpTo m (suc k) t) x ≡ upTo isDigit m t)
-        → drop (digitsUpTo (suc m) k (c ∷ t)) x ≡ upTo isDigit (suc m) (c ∷ t)
+    go : (b : Bool) → isDigit (c .code) ≡ b → (drop (suc k) x ≡ t → drop (digitsUpTo m (suc k) t) x ≡ afterUpTo isDigit m t)
+        → drop (digitsUpTo (suc m) k (c ∷ t)) x ≡ afterUpTo isDigit (suc m) (c ∷ t)
     go true q below =
         let z : suc k ≡ k + 1 = omega arith in
-        rw (q, digitsUpTo, upTo) (below (ap (λ j. drop j x) z ∙ sym (drop-drop 1 k x) ∙ ap (drop 1) e))
-    go false q below = rw (q, digitsUpTo, upTo) e
+        rw (q, digitsUpTo, afterUpTo) (below (ap (λ j. drop j x) z ∙ sym (drop-drop 1 k x) ∙ ap (drop 1) e))
+    go false q below = rw (q, digitsUpTo, afterUpTo) e
 
-hexes-shift : (n m k : ℕ) (c : Char) (x t : Text) → escEnd n (c ∷ x) (hexes m (suc k) t) ≡ escEnd n x (hexes m k t)
-unfolding hexes
+hexes-shift : (n m k : ℕ) (c : Char) (x t : Text) → escEnd n (c ∷ x) (exactHexes m (suc k) t) ≡ escEnd n x (exactHexes m k t)
+unfolding exactHexes
 hexes-shift n zero k c x t = refl
 hexes-shift n (suc m) k c x [] = refl
 hexes-shift n (suc m) k c x (d ∷ t) = go (isHexDigit (d .code)) refl (hexes-shift n m (suc k) c x t)
   where
-    go : (b : Bool) → isHexDigit (d .code) ≡ b → escEnd n (c ∷ x) (hexes m (suc (suc k)) t) ≡ escEnd n x (hexes m (suc k) t)
-        → escEnd n (c ∷ x) (hexes (suc m) (suc k) (d ∷ t)) ≡ escEnd n x (hexes (suc m) k (d ∷ t))
-    go true q below = rw (q, hexes) below
-    go false q below = rw (q, hexes)
+    go : (b : Bool) → isHexDigit (d .code) ≡ b → escEnd n (c ∷ x) (exactHexes m (suc (suc k)) t) ≡ escEnd n x (exactHexes m (suc k) t)
+        → escEnd n (c ∷ x) (exactHexes (suc m) (suc k) (d ∷ t)) ≡ escEnd n x (exactHexes (suc m) k (d ∷ t))
+    go true q below = rw (q, exactHexes) below
+    go false q below = rw (q, exactHexes)
 
 slash-simple : (t : Text) → isAny "btnfr'\"]" t ≡ true → afterSlash t ≡ unbroken 1
 unfolding afterSlash
@@ -170,12 +170,12 @@ module _ (s : List ℕ) (i : ℕ) where
         sym (rw (slash-simple (from s i) (any-byte "btnfr'\"]" refl s i ∙ e))
         (ap (λ t. ended.At (cursorAt (place (length s) t))) (past s i h l) ∙ ap (λ j. ended.At (cursorAt j)) (place-from s (i + 1) (omega arith))))
 
-    pub escape-digits : (e : ℕ) → e ≤ length s → from s e ≡ upTo (digitIn 10) 2 (from s (i + 1)) → isDigit (getD s i 0) ≡ true → ended.At (cursorAt e) ≡ escapeOf (length s) (from s i)
+    pub escape-digits : (e : ℕ) → e ≤ length s → from s e ≡ afterUpTo (digitIn 10) 2 (from s (i + 1)) → isDigit (getD s i 0) ≡ true → ended.At (cursorAt e) ≡ escapeOf (length s) (from s i)
     unfolding escapeOf digitIn
     escape-digits e k q d =
         let b = ascii-in isDigit digit-ascii (getD s i 0) d in
         let p = past s i h (b .1) in
-        let u = upto-digits 2 1 (from s i) (drop 1 (from s i)) refl ∙ ap (upTo isDigit 2) p ∙ sym q in
+        let u = upto-digits 2 1 (from s i) (drop 1 (from s i)) refl ∙ ap (afterUpTo isDigit 2) p ∙ sym q in
         sym (rw (slash-digits (from s i) (head-byte isDigit digit-ascii s i ∙ d))
         (ap (λ t. ended.At (cursorAt (place (length s) t))) u ∙ ap (λ j. ended.At (cursorAt j)) (place-from s e k)))
 

@@ -14,7 +14,9 @@ use Rattle.token.specs.paper.Kinds.{Kind, TokenType, isComment, isLineEn
 use Rattle.token.specs.paper.Reading.{Piece, endsQuote, LastDropped, Content, Valued, Tokens}
 use Rattle.token.specs.paper.Records.{recordLength, recordOf, records, recordBytes}
 use Rattle.token.specs.declared.kinds.TokenKind.{TokenKind}
+use Rattle.token.specs.declared.kinds.TokenKind.the-variants as tk
 use Rattle.token.proofs.Base.{no-some}
+use Rattle.token.proofs.theorems.Numbers.{one-value}
 use Rattle.token.proofs.theorems.Contents.{ends-snoc}
 use Rattle.token.proofs.form.Stores.{length-record}
 
@@ -67,14 +69,14 @@ same-flag false false h k = refl
 
 valued-one : {n : ℕ} {s r : Text} {y : TokenType} {t u : TokenKind} → Valued n s r y t → Valued n s r y u → t ≡ u
 valued-one (Valued.bare e) (Valued.bare f) = Option·some-injective _ _ (sym e ∙ f)
-valued-one (Valued.bare e) Valued.intLit = no-some e
-valued-one (Valued.bare e) Valued.longLit = no-some e
+valued-one (Valued.bare e) (Valued.intLit h) = no-some e
+valued-one (Valued.bare e) (Valued.longLit h) = no-some e
 valued-one (Valued.bare e) (Valued.prefixed f) = no-some e
 valued-one (Valued.bare e) (Valued.plain f w) = no-some e
-valued-one Valued.intLit (Valued.bare e) = no-some e
-valued-one Valued.intLit Valued.intLit = refl
-valued-one Valued.longLit (Valued.bare e) = no-some e
-valued-one Valued.longLit Valued.longLit = refl
+valued-one (Valued.intLit h) (Valued.bare e) = no-some e
+valued-one (Valued.intLit h) (Valued.intLit k) = ap tk.IntLit (one-value false h k)
+valued-one (Valued.longLit h) (Valued.bare e) = no-some e
+valued-one (Valued.longLit h) (Valued.longLit k) = ap tk.LongLit (one-value true h k)
 valued-one (Valued.prefixed f) (Valued.bare e) = no-some e
 valued-one (Valued.prefixed e) (Valued.prefixed f) = refl
 valued-one (Valued.prefixed e) (Valued.plain f w) = clash (sym e ∙ f)

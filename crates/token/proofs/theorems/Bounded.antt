@@ -26,6 +26,7 @@ use Rattle.token.specs.declared.kinds.TokenKind.the-variants as tk
 use Rattle.token.proofs.form.Laws.{form-known, form-record}
 use Rattle.token.proofs.form.ReadBack.{read-back}
 use Rattle.token.proofs.theorems.Runs.{run-suffix}
+use Rattle.token.proofs.theorems.Numbers.{one-value}
 use Rattle.token.proofs.theorems.Shorter.{one-strict, times-suffix, escape-suffix, prefix-strict, stands-strict}
 use Rattle.token.proofs.theorems.Mets.{within-suffix}
 
@@ -174,8 +175,8 @@ bare-within a e (TokenType.key k) = tt
 valued-within : {n : ℕ} {s r : Text} {y : TokenType} {k : TokenKind} → Rising n s → Stands (Kind.token y) s r → Valued n s r y k
     → Within (place n s) (place n r) k
 unfolding Stands HasShape TokenShape
-valued-within h w Valued.intLit = w .0 .1
-valued-within h w Valued.longLit = w .0 .1
+valued-within h w (Valued.intLit x) = let k = w .0 in rw (one-value false x (k .1)) (k .2)
+valued-within h w (Valued.longLit x) = let k = w .0 in rw (one-value true x (k .1)) (k .2)
 valued-within {n} {s} {r} h w (Valued.prefixed q) =
     let o = order n s r h (stands-strict (Kind.token TokenType.str) s r w .0) in
     (omega arith, o .0, omega arith)
@@ -291,7 +292,7 @@ bad-suffix (BadEscape.e14 o z) = one-strict o .0
 met-suffix : {s q : Text} {j : ℕ} → Met s j q → Suffix q s
 met-suffix (Met.m1 a b) = suffix-refl _
 met-suffix (Met.m2 a b) = suffix-refl _
-met-suffix (Met.m3 a b) = suffix-refl _
+met-suffix (Met.m3 a b d) = suffix-refl _
 met-suffix (Met.m4 a) = suffix-refl _
 met-suffix (Met.m5 a) = suffix-refl _
 met-suffix (Met.m6 a b d) = suffix-refl _

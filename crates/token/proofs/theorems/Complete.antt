@@ -98,10 +98,10 @@ token-hits n TokenType.backtickId s r z h = unfold TokenShape in
     Hit.token (scan-by n s Start.backtick (starts-backtick s z (q .0)) ∙ q .1 n ∙ or-token n tk.BacktickId s r (h .1)) (Valued.bare refl))
 token-hits n TokenType.intLit s r z h = unfold TokenShape in
     (let q = number-found false s r h in
-    Hit.token (scan-by n s Start.number (starts-number s z (q .0)) ∙ q .1) Valued.intLit)
+    Hit.token (scan-by n s Start.number (starts-number s z (q .0)) ∙ q .1) (Valued.intLit (h .1)))
 token-hits n TokenType.longLit s r z h = unfold TokenShape in
     (let q = number-found true s r h in
-    Hit.token (scan-by n s Start.number (starts-number s z (q .0)) ∙ q .1) Valued.longLit)
+    Hit.token (scan-by n s Start.number (starts-number s z (q .0)) ∙ q .1) (Valued.longLit (h .1)))
 token-hits n TokenType.str s r z h = unfold TokenShape in (str-hit n s r z h)
 token-hits n TokenType.charSym s r z h =
     let q = char-sym-found s r h in

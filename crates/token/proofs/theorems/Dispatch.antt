@@ -20,9 +20,9 @@ use Rattle.token.specs.paper.Tests.{isDigit, isAny, begins, startsWith, 
 use Rattle.token.specs.paper.Kinds.{Kind, TokenType, withoutValues}
 use Rattle.token.specs.paper.Shapes.{One, both, Block, TokenShape, HasShape, Stands}
 use Rattle.token.specs.paper.Reading.{Valued}
-use Rattle.token.specs.paper.Refusals.{starts, Met}
+use Rattle.token.specs.paper.Refusals.{Met}
 use Rattle.token.specs.computed.Flags.{GapKind}
-use Rattle.token.specs.computed.Answer.{Found, Start, startOf, signOf, scanAs, scan, scanReturn, scanBlock, scanNumber, scanString, plainOf}
+use Rattle.token.specs.computed.Answer.{Found, Start, startOf, starts, signOf, scanAs, scan, scanReturn, scanBlock, scanNumber, scanString, plainOf}
 use Rattle.token.specs.declared.kinds.TokenKind.{TokenKind}
 use Rattle.token.specs.declared.kinds.TokenKind.the-variants as tk
 use Rattle.token.proofs.theorems.Numbers.{number-stands}
@@ -32,6 +32,7 @@ use Rattle.token.proofs.theorems.Strings.{body-finds, Closed, Wrong}
 use Rattle.token.proofs.theorems.Prefixed.{word-stands, backtick-stands}
 use Rattle.token.proofs.theorems.Contents.{content-is}
 use Rattle.token.proofs.theorems.Gaps.{two-codes, line-stands, block-stands}
+use Rattle.token.proofs.theorems.Heads.{no-start-met}
 
 -- no comment opens
 pub record Clear (s : Text) : Type 0 where
@@ -423,7 +424,7 @@ as-stands n c s _ (Fact.operator z e) = from-stood n (c ∷ s) _ (comment-clear 
 as-stands n c s _ (Fact.backtick z e) = from-both n (c ∷ s) _ (comment-clear _ z) (backtick-stands n (c ∷ s) e)
 as-stands n c s _ (Fact.string z e) = from-both n (c ∷ s) _ (comment-clear _ z) (plain-scan n (c ∷ s) e)
 as-stands n c s _ (Fact.charSym z e) = from-both n (c ∷ s) _ (comment-clear _ z) (tick-stands n (c ∷ s) e)
-as-stands n c s _ (Fact.other e) = Scanned.fell (record { number = 3; rest = c ∷ s; found = refl; met = Met.m3 refl e })
+as-stands n c s _ (Fact.other e) = Scanned.fell (record { number = 3; rest = c ∷ s; found = refl; met = no-start-met c s e })
 
 -- at every start the scanner finds a piece that stands, or a refusal that is met
 pub scan-stands : (n : ℕ) (c : Char) (s : Text) → Scanned n (c ∷ s) (scan n (c ∷ s))

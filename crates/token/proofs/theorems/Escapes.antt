@@ -13,11 +13,11 @@ use Rattle.chars.proofs.Carry.{carry}
 use Rattle.token.specs.paper.Tests.{isDigit, isHexDigit, begins, backslash, digit, hexDigit}
 use Rattle.token.specs.paper.Shapes.{One, Times, UpTo, both, Escape}
 use Rattle.token.specs.paper.Refusals.{BadEscape}
-use Rattle.token.specs.computed.Answer.{unbroken, broken, hexes, digitsUpTo, afterSlash}
+use Rattle.token.specs.computed.Answer.{unbroken, broken, exactHexes, digitsUpTo, afterSlash}
 
 -- n hex digits
-hexes-found : (n k : ℕ) {s r : Text} → Times hexDigit n s r → (hexes n k s ≡ unbroken (k + n)) × (r ≡ drop n s)
-unfolding hexes
+hexes-found : (n k : ℕ) {s r : Text} → Times hexDigit n s r → (exactHexes n k s ≡ unbroken (k + n)) × (r ≡ drop n s)
+unfolding exactHexes
 hexes-found zero k Times.done = (ap unbroken (omega arith), refl)
 hexes-found (suc n) k (Times.more {c} {s} e w) =
     let h = hexes-found n (suc k) w in
@@ -27,18 +27,18 @@ pub record Lacks (n k : ℕ) (s : Text) : Type 0 where
   pub some : ℕ
   pub rest : Text
   pub fewer : some < n
-  pub found : hexes n k s ≡ broken 13 rest
+  pub found : exactHexes n k s ≡ broken 13 rest
   pub times : Times hexDigit some s rest
   pub lacks : hexDigit rest ≡ false
 
-hexes-finds : (n k : ℕ) (s : Text) → ((hexes n k s ≡ unbroken (k + n)) × Times hexDigit n s (drop n s)) ⊎ Lacks n k s
-unfolding hexes
+hexes-finds : (n k : ℕ) (s : Text) → ((exactHexes n k s ≡ unbroken (k + n)) × Times hexDigit n s (drop n s)) ⊎ Lacks n k s
+unfolding exactHexes
 hexes-finds zero k s = inl (ap unbroken (omega arith), Times.done)
 hexes-finds (suc n) k [] = inr (record { some = 0; rest = []; fewer = omega arith; found = refl; times = Times.done; lacks = refl })
 hexes-finds (suc n) k (c ∷ s) = go (isHexDigit (c .code)) refl (hexes-finds n (suc k) s)
   where
-    go : (b : Bool) → isHexDigit (c .code) ≡ b → ((hexes n (suc k) s ≡ unbroken (suc k + n)) × Times hexDigit n s (drop n s)) ⊎ Lacks n (suc k) s
-        → ((hexes (suc n) k (c ∷ s) ≡ unbroken (k + suc n)) × Times hexDigit (suc n) (c ∷ s) (drop n s)) ⊎ Lacks (suc n) k (c ∷ s)
+    go : (b : Bool) → isHexDigit (c .code) ≡ b → ((exactHexes n (suc k) s ≡ unbroken (suc k + n)) × Times hexDigit n s (drop n s)) ⊎ Lacks n (suc k) s
+        → ((exactHexes (suc n) k (c ∷ s) ≡ unbroken (k + suc n)) × Times hexDigit (suc n) (c ∷ s) (drop n s)) ⊎ Lacks (suc n) k (c ∷ s)
     go true e (inl h) = inl (rw e (h .0 ∙ ap unbroken (omega arith)), Times.more e (h .1))
     go true e (inr l) =
         inr (record {
@@ -129,7 +129,7 @@ slash-finds (b ∷ []) e = inr (record { number = 12; rest = []; found = refl; w
 slash-finds (b ∷ c ∷ t) e = go (simple (c .code)) (isDigit (c .code)) (oneOf "u" (c .code)) refl refl refl
   where
     hex : simple (c .code) ≡ false → isDigit (c .code) ≡ false → oneOf "u" (c .code) ≡ true
-        → ((hexes 4 1 t ≡ unbroken 5) × Times hexDigit 4 t (drop 4 t)) ⊎ Lacks 4 1 t → Good (b ∷ c ∷ t) ⊎ Bad (b ∷ c ∷ t)
+        → ((exactHexes 4 1 t ≡ unbroken 5) × Times hexDigit 4 t (drop 4 t)) ⊎ Lacks 4 1 t → Good (b ∷ c ∷ t) ⊎ Bad (b ∷ c ∷ t)
     hex x y z (inl h) = inl (record { count = 5; found = rw (x, y, z) (h .0); escape = Escape.hexes (both (One.one e) (both (One.one z) (h .1))) })
     hex x y z (inr l) =
         inr (record {

@@ -8,7 +8,7 @@ use lib.ListN.{length, drop}
 use lib.Dec.{eqb, leb, ltb}
 use native.Mathlib.Omega.{arith}
 use borrow.Author.Tests.{eqb-true, leb-true, ltb-true, ltb-false}
-use Rattle.chars.specs.paper.Quoted.{oneOf}
+use Rattle.chars.specs.paper.Quoted.{between, oneOf}
 use Rattle.chars.specs.paper.Classes.{isIdStart, isOpSign}
 use Rattle.chars.specs.paper.Text.{Char, Text, headIs}
 use Rattle.chars.specs.computed.Runs.{afterRun}
@@ -17,9 +17,9 @@ use Rattle.chars.proofs.text.Texts.{Suffix, suffix-refl, suffix-cons, suffix-tr
 use Rattle.chars.proofs.Bools.{clash, and-both, not-true}
 use Rattle.token.specs.paper.Tests.{isDigit, isHexDigit, isAny, begins, quote, threeQuotes, backslash, dollarBrace, digit, hexDigit, opSign, freeSign, notBacktick, apostrophe}
 use Rattle.token.specs.paper.Shapes.{One, Run, Times, both, Single, singleChar, tripleChar, Block, Name}
-use Rattle.token.specs.paper.Refusals.{starts, BadEscape, Opens, InSingle, InTriple, WithinSingle, Met, isEscapeNumber, isSingleNumber, First}
+use Rattle.token.specs.paper.Refusals.{BadEscape, Opens, InSingle, InTriple, WithinSingle, Met, GivesWay, First}
 use Rattle.token.specs.computed.Flags.{GapKind}
-use Rattle.token.specs.computed.Answer.{Found, Start, startOf, scan, scanReturn, scanBlock, scanString, plainOf, escapedOf, scanCharSym, afterIdent, broken, hexes, afterSlash, wrong, closePlain, closePrefixed, closeTriple, closeString}
+use Rattle.token.specs.computed.Answer.{Found, Start, startOf, starts, scan, scanReturn, scanBlock, scanString, plainOf, escapedOf, scanCharSym, afterIdent, broken, exactHexes, afterSlash, wrong, closePlain, closePrefixed, closeTriple, closeString}
 use Rattle.token.specs.declared.kinds.TokenKind.the-variants as tk
 use Rattle.token.proofs.theorems.Runs.{run1-finds, run-suffix}
 use Rattle.token.proofs.theorems.Numbers.{one-drop, one-found, text-found, six-found}
@@ -30,6 +30,7 @@ use Rattle.token.proofs.theorems.Strings.{single-char, single-slash, tr
 use Rattle.token.proofs.theorems.Prefixed.{backtick-found, or-string, scan-backtick, back}
 use Rattle.token.proofs.theorems.Shorter.{one-strict, times-suffix, escape-suffix}
 use Rattle.token.proofs.theorems.Gaps.{pass-run, block-stands}
+use Rattle.token.proofs.theorems.Starts.{starts-declared}
 use Rattle.token.proofs.theorems.Dispatch.{clear-head, Clear, or-false, quote-any, scan-by, starts-block, starts-cr, starts-number, starts-word, starts-backtick, starts-string, starts-tick}
 
 -- a class without `/` opens no comment
@@ -45,12 +46,12 @@ clear-quote s e = clear-head (oneOf "\"") refl s (sym (quote-any s) ∙ e)
 
 -- ---- 12 to 14
 
-hexes-lack : (m k : ℕ) {n : ℕ} {s q : Text} → Times hexDigit n s q → n < m → hexDigit q ≡ false → hexes m k s ≡ broken 13 q
-unfolding hexes
+hexes-lack : (m k : ℕ) {n : ℕ} {s q : Text} → Times hexDigit n s q → n < m → hexDigit q ≡ false → exactHexes m k s ≡ broken 13 q
+unfolding exactHexes
 hexes-lack zero k w l e = absurd (omega arith)
 hexes-lack (suc m) k (Times.done {s}) l e = go s e
   where
-    go : (s : Text) → hexDigit s ≡ false → hexes (suc m) k s ≡ broken 13 s
+    go : (s : Text) → hexDigit s ≡ false → exactHexes (suc m) k s ≡ broken 13 s
     go [] e = refl
     go (c ∷ s) e = rw e
 hexes-lack (suc m) k (Times.more {n} {c} {s} f w) l e = rw f (hexes-lack m (suc k) w (omega arith) e)
@@ -87,9 +88,9 @@ wrong-scan n true s o q j (inr h, e) w =
 -- what is met at m, against the refusal i that is found at q: it is to the right of q, or at q and i is an escape's
 data Past (i : ℕ) (q m : Text) : Type 0 where
   right : length m < length q → Past i q m
-  tie : isEscapeNumber i ≡ true → m ≡ q → Past i q m
+  tie : between 12 14 i ≡ true → m ≡ q → Past i q m
 
-past-of : (i : ℕ) {q m : Text} → isEscapeNumber i ≡ true → Suffix m q → Past i q m
+past-of : (i : ℕ) {q m : Text} → between 12 14 i ≡ true → Suffix m q → Past i q m
 past-of i {q} {m} e h = go (ltb (length m) (length q)) refl
   where
     go : (b : Bool) → ltb (length m) (length q) ≡ b → Past i q m
@@ -229,7 +230,7 @@ triple-past p (Run.next {c} {s} {r = m} e w) = go p (backslash (c ∷ s)) (dolla
 pub data After (i : ℕ) (q : Text) (j : ℕ) (u : Text) : Type 0 where
   same : i ≡ j → q ≡ u → After i q j u
   right : length u < length q → After i q j u
-  tie : isEscapeNumber i ≡ true → isSingleNumber j ≡ true → q ≡ u → After i q j u
+  tie : GivesWay j i → q ≡ u → After i q j u
 
 pub record Meets (f : Found) (j : ℕ) (u : Text) : Type 0 where
   pub number : ℕ
@@ -242,12 +243,12 @@ exactly {j} {u} e = record { number = j; rest = u; found = e; after = After.same
 
 -- a refusal j of a plain single string, that is met at m or, of an escape, to the right of m
 plain-meets : (n : ℕ) (s m u : Text) (j : ℕ) → InSingle false s m → stops m ≡ true → closePlain 0 m ≡ wrong j u
-    → ((m ≡ u) × (isSingleNumber j ≡ true)) ⊎ (length u < length m)
+    → ((m ≡ u) × (between 7 8 j ≡ true)) ⊎ (length u < length m)
     → Meets (scan n s) j u
 plain-meets n s m u j (o, h, e, both (One.one {s = t} q) w) x f d = go (plain-past w x) d
   where
     go : Single false t m ⊎ ((i : ℕ) × (r : Text) × (closePlain 0 t ≡ wrong i r) × Past i r m)
-        → ((m ≡ u) × (isSingleNumber j ≡ true)) ⊎ (length u < length m) → Meets (scan n s) j u
+        → ((m ≡ u) × (between 7 8 j ≡ true)) ⊎ (length u < length m) → Meets (scan n s) j u
     go (inl v) d = exactly (wrong-scan n false s o u j h (in-single false o e ∙ single-pass false v ∙ f))
     go (inr (i, r, g, Past.right l)) (inl (k, z)) =
         record {
@@ -259,7 +260,7 @@ plain-meets n s m u j (o, h, e, both (One.one {s = t} q) w) x f d = go (plain-pa
     go (inr (i, r, g, Past.right l)) (inr k) =
         record { number = i; rest = r; found = wrong-scan n false s o r i h (in-single false o e ∙ g); after = After.right (omega arith) }
     go (inr (i, r, g, Past.tie y l)) (inl (k, z)) =
-        record { number = i; rest = r; found = wrong-scan n false s o r i h (in-single false o e ∙ g); after = After.tie y z (sym l ∙ k) }
+        record { number = i; rest = r; found = wrong-scan n false s o r i h (in-single false o e ∙ g); after = After.tie (z, y) (sym l ∙ k) }
     go (inr (i, r, g, Past.tie y l)) (inr k) =
         record {
           number = i;
@@ -331,9 +332,11 @@ met-meets n s j q (Met.m2 e f) = exactly (scan-by n s Start.block (starts-block 
         ⊎ ((scanBlock s ≡ Found.stuck 2 s) × ((r : Text) → Block s r → ⊥)) → scanBlock s ≡ Found.stuck 2 s
     go (inl (r, k, b)) = absurd (f r b)
     go (inr (k, b)) = k
-met-meets n s j q (Met.m3 {c} {r} h e) = exactly
-    (let e′ : starts (c ∷ r) ≡ false = sym (ap starts h) ∙ e in
-    rw h (other-scan n c r e′))
+met-meets n s j q (Met.m3 {c} {r} h k e) = exactly (rw h (other-scan n c r (go (starts (c ∷ r)) refl)))
+  where
+    go : (b : Bool) → starts (c ∷ r) ≡ b → starts (c ∷ r) ≡ false
+    go true f = absurd (e (starts-declared c r .0 f))
+    go false f = f
 met-meets n s j q (Met.m4 (both (One.one {c = b} {s = t} e) w)) = exactly
     (scan-by n s Start.backtick (starts-backtick s (clear-head (oneOf "`") refl s e) e) ∙ scan-backtick n b t
     ∙ rw (first t w, pass-run notBacktick w) (unfold afterRun in refl))
@@ -394,7 +397,7 @@ end-scan = refl
 end-none : (j : ℕ) (q : Text) → j ≡ 3 → Met [] j q → ⊥
 end-none j q z (Met.m1 e f) = omega arith
 end-none j q z (Met.m2 e f) = omega arith
-end-none j q z (Met.m3 {c} {r} h e) = let y : _≡_ {A = ℕ} 0 (suc (length r)) = ap length h in omega arith
+end-none j q z (Met.m3 {c} {r} h k e) = let y : _≡_ {A = ℕ} 0 (suc (length r)) = ap length h in omega arith
 end-none j q z (Met.m4 h) = omega arith
 end-none j q z (Met.m5 h) = omega arith
 end-none j q z (Met.m6 long h l) = omega arith
@@ -436,14 +439,14 @@ met-end j q h = go (met-meets 0 [] j q h)
         by : After (M .number) (M .rest) j q → ⊥
         by (After.same e f) = end-none j q (sym e ∙ i) h
         by (After.right l) = let z = ap length r in omega arith
-        by (After.tie e f g) = clash (sym (ap isEscapeNumber i) ∙ e)
+        by (After.tie e g) = clash (sym (ap (between 12 14) i) ∙ e .1)
 
 -- ---- the first
 
-escape-no-single : (j : ℕ) → isEscapeNumber j ≡ true → isSingleNumber j ≡ true → ⊥
-escape-no-single j e f =
-    let a = leb-true 12 j (and-both (leb 12 j) (leb j 14) e .0) in
-    let b = leb-true j 8 (and-both (leb 7 j) (leb j 8) f .1) in
+one-way : (i j : ℕ) → GivesWay i j → GivesWay j i → ⊥
+one-way i j h k =
+    let a = leb-true i 8 (and-both (leb 7 i) (leb i 8) (h .0) .1) in
+    let b = leb-true 12 i (and-both (leb 12 i) (leb i 14) (k .1) .0) in
     omega arith
 
 module _ (n : ℕ) (s : Text) (F : Fell s (scan n s)) where
@@ -463,23 +466,22 @@ module _ (n : ℕ) (s : Text) (F : Fell s (scan n s)) where
       left : {i : ℕ} {u : Text} → After (F .number) (F .rest) i u → length u ≤ length (F .rest)
       left (After.same e f) = let z = ap length f in omega arith
       left (After.right l) = omega arith
-      left (After.tie e f g) = let z = ap length g in omega arith
+      left (After.tie e g) = let z = ap length g in omega arith
 
-      before : (i : ℕ) → After (F .number) (F .rest) i (F .rest) → (i ≡ F .number) ⊎ ((isEscapeNumber (F .number) ≡ true) × (isSingleNumber i ≡ true))
+      before : (i : ℕ) → After (F .number) (F .rest) i (F .rest) → (i ≡ F .number) ⊎ GivesWay i (F .number)
       before i (After.same e f) = inl (sym e)
       before i (After.right l) = absurd (omega arith)
-      before i (After.tie e f g) = inr (e, f)
+      before i (After.tie e g) = inr e
 
   -- and no other is
   pub first-only : (j : ℕ) (u : Text) → First s j u → (F .number ≡ j) × (F .rest ≡ u)
   first-only j u h = go (against j u (h .met))
     where
-      tied : isSingleNumber j ≡ true → F .rest ≡ u → (F .number ≡ j) ⊎ ((isEscapeNumber j ≡ true) × (isSingleNumber (F .number) ≡ true))
-          → (F .number ≡ j) × (F .rest ≡ u)
+      tied : GivesWay j (F .number) → F .rest ≡ u → (F .number ≡ j) ⊎ GivesWay (F .number) j → (F .number ≡ j) × (F .rest ≡ u)
       tied f g (inl e) = (e, g)
-      tied f g (inr e) = absurd (escape-no-single j (e .0) f)
+      tied f g (inr e) = absurd (one-way j (F .number) f e)
 
       go : After (F .number) (F .rest) j u → (F .number ≡ j) × (F .rest ≡ u)
       go (After.same e f) = (e, f)
       go (After.right l) = absurd (let z = h .left (F .number) (F .rest) (F .met) in omega arith)
-      go (After.tie e f g) = tied f g (h .before (F .number) (rw (← g) (F .met)))
+      go (After.tie e g) = tied e g (h .before (F .number) (rw (← g) (F .met)))

@@ -1,15 +1,22 @@
--- Longest runs.
-use Prim.Native.Nat.{_≤_, _-_}
+-- Longest runs, and the codes between two texts.
+use Prim.Native.Nat.{suc, _≤_, _-_}
 use mathlib.Core.Path.{_≡_, refl, sym, _∙_}
 use mathlib.Core.Bool.{Bool, true, false}
 use mathlib.Core.List.{[], _∷_}
 use lib.ListN.{length}
+use native.Mathlib.Nat.{sub-self}
 use native.Mathlib.Omega.{arith}
 use Rattle.chars.specs.paper.Text.{Char, Text}
 use Rattle.chars.specs.computed.Runs.{afterRun}
 use Rattle.chars.proofs.Bools.{clash}
 use Rattle.chars.proofs.text.Texts.{Suffix, suffix-refl, suffix-cons, suffix-same}
-use Rattle.token.specs.paper.Shapes.{Run, Run1, Longest}
+use Rattle.token.specs.paper.Shapes.{Run, Run1, Longest, codesOf}
+
+pub codes-none : (s : Text) → codesOf s s ≡ []
+codes-none s = rw sub-self
+
+pub codes-more : (c : Char) (s r : Text) → length r ≤ length s → codesOf (c ∷ s) r ≡ c .code ∷ codesOf s r
+codes-more c s r h = let e : suc (length s) - length r ≡ suc (length s - length r) = omega arith in rw e
 
 module _ (p : Text → Bool) where
   pub after-next : (c : Char) (s : Text) → p (c ∷ s) ≡ true → afterRun p (c ∷ s) ≡ afterRun p s

@@ -1,5 +1,5 @@
 -- Every piece takes at least one character, and what follows it is the script's own text.
-use Prim.Native.Nat.{ℕ, suc, _≤_, _<_, _+_, _-_}
+use Prim.Native.Nat.{ℕ, suc, _≤_, _<_, _+_}
 use mathlib.Core.Bool.{Bool, true, false, not}
 use mathlib.Core.Logic.{inl, inr}
 use lib.ListN.{length}
@@ -83,11 +83,11 @@ operator-strict s r h = run1-strict freeSign (h .0)
 backtick-strict : (s r : Text) → Backtick s r → Strict r s
 backtick-strict s r (both a (both w b)) = strict-then (one-strict a) (suffix-trans (one-strict b .0) (run1-strict notBacktick w .0))
 
-digits-strict : {s r : Text} → Digits s r → Strict r s
+digits-strict : {v : ℕ} {s r : Text} → Digits v s r → Strict r s
 digits-strict (Digits.hex {s} e h) = then-strict (drop-suffix 2 s) (run1-strict hexDigit (h .0))
 digits-strict (Digits.dec e h) = run1-strict digit (h .0)
 
-number-strict : (long : Bool) (s r : Text) → NumberText long s r → Strict r s
+number-strict : (long : Bool) {v : ℕ} (s r : Text) → NumberText long v s r → Strict r s
 number-strict true s r (both d o) = strict-then (digits-strict d) (one-strict o .0)
 number-strict false s r (both {m} d o) = rw (← o .0) (digits-strict d)
 
@@ -129,8 +129,8 @@ unfolding TokenShape
 token-strict TokenType.ident s r h = ident-strict s r (h .0 .0)
 token-strict TokenType.opId s r h = operator-strict s r (h .0)
 token-strict TokenType.backtickId s r h = backtick-strict s r (h .0)
-token-strict TokenType.intLit s r h = number-strict false s r (h .0)
-token-strict TokenType.longLit s r h = number-strict true s r (h .0)
+token-strict TokenType.intLit s r h = number-strict false s r (h .1)
+token-strict TokenType.longLit s r h = number-strict true s r (h .1)
 token-strict TokenType.str s r h = str-strict s r h
 token-strict TokenType.charSym s r (inl h) = character-strict s r h
 token-strict TokenType.charSym s r (inr h) = symbol-strict s r h
@@ -172,7 +172,7 @@ str-two : (s r : Text) → Str s r → length r + 2 ≤ length s
 str-two s r (inl b) = body-two false b
 str-two s r (inr (both {m} p b)) = let x = prefix-strict s m p .1 in let y = body-strict true b .1 in omega arith
 
-long-two : (s r : Text) → NumberText true s r → length r + 2 ≤ length s
+long-two : {v : ℕ} (s r : Text) → NumberText true v s r → length r + 2 ≤ length s
 long-two s r (both d o) = let x = digits-strict d .1 in let y = one-strict o .1 in omega arith
 
 pub two-str : (s r : Text) → Stands (Kind.token TokenType.str) s r → length r + 2 ≤ length s
@@ -181,4 +181,4 @@ two-str s r h = str-two s r (h .0)
 
 pub two-long : (s r : Text) → Stands (Kind.token TokenType.longLit) s r → length r + 2 ≤ length s
 unfolding Stands HasShape TokenShape
-two-long s r h = long-two s r (h .0 .0)
+two-long s r h = long-two s r (h .0 .1)

@@ -69,8 +69,8 @@ bare-kind y t e = rw e at (bare-all y)
 
 valued-kind : {n : ℕ} {s r : Text} {y : TokenType} {t : TokenKind} → Valued n s r y t → Kind.token y ≡ kindOf t
 valued-kind {y} {t} (Valued.bare e) = bare-kind y t e .0
-valued-kind Valued.intLit = refl
-valued-kind Valued.longLit = refl
+valued-kind (Valued.intLit h) = refl
+valued-kind (Valued.longLit h) = refl
 valued-kind (Valued.prefixed e) = refl
 valued-kind (Valued.plain e c) = refl
 

@@ -87,8 +87,8 @@ token-bytes : (k : TokenType) (t : TokenKind) (s r : Text) (n : ℕ) (x y : Text
     → recordLength t + perByte * length r ≤ perByte * length s
 unfolding recordLength values le4 le8
 token-bytes k t s r n x y h (Valued.bare e) = let a = stands-strict (Kind.token k) s r h .1 in rw (bare-kind k t e .1) (omega arith)
-token-bytes k t s r n x y h Valued.intLit = let a = stands-strict (Kind.token k) s r h .1 in omega arith
-token-bytes k t s r n x y h Valued.longLit = let a = two-long s r h in omega arith
+token-bytes k t s r n x y h (Valued.intLit w) = let a = stands-strict (Kind.token k) s r h .1 in omega arith
+token-bytes k t s r n x y h (Valued.longLit w) = let a = two-long s r h in omega arith
 token-bytes k t s r n x y h (Valued.prefixed e) = let a = two-str s r h in omega arith
 token-bytes k t s r n x y h (Valued.plain e w) = let a = two-str s r h in omega arith
 

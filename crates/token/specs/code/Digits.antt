@@ -21,11 +21,11 @@ unfoldable pub digitOf : ℕ → ℕ
 digitOf c = cond (digitIn 16 c) (digitValue c) 16
 
 -- what follows the characters of the class that stand there, at most so many
-unfoldable pub upTo : (ℕ → Bool) → ℕ → Text → Text
-upTo p zero s = s
-upTo p (suc m) [] = []
-upTo p (suc m) (c ∷ s) =
-    let rest = upTo p m s in
+unfoldable pub afterUpTo : (ℕ → Bool) → ℕ → Text → Text
+afterUpTo p zero s = s
+afterUpTo p (suc m) [] = []
+afterUpTo p (suc m) (c ∷ s) =
+    let rest = afterUpTo p m s in
     cond (p (c .code)) rest (c ∷ s)
 
 -- a value of at most 9223372036854775807

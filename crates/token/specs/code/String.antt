@@ -9,7 +9,7 @@ use Rattle.chars.specs.paper.Quoted.{oneOf}
 use Rattle.chars.specs.paper.Text.{Text, from, place}
 use Rattle.chars.specs.code.Runs.{eightIn}
 use Rattle.token.specs.paper.Tests.{dollarBrace}
-use Rattle.token.specs.computed.Answer.{Esc, unbroken, broken, hexes, afterSlash, Closing, closed, wrong, closePlain, closePrefixed, plainContent}
+use Rattle.token.specs.computed.Answer.{Esc, unbroken, broken, exactHexes, afterSlash, Closing, closed, wrong, closePlain, closePrefixed, plainContent}
 use Rattle.token.specs.declared.kinds.TokenKind.{TokenKind}
 use Rattle.token.specs.declared.kinds.TokenKind.the-variants as tk
 use Rattle.token.specs.declared.piece.Ended.{Ended}
@@ -33,7 +33,7 @@ escapeOf n s = escEnd n s (afterSlash s)
 
 -- four hex digits
 unfoldable pub hexesOf : ℕ → Text → Ended
-hexesOf n s = escEnd n s (hexes 4 0 s)
+hexesOf n s = escEnd n s (exactHexes 4 0 s)
 
 -- a single string from behind its quote; p: it is prefixed
 unfoldable pub closeSingle : Bool → Text → Closing

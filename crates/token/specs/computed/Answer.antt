@@ -3,7 +3,7 @@
 -- (`Tests`); the keywords' texts (`wordOf`, `runOf`); what a token is (`Token`). Of shapes, readings, values, marks, cuts and refusals it shares
 -- nothing. With the code it shares the enums `Kw` and `TokenKind` and the struct `Gap`.
 use Prim.Native.Nat.{ℕ, zero, suc, _+_, _*_, _-_}
-use mathlib.Core.Bool.{Bool, true, false, cond, not, _&&_}
+use mathlib.Core.Bool.{Bool, true, false, cond, not, _&&_, _||_}
 use mathlib.Core.List.{List, [], _∷_, map, reverse}
 use mathlib.Core.Option.{Option, none, some}
 use lib.ListN.{length, take, drop}
@@ -85,11 +85,11 @@ pub data Esc : Type 0 where
   broken : ℕ → Text → Esc
 
 -- n hex digits, after k characters
-unfoldable pub hexes : ℕ → ℕ → Text → Esc
-hexes zero k s = unbroken k
-hexes (suc n) k [] = broken 13 []
-hexes (suc n) k (c ∷ s) =
-    let more = hexes n (suc k) s in
+unfoldable pub exactHexes : ℕ → ℕ → Text → Esc
+exactHexes zero k s = unbroken k
+exactHexes (suc n) k [] = broken 13 []
+exactHexes (suc n) k (c ∷ s) =
+    let more = exactHexes n (suc k) s in
     cond (isHexDigit (c .code)) more (broken 13 (c ∷ s))
 
 -- at most n digits more, after k characters
@@ -104,7 +104,7 @@ unfoldable pub afterSlash : Text → Esc
 afterSlash [] = broken 12 []
 afterSlash (c ∷ s) =
     let number = unbroken (digitsUpTo 2 1 s) in
-    let unicode = hexes 4 1 s in
+    let unicode = exactHexes 4 1 s in
     cond (isAny "btnfr'\"]" (c ∷ s)) (unbroken 1) (cond (isDigit (c .code)) number (cond (isAny "u" (c ∷ s)) unicode (broken 14 (c ∷ s))))
 
 -- ---- strings: from behind the opening, what follows the string, or its refusal
@@ -258,6 +258,12 @@ startOf s =
     (cond (isAny "`" s) Start.backtick
     (cond (quote s) Start.string
     (cond (apostrophe s) Start.charSym Start.other)))))))))))
+
+-- does the text begin with a character with which some shape starts? Else it is Start.other, and refusal 3.
+abbrev pub starts : Text → Bool
+starts s =
+    isAny " \t" s || isAny "\n" s || isAny "\r" s || isAny "()[]{},;." s || digit s || headIs isIdStart s || opSign s || isAny "`" s || quote s
+    || apostrophe s
 
 unfoldable pub signOf : Text → TokenKind
 signOf s =

@@ -12,7 +12,7 @@ use Rattle.chars.specs.paper.Text.{charsAt, from}
 use Rattle.chars.specs.computed.Runs.{afterRun}
 use Rattle.token.specs.paper.Tests.{same, isDigit, isHexDigit, begins}
 use Rattle.token.specs.paper.Kinds.{wordOf, runOf, kindNumber, Token}
-use Rattle.token.specs.computed.Answer.{codesTo, scanReturn, scanLine, close, scanBlock, readDigits, scanNumber, hexes, digitsUpTo, afterSlash, closePlain, closePrefixed, closeTriple, closeString, strip, plainContent, scanString, orPrefixed, afterIdent, scanIdent, scanOperator, scanBacktick, scanCharSym, startOf, signOf, scan, walk, Answer, accepted, refused, answer}
+use Rattle.token.specs.computed.Answer.{codesTo, scanReturn, scanLine, close, scanBlock, readDigits, scanNumber, exactHexes, digitsUpTo, afterSlash, closePlain, closePrefixed, closeTriple, closeString, strip, plainContent, scanString, orPrefixed, afterIdent, scanIdent, scanOperator, scanBacktick, scanCharSym, startOf, signOf, scan, walk, Answer, accepted, refused, answer}
 use Rattle.token.specs.paper.Records.{Value, one, four, eight, valuesOf, bit}
 
 -- a number in base ten, before the text t; the first argument bounds its digits
@@ -55,7 +55,7 @@ pub data Example : Type 0 where
 infix 70 _gives_
 -- Where this is unfolded, all of the computed definition is.
 unfoldable pub listed : List ℕ → List ℕ
-unfolding alphabetic lowercase uppercase nd alphaNotLetter width codeOf charsAt from isIdStart isIdChar isOpSign isPrintable isDigit isHexDigit begins wordOf runOf afterRun codesTo scanReturn scanLine close scanBlock readDigits scanNumber hexes digitsUpTo afterSlash closePlain closePrefixed closeTriple closeString strip plainContent scanString orPrefixed afterIdent scanIdent scanOperator scanBacktick scanCharSym startOf signOf scan walk answer decimalFor shown refusedAt listing
+unfolding alphabetic lowercase uppercase nd alphaNotLetter width codeOf charsAt from isIdStart isIdChar isOpSign isPrintable isDigit isHexDigit begins wordOf runOf afterRun codesTo scanReturn scanLine close scanBlock readDigits scanNumber exactHexes digitsUpTo afterSlash closePlain closePrefixed closeTriple closeString strip plainContent scanString orPrefixed afterIdent scanIdent scanOperator scanBacktick scanCharSym startOf signOf scan walk answer decimalFor shown refusedAt listing
 listed s = listing (answer s)
 
 -- by any way of listing a script

@@ -9,7 +9,7 @@ use lib.ListN.{length}
 use Rattle.chars.specs.paper.Text.{Char, Text, from, place}
 use Rattle.token.specs.paper.Tests.{isAny, endsLine, quote}
 use Rattle.token.specs.paper.Kinds.{Kind, TokenType, withoutValues, isComment, isLineEnd, Token}
-use Rattle.token.specs.paper.Shapes.{Run, Longest, textOf, numberValue, Stands}
+use Rattle.token.specs.paper.Shapes.{Run, Longest, textOf, NumberText, Stands}
 use Rattle.token.specs.declared.kinds.TokenKind.{TokenKind}
 use Rattle.token.specs.declared.kinds.TokenKind.the-variants as tk
 
@@ -88,8 +88,8 @@ pub record Cut (script : List ℕ) (gap : List Piece) : Type 0 where
 pub data Valued (n : ℕ) (s r : Text) : TokenType → TokenKind → Type 0 where
   -- a kind that carries nothing
   bare : {t : TokenType} {k : TokenKind} → withoutValues t ≡ some k → Valued n s r t k
-  intLit : Valued n s r TokenType.intLit (tk.IntLit (numberValue s))
-  longLit : Valued n s r TokenType.longLit (tk.LongLit (numberValue s))
+  intLit : {v : ℕ} → NumberText false v s r → Valued n s r TokenType.intLit (tk.IntLit v)
+  longLit : {v : ℕ} → NumberText true v s r → Valued n s r TokenType.longLit (tk.LongLit v)
   -- for a prefixed one all its text
   prefixed : quote s ≡ false → Valued n s r TokenType.str (tk.Str (place n s) (place n r))
   plain : {a b : ℕ} → quote s ≡ true → Content (textOf s r) (place n r) a b → Valued n s r TokenType.str (tk.Str a b)

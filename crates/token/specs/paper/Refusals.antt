@@ -6,19 +6,16 @@ use mathlib.Core.Logic.{_⊎_}
 use mathlib.Core.List.{List, [], _∷_}
 use lib.ListN.{length}
 use Rattle.chars.specs.paper.Quoted.{between}
-use Rattle.chars.specs.paper.Text.{Char, Text, from, place, headIs}
-use Rattle.chars.specs.paper.Classes.{isIdStart}
-use Rattle.token.specs.paper.Tests.{isAny, opensBlock, endsLine, quote, threeQuotes, backslash, dollarBrace, digit, hexDigit, opSign, notBacktick, apostrophe}
+use Rattle.chars.specs.paper.Text.{Char, Text, from, place}
+use Rattle.token.specs.paper.Tests.{isAny, opensBlock, endsLine, quote, threeQuotes, backslash, dollarBrace, digit, hexDigit, notBacktick, apostrophe}
 use Rattle.token.specs.paper.Kinds.{Kind}
-use Rattle.token.specs.paper.Shapes.{One, Run, Times, _then_, Block, NumberText, numberValue, limit, Escape, Prefix, Character, Symbol, Stands}
+use Rattle.token.specs.paper.Shapes.{One, Run, Times, _then_, Block, NumberText, limit, Escape, Prefix, Character, Symbol, HasShape, Stands}
 use Rattle.token.specs.paper.Reading.{Piece, Pieces}
 
--- a character with which a shape of the piece table starts: blank, line end, single sign, number, identifier, operator (or comment),
--- backtick, string, character or symbol
-abbrev pub starts : Text → Bool
-starts s =
-    isAny " \t" s || isAny "\n" s || isAny "\r" s || isAny "()[]{},;." s || digit s || headIs isIdStart s || opSign s || isAny "`" s || quote s
-    || apostrophe s
+-- A shape of the piece table starts with the character of code x: some text that begins with it, in this script or any other, has a kind's
+-- shape. So what is said of the text that follows a piece takes no start away.
+pub data StartsShape (x : ℕ) : Type 0 where
+  shape : (k : Kind) (c : Char) (s r : Text) → c .code ≡ x → HasShape k (c ∷ s) r → StartsShape x
 
 -- a string opens at o for the piece that starts at s; p: it is prefixed
 abbrev pub Opens : Bool → Text → Text → Type 0
@@ -26,7 +23,9 @@ Opens true s o = Prefix s o × (quote o ≡ true)
 Opens false s o = (s ≡ o) × (quote o ≡ true)
 
 -- q is reached inside a single string, from behind its opening quote on: no quote outside an escape is passed. What a string must not hold is
--- passed too, since the table names it by its place.
+-- passed too, since the table names it by its place. Of a wrong escape the backslash alone is passed, so that what stands directly behind it is
+-- reached: in `"\` LF both 8 and 14 are met at the LF. If a wrong escape hid what follows, 7 and 8 would never be met where 12 to 14 are, and
+-- "at one place, 12 to 14 go before 7 and 8" would say nothing.
 pub data WithinSingle : Bool → Text → Text → Type 0 where
   here : {p : Bool} {s : Text} → WithinSingle p s s
   -- in a prefixed one a backslash is content
@@ -66,12 +65,12 @@ pub data Met (s : Text) : ℕ → Text → Type 0 where
   -- block comment open at end
   m2 : opensBlock s ≡ true → ((r : Text) → Block s r → ⊥) → Met s 2 s
   -- at a piece's start a character, CR aside, with which no shape of the piece table starts
-  m3 : {c : Char} {r : Text} → s ≡ c ∷ r → starts s ≡ false → Met s 3 s
+  m3 : {c : Char} {r : Text} → s ≡ c ∷ r → isAny "\r" s ≡ false → (StartsShape (c .code) → ⊥) → Met s 3 s
   -- backtick open at end; empty backtick
   m4 : (One (isAny "`") then Run notBacktick) s [] → Met s 4 s
   m5 : {r : Text} → Times (isAny "`") 2 s r → Met s 5 s
   -- number too large
-  m6 : (long : Bool) {r : Text} → NumberText long s r → limit long < numberValue s → Met s 6 s
+  m6 : (long : Bool) {v : ℕ} {r : Text} → NumberText long v s r → limit long < v → Met s 6 s
   -- single string open at end; LF in a single string
   m7 : (p : Bool) → InSingle p s [] → Met s 7 []
   m8 : (p : Bool) {q : Text} → InSingle p s q → isAny "\n" q ≡ true → Met s 8 q
@@ -87,17 +86,15 @@ pub data Met (s : Text) : ℕ → Text → Type 0 where
   -- no backslash, character or symbol after `'`
   m16 : {q : Text} → One apostrophe s q → backslash q ≡ false → ((r : Text) → Character s r → ⊥) → ((r : Text) → Symbol s r → ⊥) → Met s 16 q
 
-abbrev pub isEscapeNumber : ℕ → Bool
-isEscapeNumber j = between 12 14 j
+-- At one place, 12 to 14 go before 7 and 8: the refusal i gives way to j.
+abbrev pub GivesWay : ℕ → ℕ → Type 0
+GivesWay i j = (between 7 8 i ≡ true) × (between 12 14 j ≡ true)
 
-abbrev pub isSingleNumber : ℕ → Bool
-isSingleNumber j = between 7 8 j
-
--- the first from the left (at one place, 12 to 14 go before 7 and 8)
+-- the first from the left; what else is met at its place gives way to it
 pub record First (s : Text) (j : ℕ) (q : Text) : Type 0 where
   pub met : Met s j q
   pub left : (i : ℕ) (u : Text) → Met s i u → length u ≤ length q
-  pub before : (i : ℕ) → Met s i q → (i ≡ j) ⊎ ((isEscapeNumber j ≡ true) × (isSingleNumber i ≡ true))
+  pub before : (i : ℕ) → Met s i q → (i ≡ j) ⊎ GivesWay i j
 
 -- The script is refused: pieces stand up to s, none stands at s, and the first refusal that is met there is j at the place a.
 -- A character inside a piece that stands meets none of 1 to 16.

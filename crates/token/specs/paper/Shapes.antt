@@ -1,15 +1,15 @@
 -- Document 01, "Piece table", declared: the shape of every kind. A shape is a relation between two texts, s from where the piece starts and r
 -- that follows it: so "longest", and what is said of the text that follows, is judged on the script's own characters after the piece.
-use Prim.Native.Nat.{ℕ, suc, _≤_, _+_, _*_, _-_}
+use Prim.Native.Nat.{ℕ, suc, _≤_, _+_, _*_, _-_, _^_}
 use mathlib.Core.Path.{_≡_}
-use mathlib.Core.Bool.{Bool, true, false, cond, not, _&&_}
+use mathlib.Core.Bool.{Bool, true, false, not, _&&_}
 use mathlib.Core.Logic.{_⊎_}
 use mathlib.Core.List.{List, [], _∷_, map}
 use mathlib.Core.Option.{none, some}
 use lib.ListN.{length, take, drop}
 use Rattle.chars.specs.paper.Text.{Char, Text, headIs, idChar}
 use Rattle.chars.specs.paper.Classes.{isIdStart}
-use Rattle.token.specs.paper.Tests.{isDigit, isHexDigit, isAny, opensBlock, closesBlock, opensComment, endOfLine, quote, threeQuotes, backslash, dollarBrace, digit, hexDigit, digitValue, hexAhead, longSuffix, opSign, freeSign, notBacktick, apostrophe, plainChar}
+use Rattle.token.specs.paper.Tests.{isAny, opensBlock, closesBlock, opensComment, endOfLine, quote, threeQuotes, backslash, dollarBrace, digit, hexDigit, digitValue, hexAhead, longSuffix, opSign, freeSign, notBacktick, apostrophe, plainChar}
 use Rattle.token.specs.paper.Kinds.{Kind, TokenType, isComment, wordOf, runOf}
 
 -- ---- words of the section
@@ -88,41 +88,33 @@ mutual
 
 -- ---- Number
 
--- `0x` and the longest run of one or more hex digits, else the longest run of digits
-pub data Digits : Text → Text → Type 0 where
-  hex : {s r : Text} → hexAhead s ≡ true → Longest (Run1 hexDigit) (drop 2 s) r → Digits s r
-  dec : {s r : Text} → hexAhead s ≡ false → Longest (Run1 digit) s r → Digits s r
+-- the value of digits in base b, the most significant first
+unfoldable pub valueOfDigits : ℕ → List ℕ → ℕ
+valueOfDigits b [] = 0
+valueOfDigits b (d ∷ ds) = digitValue d * b ^ length ds + valueOfDigits b ds
+
+-- `0x` and the longest run of one or more hex digits, else the longest run of digits. A number's value is that of its digits, in base 16 after
+-- `0x`, else in base 10.
+pub data Digits : ℕ → Text → Text → Type 0 where
+  hex : {s r : Text} → hexAhead s ≡ true → Longest (Run1 hexDigit) (drop 2 s) r → Digits (valueOfDigits 16 (codesOf (drop 2 s) r)) s r
+  dec : {s r : Text} → hexAhead s ≡ false → Longest (Run1 digit) s r → Digits (valueOfDigits 10 (codesOf s r)) s r
 
 -- then `L` or `l` if it stands there (true), else nothing
 abbrev pub Suffix : Bool → Shape
 Suffix true s r = One longSuffix s r
 Suffix false s r = (s ≡ r) × (longSuffix s ≡ false)
 
--- the value of the digits that the text begins with, in base b, after what was read before
-unfoldable pub valueFrom : (ℕ → Bool) → ℕ → ℕ → Text → ℕ
-valueFrom p b v [] = v
-valueFrom p b v (c ∷ s) =
-    let more = valueFrom p b (v * b + digitValue (c .code)) s in
-    cond (p (c .code)) more v
-
--- A number's value is that of its digits, in base 16 after `0x`, else in base 10.
-unfoldable pub numberValue : Text → ℕ
-numberValue s =
-    let hex = valueFrom isHexDigit 16 0 (drop 2 s) in
-    let dec = valueFrom isDigit 10 0 s in
-    cond (hexAhead s) hex dec
-
 -- LongLit, at most 9223372036854775807; else IntLit, at most 2147483647
 abbrev pub limit : Bool → ℕ
 limit true = 9223372036854775807
 limit false = 2147483647
 
--- the text of a number, whatever its value
-abbrev pub NumberText : Bool → Shape
-NumberText long s r = (Digits then Suffix long) s r
+-- the text of a number of the value v, however large
+abbrev pub NumberText : Bool → ℕ → Shape
+NumberText long v s r = (Digits v then Suffix long) s r
 
 abbrev pub Number : Bool → Shape
-Number long s r = NumberText long s r × (numberValue s ≤ limit long)
+Number long s r = (v : ℕ) × NumberText long v s r × (v ≤ limit long)
 
 -- ---- Identifier
 

@@ -1,5 +1,7 @@
-use mathlib.Core.Path.{sym, _∙_}
+use mathlib.Core.Path.{refl, sym, _∙_}
+use native.Mathlib.Omega.{arith}
 use borrow.Author.Needs.{needs}
+use Rattle.chars.proofs.Bools.{clash}
 use Rattle.entry.specs.paper.TokenText.{tokenText}
 use Rattle.entry.proofs.text.Laws.{text-within}
 use Rattle.entry.proofs.text.token_text.Statement.{statement}
@@ -27,7 +29,10 @@ returns : tie.Need-returns
 unfolding tokenText
 returns c =
     let has-text = c .before .before .has-text in
-    simp (← has-text .ensures, c .before .if1 .taken)
+    let yes = sym (has-text .ensures) ∙ c .before .if1 .taken in (
+      simp (← has-text .ensures, c .before .if1 .taken),
+      record { text = λ h. record { block = refl; offset = omega arith; bytes = refl }; none = λ h. clash (sym h ∙ yes) },
+    )
 
 slice-aggregate-result : tie.Need-slice-aggregate-result
 slice-aggregate-result c = search needs
@@ -36,7 +41,10 @@ returns-2 : tie.Need-returns-2
 unfolding tokenText
 returns-2 c =
     let has-text = c .before .before .has-text in
-    simp (← has-text .ensures, c .before .if1 .left)
+    let no = sym (has-text .ensures) ∙ c .before .if1 .left in (
+      simp (← has-text .ensures, c .before .if1 .left),
+      record { text = λ h. clash (sym no ∙ h); none = λ h. record { block = refl; offset = omega arith; bytes = refl } },
+    )
 
 pub token-text-spec : {M : Type 1} → statement M
 token-text-spec =

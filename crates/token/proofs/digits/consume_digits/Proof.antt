@@ -5,13 +5,13 @@ use native.Mathlib.Omega.{arith}
 use borrow.Author.Tests.{not-true, not-false}
 use lib.ListN.{length}
 use Rattle.chars.specs.paper.Text.{from}
-use Rattle.token.specs.code.Digits.{digitIn, upTo}
+use Rattle.token.specs.code.Digits.{digitIn, afterUpTo}
 use Rattle.token.proofs.digits.Laws.{digits-ascii, class-at, up-next, up-stop, up-full}
 use Rattle.token.proofs.digits.consume_digits.Statement.{statement}
 use Rattle.token.proofs.digits.consume_digits.Tie as tie
 
 abbrev Inv-loop : tie.InvT-loop
-Inv-loop s base most i₀ left₀ i left = (i ≤ length s) × (i₀ ≤ i) × (upTo (digitIn base) left (from s i) ≡ upTo (digitIn base) most (from s i₀))
+Inv-loop s base most i₀ left₀ i left = (i ≤ length s) × (i₀ ≤ i) × (afterUpTo (digitIn base) left (from s i) ≡ afterUpTo (digitIn base) most (from s i₀))
 
 abbrev μ-loop : tie.MeasureT-loop
 μ-loop s base most i₀ left₀ i left = left
