@@ -1,4 +1,5 @@
 pub mod PutLaws
 pub mod Decimals
 pub mod LineLaws
+pub mod TokenLines
 pub mod AnswerLaws

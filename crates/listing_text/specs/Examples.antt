@@ -5,19 +5,16 @@ use mathlib.Core.Bool.{true}
 use mathlib.Core.List.{List}
 use Prim.Native.Nat.{ℕ}
 use lib.ListN.{replicate}
-use Rattle.words.specs.Words.{twoAt, fourAt, eightAt}
 use Rattle.chars.specs.paper.Quoted.{codes}
-use Rattle.token.specs.code.Form.{valuesAt, heldAt}
 use Rattle.token.specs.computed.Listing.{holdBy}
 use Rattle.token.specs.computed.Examples.{marked, listingExample}
-use Rattle.entry.specs.computed.Listing.{hosted}
-use Rattle.listing_text.specs.Fields.{recordLength, valueCount, firstValue, lineOf}
-use Rattle.listing_text.specs.Lines.{headText, valuesText, lineText, linesFor, recordLines, answerText, zeros, listing}
+use Rattle.entry.specs.computed.Listing.{entered}
+use Rattle.listing_text.specs.Lines.{printed}
 
 -- Where this is unfolded, all of the definition is.
 unfoldable pub made : List ℕ → List ℕ
-unfolding hosted twoAt fourAt eightAt valuesAt heldAt recordLength valueCount firstValue lineOf headText valuesText lineText linesFor recordLines answerText zeros listing
-made s = listing s
+unfolding entered printed
+made s = printed s
 
 pub listing-holds : holdBy made listingExample ≡ true
 unfolding made

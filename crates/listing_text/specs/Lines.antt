@@ -12,7 +12,7 @@ use Rattle.token.specs.paper.Records.{mostNeed}
 use Rattle.token.specs.code.Form.{heldAt}
 use Rattle.token.specs.computed.Listing.{decimal, spaced, refusedAt}
 use Rattle.entry.specs.paper.Host.{Seen, seen}
-use Rattle.entry.specs.computed.Host.{hostOf}
+use Rattle.entry.specs.computed.Listing.{listingOf}
 use Rattle.listing_text.specs.Fields.{recordLength, lineOf}
 use Rattle.listing_text.specs.declared.fields.Line.{Line}
 
@@ -51,10 +51,11 @@ answerText (seen number records block) =
     let refused = refusedAt number (fourAt block 4) in
     cond (eqb number 0) lines refused
 
+-- all that is lent is 0
 unfoldable pub zeros : ℕ → List ℕ
 zeros n = replicate n 0
 
--- "The listing program takes up to 3,000 bytes"
+-- up to 3,000 bytes
 abbrev pub mostScript : ℕ
 mostScript = 3000
 
@@ -66,12 +67,13 @@ recordsRoom = mostNeed mostScript
 abbrev pub linesRoom : ℕ
 linesRoom = 10 * recordsRoom
 
--- "on standard input (more prints `long`)". All that is lent is 0.
-unfoldable pub listing : List ℕ → List ℕ
-listing script =
-    let answer = answerText (hostOf script (zeros recordsRoom) (zeros 16)) in
-    cond (leb (length script) mostScript) answer (codes "long\n")
+-- "The listing program takes up to 3,000 bytes on standard input (more prints `long`) and prints kind, start, end, cut and values, or
+-- `refused N at P`": over the script's tokens.
+unfoldable pub printed : List ℕ → List ℕ
+printed script =
+    let lines = listingOf script in
+    cond (leb (length script) mostScript) lines (codes "long\n")
 
 -- One case of several: a line `-- K`, and the script's listing.
 unfoldable pub caseText : ℕ → List ℕ → List ℕ
-caseText number script = codes "-- " ++ decimal number ++ codes "\n" ++ listing script
+caseText number script = codes "-- " ++ decimal number ++ codes "\n" ++ printed script

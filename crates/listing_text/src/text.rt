@@ -11,7 +11,7 @@ ghost use lib.ListN.{length};
 ghost use lib.Seq.{sets};
 ghost use Rattle.io.specs.Counts.{Counts};
 ghost use Rattle.entry.specs.paper.Host.{seen};
-ghost use Rattle.listing_text.specs.Lines.{Puts, answerText, zeros, recordsRoom, linesRoom, listing as listingOf, caseText};
+ghost use Rattle.listing_text.specs.Lines.{Puts, answerText, zeros, recordsRoom, linesRoom, printed, caseText};
 
 // The listing program takes up to 3,000 bytes.
 pub const MOST_BYTES: usize = 3000;
@@ -57,7 +57,7 @@ fn put_answer(out: &mut [u8], at: usize, number: u32, records: &[u8], block: &[u
 // The listing of a script; more than 3,000 bytes give `long`.
 fn put_listing(out: &mut [u8], at: usize, script: &[u8]) -> usize
     requires { ⌜ at + linesRoom ≤ length (now out) ⌝ }
-    ensures { λ r. ⌜ Puts (now (out .entry)) at (listingOf (now (script .entry))) (now (out .exit)) r ⌝ }
+    ensures { λ r. ⌜ Puts (now (out .entry)) at (printed (now (script .entry))) (now (out .exit)) r ⌝ }
     ensures { λ r. ⌜ r ≤ length (now (out .entry)) ⌝ }
 {
     if script.len() > MOST_BYTES {
@@ -71,8 +71,8 @@ fn put_listing(out: &mut [u8], at: usize, script: &[u8]) -> usize
 
 // The listing of a script stands at the start of out, and every other byte is as it was. The answer is the listing's length.
 pub fn listing(script: &[u8], out: &mut [u8; TEXT_BYTES]) -> usize
-    ensures { λ r. ⌜ r ≡ length (listingOf (now (script .entry))) ⌝ }
-    ensures { λ r. ⌜ now (out .exit) ≡ sets (now (out .entry)) 0 (listingOf (now (script .entry))) ⌝ }
+    ensures { λ r. ⌜ r ≡ length (printed (now (script .entry))) ⌝ }
+    ensures { λ r. ⌜ now (out .exit) ≡ sets (now (out .entry)) 0 (printed (now (script .entry))) ⌝ }
     ensures { λ r. ⌜ Counts r (now (out .exit)) ⌝ }
 {
     put_listing(out, 0, script)

@@ -18,4 +18,5 @@ pub mod Mets
 pub mod Flags
 pub mod Walks
 pub mod Alone
+pub mod Bounded
 pub mod Theorems

@@ -33,7 +33,7 @@ escape-range (BadEscape.e12 o) = (omega arith, omega arith)
 escape-range (BadEscape.e13 n l o z) = (omega arith, omega arith)
 escape-range (BadEscape.e14 o z) = (omega arith, omega arith)
 
-met-range : {s q : Text} {j : ℕ} → Met s j q → (1 ≤ j) × (j ≤ 16)
+pub met-range : {s q : Text} {j : ℕ} → Met s j q → (1 ≤ j) × (j ≤ 16)
 met-range (Met.m1 a b) = (omega arith, omega arith)
 met-range (Met.m2 a b) = (omega arith, omega arith)
 met-range (Met.m3 a b d) = (omega arith, omega arith)

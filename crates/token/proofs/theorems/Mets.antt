@@ -123,7 +123,7 @@ no-stop p x y c s e = go (eqb (c .code) 10) (eqb (c .code) 92) refl refl
 no-slash : (c : Char) (s : Text) → stops (c ∷ s) ≡ false → backslash (c ∷ s) ≡ false
 no-slash c s e = or-false (isAny "\n" (c ∷ s)) (backslash (c ∷ s)) e .1
 
-within-suffix : {p : Bool} {s m : Text} → WithinSingle p s m → Suffix m s
+pub within-suffix : {p : Bool} {s m : Text} → WithinSingle p s m → Suffix m s
 within-suffix WithinSingle.here = suffix-refl _
 within-suffix (WithinSingle.char {c} e b w) = suffix-cons c (within-suffix w)
 within-suffix (WithinSingle.escape e w) = suffix-trans (within-suffix w) (escape-suffix e)

@@ -91,7 +91,7 @@ number-strict : (long : Bool) {v : ℕ} (s r : Text) → NumberText long v s r �
 number-strict true s r (both d o) = strict-then (digits-strict d) (one-strict o .0)
 number-strict false s r (both {m} d o) = rw (← o .0) (digits-strict d)
 
-prefix-strict : (s r : Text) → Prefix s r → Strict r s
+pub prefix-strict : (s r : Text) → Prefix s r → Strict r s
 prefix-strict s r (inl h) = ident-strict s r (h .0)
 prefix-strict s r (inr h) = backtick-strict s r h
 
