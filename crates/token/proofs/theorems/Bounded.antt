@@ -10,7 +10,7 @@ use mathlib.Core.Option.{Option, none, some}
 use lib.ListN.{length, take-append-drop}
 use native.Mathlib.Omega.{arith}
 use Rattle.chars.specs.paper.Utf8.{width}
-use Rattle.chars.specs.paper.Text.{Char, Text, charsAt, from, place}
+use Rattle.chars.specs.paper.Text.{Text, charsAt, from, place}
 use Rattle.chars.proofs.text.Texts.{Suffix, suffix-refl, suffix-trans, TextOf, text-suffix, text-place}
 use Rattle.words.specs.Words.{le4, le8}
 use Rattle.token.specs.paper.Kinds.{Kind, TokenType, withoutValues, kwNumber, kindNumber, Token}
