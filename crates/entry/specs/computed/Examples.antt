@@ -5,6 +5,7 @@ use mathlib.Core.Bool.{true}
 use mathlib.Core.List.{List, [], _∷_, _++_, map}
 use lib.ListN.{length, replicate}
 use lib.Dec.{ltb}
+use Rattle.words.specs.Words.{blockOf}
 use Rattle.chars.specs.paper.Quoted.{codes}
 use Rattle.chars.specs.computed.Encoded.{script}
 use Rattle.token.specs.paper.Records.{mostBytes}
@@ -15,7 +16,7 @@ use Rattle.entry.specs.computed.Host.{rejected, verdict}
 use Rattle.entry.specs.paper.TokenText.{hasText, tokenText, textNumber}
 use Rattle.entry.specs.computed.Listing.{entered, hosted}
 
--- the tokenizer's examples, by the whole verdict
+-- the tokenizer's examples, by the listing of a script
 pub all-hold : holdBy entered (marked ++ listingExample ++ refusalExamples ++ tieExamples ++ traps) ≡ true
 unfolding entered
 all-hold = refl
@@ -33,6 +34,12 @@ pub not-utf8 : map entered illFormed
     ≡ map codes ("refused 18 at 1\n" ∷ "refused 18 at 0\n" ∷ "refused 18 at 1\n" ∷ "refused 18 at 1\n" ∷ [])
 unfolding entered
 not-utf8 = refl
+
+-- the same by what the host sees, and `'(x`, refused by 16 at 1; each with nothing lent for records
+pub refused-seen : map (λ s. hosted s [] (replicate 16 9)) (script "'(x" ∷ illFormed)
+    ≡ seen 16 [] (blockOf 16 1 0 0) ∷ map (λ a. seen 18 [] (blockOf 18 a 0 0)) (1 ∷ 0 ∷ 1 ∷ 1 ∷ [])
+unfolding hosted
+refused-seen = refl
 
 -- 19: `a`, 25 bytes lent; 20: a block of 15 bytes; and `a` accepted into 27 bytes, of which the last keeps its value
 pub lent-25 : hosted (script "a") (replicate 25 7) (replicate 16 9)

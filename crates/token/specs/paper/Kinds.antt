@@ -1,6 +1,6 @@
 -- Document 01, "Records": the kinds, their numbers, and the keywords' texts.
 --
--- Five types say kinds. Two are the paper's, both below:
+-- Five types go by kinds. Two are the paper's, both below:
 --   `Kind`       of a piece: blank, line end, line comment, block comment, or a token of a type
 --   `TokenType`  of a piece that is a token, without its values. Line ends are a `Kind` of their own, and Eof is no piece.
 -- One is the code's enum (`src/kinds.rt`), on all sides what a token or record is:

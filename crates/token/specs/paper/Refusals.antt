@@ -12,7 +12,7 @@ use Rattle.token.specs.paper.Kinds.{Kind}
 use Rattle.token.specs.paper.Shapes.{One, Run, Times, _then_, Block, NumberText, limit, Escape, Prefix, Character, Symbol, HasShape, Stands}
 use Rattle.token.specs.paper.Reading.{Piece, Pieces}
 
--- A shape of the piece table starts with the character of code x: some text that begins with it, in this script or any other, has a kind's
+-- A shape of the piece table starts with the character of code x: some list of characters that begins with it, of this script or not, has a kind's
 -- shape. So what is said of the text that follows a piece takes no start away.
 pub data StartsShape (x : ℕ) : Type 0 where
   shape : (k : Kind) (c : Char) (s r : Text) → c .code ≡ x → HasShape k (c ∷ s) r → StartsShape x
