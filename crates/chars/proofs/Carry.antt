@@ -10,11 +10,8 @@ use lib.Dec.{eqb, ltb}
 use types.Run.{OneOf}
 use Rattle.chars.specs.paper.Quoted.{member}
 use Rattle.chars.specs.code.Classes.{bitIn}
+use Rattle.chars.specs.promises.Codes.{every, span, alike}
 use Rattle.chars.proofs.Bools.{clash}
-
-abbrev pub every : (ℕ → Bool) → List ℕ → Bool
-every f [] = true
-every f (x ∷ l) = f x && every f l
 
 pub carry : (f : ℕ → Bool) (l : List ℕ) (c : ℕ) → every f l ≡ true → member l c ≡ true → f c ≡ true
 carry f [] c h e = clash e
@@ -41,11 +38,6 @@ no-member f l c h e = go (member l c) refl
     go false q = refl
     go true q = let z = carry-not f l c h q in clash (cc)
 
--- n codes from a on
-abbrev pub span : ℕ → ℕ → List ℕ
-span a zero = []
-span a (suc n) = a ∷ span (suc a) n
-
 in-span : (a n c : ℕ) → a ≤ c → c < a + n → member (span a n) c ≡ true
 in-span a zero c h k = absurd (omega arith)
 in-span a (suc n) c h k = go (eqb c a) refl (λ z. in-span (suc a) n c z (omega arith))
@@ -66,15 +58,11 @@ each-but f ks a n c h p q e =
     let z = each (λ x. not (f x) || member ks x) a n c h p q in
     not-true (f c) (sym (or-false (not (f c))) ∙ (rw e at z))
 
--- two tests that agree at n codes from a on
-abbrev pub alike : Bool → Bool → Bool
-alike true y = y
-alike false y = not y
-
 pub agree : (x y : Bool) → alike x y ≡ true → x ≡ y
 agree true y e = sym e
 agree false y e = sym (not-true y e)
 
+-- two tests that agree at n codes from a on
 pub each-same : (f g : ℕ → Bool) (a n c : ℕ) → every (λ x. alike (f x) (g x)) (span a n) ≡ true → a ≤ c → c < a + n → f c ≡ g c
 each-same f g a n c h p q = agree (f c) (g c) (each (λ x. alike (f x) (g x)) a n c h p q)
 

@@ -1,4 +1,4 @@
 pub mod paper
 pub mod computed
 pub mod code
-pub mod Promises
+pub mod promises

@@ -21,7 +21,8 @@ ghost use Rattle.chars.specs.paper.Classes.{isIdStart, isIdChar, isOpSig
 ghost use Rattle.chars.specs.paper.Text.{from, place, idChar};
 ghost use Rattle.chars.specs.computed.Runs.{afterRun};
 ghost use Rattle.chars.specs.code.Classes.{bitIn, cyrillicAt};
-ghost use Rattle.chars.specs.Promises.{TablesAscend};
+ghost use Rattle.chars.specs.promises.Codes.{CodeLaws};
+ghost use Rattle.chars.specs.promises.Classes.{ClassLaws};
 
 // The last code that the tables speak of.
 const LAST: u32 = 0xFFFF;
@@ -90,6 +91,7 @@ pub fn is_op_char(c: u32) -> bool
 // Whether the byte's bit is set in one of two masks, for the codes up to 0x3F and from 0x40 to 0x7F: two tests where a `match` takes a dozen.
 pub fn has_bit(b: u8, low: u64, high: u64) -> bool
     ensures { λ r. ⌜ r ≡ bitIn low high b ⌝ }
+    ensures { λ r. ⌜ CodeLaws ⌝ }
 {
     if b < 0x40 {
         return (low >> b as u64) % 2 == 1;
@@ -124,6 +126,7 @@ pub fn is_printable_char(c: u32) -> bool
 // letters are answered before such a function is called.
 pub fn is_id_start(c: u32) -> bool
     ensures { λ r. ⌜ r ≡ isIdStart c ⌝ }
+    ensures { λ r. ⌜ ClassLaws ⌝ }
 {
     if c < 0x80 {
         return is_ascii_id_start(c);
@@ -164,10 +167,9 @@ fn is_ascii_id_start(c: u32) -> bool
     is_ascii_start(c as u8)
 }
 
-// Whether c may continue an identifier. ASCII reaches no table. The second clause is of the five tables by which classes are searched.
+// Whether c may continue an identifier. ASCII reaches no table.
 pub fn is_id_char(c: u32) -> bool
     ensures { λ r. ⌜ r ≡ isIdChar c ⌝ }
-    ensures { λ r. ⌜ TablesAscend ⌝ }
 {
     if c < 0x80 {
         return is_ascii_id_char(c);

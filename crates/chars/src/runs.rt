@@ -4,6 +4,7 @@ ghost use mathlib.Core.Bool.{false};
 ghost use Prim.Native.Nat.{_+_, _≤_};
 ghost use lib.ListN.{length};
 ghost use Rattle.chars.specs.code.Runs.{AllIn, twoIn, fourIn, eightIn, sixteenIn, thirtyTwoIn, NoneOf, twoNot, fourNot, eightNot, NeitherOf, twoNeither, fourNeither, eightNeither};
+ghost use Rattle.chars.specs.promises.Runs.{RunLaws};
 
 fn two_in(s: &[u8], at: usize, low: u8, high: u8) -> bool
     requires { ⌜ at + 2 ≤ length (now s) ⌝ }
@@ -22,6 +23,7 @@ fn four_in(s: &[u8], at: usize, low: u8, high: u8) -> bool
 // Whether eight bytes stand at a place, all of them in the range.
 pub fn eight_in(s: &[u8], at: usize, low: u8, high: u8) -> bool
     ensures { λ r. ⌜ r ≡ eightIn low high (now (s .entry)) at ⌝ }
+    ensures { λ r. ⌜ RunLaws ⌝ }
 {
     if s.len() < 8 {
         return false;

@@ -2,7 +2,7 @@
 use crate::utf8::Decoded;
 ghost use mathlib.Core.Path.{_≡_};
 ghost use Rattle.chars.specs.code.Text.{stepAt};
-ghost use Rattle.chars.specs.Promises.{Reads};
+ghost use Rattle.chars.specs.promises.Texts.{TextLaws};
 
 // The first character from a place on: its code, and where it ends.
 pub enum Step {
@@ -14,7 +14,7 @@ pub enum Step {
 // read by such steps.
 pub fn char_at(s: &[u8], at: usize) -> Step
     ensures { λ r. ⌜ r ≡ stepAt (now (s .entry)) at ⌝ }
-    ensures { λ r. ⌜ Reads (now (s .entry)) at ⌝ }
+    ensures { λ r. ⌜ TextLaws ⌝ }
 {
     if s.len() <= at {
         return Step::End;

@@ -10,7 +10,7 @@ ghost use Rattle.chars.specs.paper.Ranges.{_to_};
 ghost use Rattle.chars.specs.paper.Utf8.{fits, width, codeOf, LongestValid};
 ghost use Rattle.chars.specs.code.Utf8.{decodeAt};
 ghost use Rattle.chars.specs.computed.Valid.{validPrefix};
-ghost use Rattle.chars.specs.Promises.{Decoding};
+ghost use Rattle.chars.specs.promises.Utf8.{Decoding, ValidLaws};
 
 // The character that stands at a byte offset, or that none does.
 pub enum Decoded {
@@ -139,6 +139,7 @@ pub fn decode(s: &[u8], at: usize) -> Decoded
 // The length of the longest prefix that is a sequence of well-formed characters. Characters of two bytes are tested before the others.
 pub fn valid_prefix(s: &[u8]) -> usize
     ensures { λ r. ⌜ (r ≡ validPrefix (now (s .entry))) × LongestValid (now (s .entry)) r ⌝ }
+    ensures { λ r. ⌜ ValidLaws ⌝ }
 {
     let mut i = 0;
     while i < s.len() {

@@ -13,7 +13,8 @@ use Rattle.words.proofs.Joins.{four-drop, four-le4}
 use Rattle.chars.specs.paper.Quoted.{codes}
 use Rattle.chars.specs.paper.Utf8.{WellFormed}
 use Rattle.chars.specs.computed.Valid.{validPrefix}
-use Rattle.chars.proofs.utf8.Valid.{valid, longest-one, valid-all}
+use Rattle.chars.specs.promises.Utf8.{ValidLaws}
+use Rattle.chars.proofs.theorems.Promises.{valid-laws}
 use Rattle.token.specs.paper.Records.{mostNeed, records, tokenCount, recordBytes}
 use Rattle.token.specs.computed.Answer.{Answer, answer}
 use Rattle.token.specs.computed.Listing.{refusedAt, listing}
@@ -26,6 +27,8 @@ use Rattle.entry.specs.computed.Listing.{listingOf}
 use Rattle.entry.proofs.theorems.Hosts.{met-range, sees-host}
 use Rattle.listing_text.specs.Lines.{recordLines, answerText, zeros, mostScript, recordsRoom, printed}
 use Rattle.listing_text.proofs.TokenLines.{records-shown}
+
+open ValidLaws valid-laws using (valid, longest-one, valid-all)
 
 -- no more of a list than it has
 take-min : (a : ℕ) (l : List ℕ) → take (min a (length l)) l ≡ take a l

@@ -1,3 +1,4 @@
+pub mod Wide
 pub mod Bytes
 pub mod Laws
 pub mod Blanks

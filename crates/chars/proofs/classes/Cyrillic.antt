@@ -11,13 +11,14 @@ use Rattle.chars.specs.paper.Ranges.{_to_}
 use Rattle.chars.specs.paper.Utf8.{fits, here, later, width, codeOf}
 use Rattle.chars.specs.paper.Classes.{isIdStart, isIdChar}
 use Rattle.chars.specs.paper.Text.{from, headIs}
-use Rattle.chars.specs.code.Text.{charEnd}
+use Rattle.chars.specs.code.Text.{codeAt, charEnd}
 use Rattle.chars.specs.code.Classes.{cyrillicAt}
+use Rattle.chars.specs.promises.Classes.{Russian}
 use Rattle.chars.proofs.Bools.{clash, and-both}
 use Rattle.chars.proofs.classes.Ranges.{between-in, in-between}
 use Rattle.chars.proofs.classes.Laws.{russian-start, russian-id}
 use Rattle.chars.proofs.utf8.Valid.{width-fit}
-use Rattle.chars.proofs.text.Places.{codeAt, at-char, head-at}
+use Rattle.chars.proofs.text.Places.{at-char, head-at}
 
 -- what the two bytes say of the bytes t that begin with them
 record Letter (t : List ℕ) : Type 0 where
@@ -52,15 +53,7 @@ letters t e = go (fits (0xD0 to 0xD0 ∷ 0x90 to 0xBF ∷ []) t) refl e
         letter 0xD1 0x80 0x8F (omega arith) (omega arith) (omega arith) (omega arith)
         (λ y l h u. between-in 0x0410 0x044F (codeOf 2 (0xD1 ∷ y ∷ u)) (omega arith) (omega arith)) t e
 
--- a Russian letter stands at i
-pub record Russian (s : List ℕ) (i : ℕ) : Type 0 where
-  pub within : i + 2 ≤ length s
-  pub next : charEnd s i ≡ i + 2
-  pub start : headIs isIdStart (from s i) ≡ true
-  pub id : isIdChar (codeAt s i) ≡ true
-  pub after : from s (i + 2) ≡ drop 1 (from s i)
-
--- where a test b has found one
+-- a Russian letter, where a test b has found one
 pub russian : (s : List ℕ) (i : ℕ) {b : Bool} → b ≡ cyrillicAt s i → b ≡ true → Russian s i
 unfolding cyrillicAt charEnd
 russian s i q t =

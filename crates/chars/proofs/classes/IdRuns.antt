@@ -11,11 +11,12 @@ use Rattle.chars.specs.paper.Classes.{isIdChar, alphabetic, alphaNotLett
 use Rattle.chars.specs.paper.Text.{Text, from, place, idChar}
 use Rattle.chars.specs.code.Text.{charEnd}
 use Rattle.chars.specs.computed.Runs.{afterRun}
-use Rattle.chars.specs.code.Classes.{asciiIdChar}
+use Rattle.chars.specs.code.Classes.{asciiIdChar, isAsciiId}
+use Rattle.chars.specs.promises.Texts.{Suffix, Ascii}
+use Rattle.chars.specs.promises.Classes.{Russian}
 use Rattle.chars.proofs.Bools.{clash, and-both}
-use Rattle.chars.proofs.text.Texts.{Suffix, suffix-refl, suffix-cons, text-suffix, text-place}
-use Rattle.chars.proofs.text.Places.{Ascii, head-byte, at-end, next-on, ascii-code, ascii-next, head-at, run-next, run-stop, run-end, runs-on, runs-out}
-use Rattle.chars.proofs.classes.Cyrillic.{Russian}
+use Rattle.chars.proofs.text.Texts.{suffix-refl, suffix-cons, text-suffix, text-place}
+use Rattle.chars.proofs.text.Places.{head-byte, at-end, next-on, ascii-code, ascii-next, head-at, run-next, run-stop, run-end, runs-on, runs-out}
 
 -- ---- any runs
 
@@ -73,25 +74,22 @@ module _ (p : Text → Bool) (s : List ℕ) where
       → (i ≤ r) × (r ≤ length s) × (from s r ≡ afterRun p (from s i))
   run-place i r h e = let a = run-within (length s - i) i (omega arith) h in (omega arith, omega arith, ap (from s) e ∙ run-text i)
 
-  -- what stands there fails the test
-  pub run-done : p [] ≡ false → (t : Text) → p (afterRun p t) ≡ false
-  unfolding afterRun
-  run-done z [] = z
-  run-done z (c ∷ t) = go (p (c ∷ t)) refl (run-done z t)
-    where
-      go : (b : Bool) → p (c ∷ t) ≡ b → p (afterRun p t) ≡ false → p (afterRun p (c ∷ t)) ≡ false
-      go true e r = rw (e, afterRun) r
-      go false e r = rw (e, afterRun) e
+-- what stands there fails the test
+pub run-done : (p : Text → Bool) → p [] ≡ false → (t : Text) → p (afterRun p t) ≡ false
+unfolding afterRun
+run-done p z [] = z
+run-done p z (c ∷ t) = go (p (c ∷ t)) refl (run-done p z t)
+  where
+    go : (b : Bool) → p (c ∷ t) ≡ b → p (afterRun p t) ≡ false → p (afterRun p (c ∷ t)) ≡ false
+    go true e r = rw (e, afterRun) r
+    go false e r = rw (e, afterRun) e
 
 -- ---- id characters of ASCII
-
-abbrev pub isAsciiId : ℕ → Bool
-isAsciiId c = ltb c 0x80 && isIdChar c
 
 -- they are tested on the byte
 pub ascii-id : Ascii isAsciiId
 unfolding isIdChar alphabetic alphaNotLetter nd
-ascii-id = record { none = refl; wide = λ c h. ap (λ z. z && isIdChar c) (le-ltb c 0x80 h) }
+ascii-id = record { nul = refl; wide = λ c h. ap (λ z. z && isIdChar c) (le-ltb c 0x80 h) }
 
 pub ascii-id-id : (t : Text) → asciiIdChar t ≡ true → idChar t ≡ true
 ascii-id-id [] e = clash e
@@ -146,7 +144,7 @@ module _ (s : List ℕ) (i r : ℕ) (h : i ≤ length s) (e : r ≡ place (lengt
       (a .0, a .1, sym ascii-then ∙ stays)
     where
       no : isAsciiId (getD s r 0) ≡ false
-      no = sym (head-byte isAsciiId ascii-id s r) ∙ ap asciiIdChar (run-place asciiIdChar s i r h e .2) ∙ run-done asciiIdChar s refl (from s i)
+      no = sym (head-byte isAsciiId ascii-id s r) ∙ ap asciiIdChar (run-place asciiIdChar s i r h e .2) ∙ run-done asciiIdChar refl (from s i)
 
       stays : afterRun idChar (from s r) ≡ from s r
       stays = go (ltb r (length s)) refl

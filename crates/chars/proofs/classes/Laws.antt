@@ -11,12 +11,11 @@ use Rattle.chars.specs.paper.Tables.{alphabeticTable, lowercaseTable, up
 use Rattle.chars.specs.paper.Classes.{isIdStart, isIdChar, isOpSign, isPrintable, alphabetic, lowercase, uppercase, nd, alphaNotLetter}
 use Rattle.chars.proofs.Bools.{not-true}
 use Rattle.chars.proofs.classes.Ranges.{between-in, between-out, in-between, clear-out, covered-in, only-first}
-use Rattle.chars.proofs.Carry.{every, every-sub, carry, carry-not, no-member}
+use Rattle.chars.specs.promises.Codes.{every}
+use Rattle.chars.specs.promises.Classes.{signs, others, lowStart, lowId}
+use Rattle.chars.proofs.Carry.{every-sub, carry, carry-not, no-member}
 
 -- ---- operator signs
-
-abbrev pub signs : String
-signs = "!#%&*+-/:<=>?@\\^|~⇒"
 
 pub sign-is : (c : ℕ) → isOpSign c ≡ true → oneOf signs c ≡ true
 unfolding isOpSign
@@ -72,13 +71,7 @@ module _ (c : ℕ) (l : c ≤ 0x7F) where
   unfolding alphaNotLetter
   low-marks = only-first 0 alphaNotLetterTable 0x7F c refl l
 
--- the classes there, without the tables
-abbrev pub lowStart : ℕ → Bool
-lowStart c = between 0x61 0x7A c || between 0x41 0x5A c || oneOf "$_" c
-
-abbrev pub lowId : ℕ → Bool
-lowId c = oneOf "$" c || (between 0x41 0x5A c || between 0x61 0x7A c || between 0x30 0x39 c)
-
+-- the classes there
 low-start : (c : ℕ) → c < 0x80 → isIdStart c ≡ lowStart c
 unfolding isIdStart
 low-start c l =
@@ -116,10 +109,6 @@ quoted-not p q h a t k c e = go (ltb c 0x80) refl (carry (λ x. cond (ltb x 0x80
     go false f g = ap (λ z. not (p z)) (eqb-true c 0x21D2 g) ∙ ap not a
 
 -- ---- id starts
-
--- the characters with which pieces start that are no identifiers
-abbrev pub others : String
-others = " \t\n\r()[]{},;.`\"'0123456789!#%&*+-/:<=>?@\\^|~⇒"
 
 arrow-no-start : isIdStart 0x21D2 ≡ false
 unfolding isIdStart lowercase uppercase

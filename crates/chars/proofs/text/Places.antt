@@ -12,7 +12,8 @@ use native.Mathlib.Omega.{arith}
 use borrow.Author.Tests.{ltb-true, ltb-false}
 use Rattle.chars.specs.paper.Utf8.{width, codeOf}
 use Rattle.chars.specs.paper.Text.{Char, Text, charsAt, from, place, headIs}
-use Rattle.chars.specs.code.Text.{charEnd, stepAt}
+use Rattle.chars.specs.code.Text.{codeAt, charEnd, stepAt}
+use Rattle.chars.specs.promises.Texts.{Ascii, PastWide}
 use Rattle.chars.specs.computed.Runs.{afterRun}
 use Rattle.chars.specs.declared.text.Step.the-variants as step
 use Rattle.chars.proofs.utf8.Rows as rows
@@ -20,10 +21,6 @@ use Rattle.chars.proofs.utf8.Codes.{code-one}
 use Rattle.chars.proofs.utf8.Widths.{width-within}
 use Rattle.chars.proofs.utf8.Wide.{Wide, wide}
 use Rattle.chars.proofs.text.Texts.{chars-skip}
-
--- the code of the character at i
-abbrev pub codeAt : List ℕ → ℕ → ℕ
-codeAt s i = codeOf (width (drop i s)) (drop i s)
 
 module _ (s : List ℕ) (i : ℕ) where
   byte0 : getD (drop i s) 0 0 ≡ getD s i 0
@@ -106,15 +103,11 @@ module _ (s : List ℕ) (i : ℕ) where
 
 -- ---- a class of ASCII characters is tested on the byte; past the end the byte counts as 0
 
-pub record Ascii (p : ℕ → Bool) : Type 0 where
-  pub none : p 0 ≡ false
-  pub wide : (c : ℕ) → 0x80 ≤ c → p c ≡ false
-
 pub head-byte : (p : ℕ → Bool) → Ascii p → (s : List ℕ) (i : ℕ) → headIs p (from s i) ≡ p (getD s i 0)
 head-byte p a s i = go (ltb i (length s)) refl (ltb (getD s i 0) 0x80) refl
   where
     go : (b : Bool) → ltb i (length s) ≡ b → (l : Bool) → ltb (getD s i 0) 0x80 ≡ l → headIs p (from s i) ≡ p (getD s i 0)
-    go false e l f = let h = ltb-false i (length s) e in ap (headIs p) (at-end s i h) ∙ sym (ap p (List·getD-eq-default s 0 h) ∙ a .none)
+    go false e l f = let h = ltb-false i (length s) e in ap (headIs p) (at-end s i h) ∙ sym (ap p (List·getD-eq-default s 0 h) ∙ a .nul)
     go true e true f = ap (headIs p) (at-ascii s i (ltb-true i (length s) e) (ltb-true (getD s i 0) 0x80 f))
     go true e false f =
         let k = ltb-false (getD s i 0) 0x80 f in
@@ -153,24 +146,25 @@ module _ (p : Text → Bool) (s : List ℕ) (i : ℕ) where
   unfolding afterRun
   run-end k = rw (at-end s i k)
 
--- ---- where characters past ASCII are passed, one may go byte by byte, also inside them
+-- ---- past ASCII one may go byte by byte, also inside a character
 
-module _ {A : Type 0} (s : List ℕ) (f : Text → A) (pass : (c : Char) (u : Text) → 0x80 ≤ c .code → f (c ∷ u) ≡ f u) where
-  over : (i : ℕ) → i < length s → 0x80 ≤ getD s i 0 → f (from s i) ≡ f (from s (charEnd s i))
-  over i h e = ap f (at-char s i h) ∙ pass _ _ (wide-code s i e)
-
-  back : (i k j : ℕ) → i < length s → j + k ≡ charEnd s i → i < j → f (from s j) ≡ f (from s (charEnd s i))
-  back i zero j h q l = ap (λ x. f (from s x)) (let z : j ≡ charEnd s i = omega arith in z)
-  back i (suc k) j h q l =
+module _ (s : List ℕ) where
+  tails-past : (i k j : ℕ) → i < length s → j + k ≡ charEnd s i → i < j → PastWide (from s j) (from s (charEnd s i))
+  tails-past i zero j h q l = let z : j ≡ charEnd s i = omega arith in rw z PastWide.stays
+  tails-past i (suc k) j h q l =
       let n = next-on s i h in
       let t = wide-tail s i h j l (let z : j < charEnd s i = omega arith in z) in
       let b : j < length s = omega arith in
-      over j b (t .0) ∙ ap (λ x. f (from s x)) (tail-next s j b (t .0) (t .1)) ∙ back i k (j + 1) h (omega arith) (omega arith)
+      let e = tail-next s j b (t .0) (t .1) in
+      let r : PastWide (from s (charEnd s j)) (from s (charEnd s i)) = rw e (tails-past i k (j + 1) h (omega arith) (omega arith)) in
+      rw (at-char s j b) (PastWide.passes (wide-code s j (t .0)) r)
 
-  pub byte-by-byte : (i : ℕ) → i < length s → 0x80 ≤ getD s i 0 → f (from s (i + 1)) ≡ f (from s i)
-  byte-by-byte i h e =
+  pub wide-past : (i : ℕ) → i < length s → 0x80 ≤ getD s i 0
+      → PastWide (from s i) (from s (charEnd s i)) × PastWide (from s (i + 1)) (from s (charEnd s i))
+  wide-past i h e =
       let n = next-on s i h in
-      back i (charEnd s i - (i + 1)) (i + 1) h (omega arith) (omega arith) ∙ sym (over i h e)
+      let a : PastWide (from s i) (from s (charEnd s i)) = rw (at-char s i h) (PastWide.passes (wide-code s i e) PastWide.stays) in
+      (a, tails-past i (charEnd s i - (i + 1)) (i + 1) h (omega arith) (omega arith))
 
 -- a class at the character there
 pub head-at : (p : ℕ → Bool) (s : List ℕ) (i : ℕ) → i < length s → headIs p (from s i) ≡ p (codeAt s i)

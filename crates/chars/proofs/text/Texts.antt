@@ -8,12 +8,9 @@ use native.Mathlib.Nat.{sub-self}
 use native.Mathlib.Omega.{arith}
 use Rattle.chars.specs.paper.Utf8.{width}
 use Rattle.chars.specs.paper.Text.{Char, Text, charsAt, from, place}
+use Rattle.chars.specs.promises.Texts.{Suffix, TextOf}
 
 -- ---- suffixes
-
-pub record Suffix (r s : Text) : Type 0 where
-  pub within : length r ≤ length s
-  pub tail : r ≡ drop (length s - length r) s
 
 pub suffix-refl : (s : Text) → Suffix s s
 suffix-refl s = record { within = omega arith; tail = rw sub-self }
@@ -71,10 +68,6 @@ chars-length i (suc k) (a ∷ t) = let h = chars-length (suc i) k t in omega ari
 chars-length i zero (a ∷ t) = let h = chars-length (suc i) (width (a ∷ t) - 1) t in omega arith
 
 -- ---- texts of the script
-
--- s is the script's text from some place on
-abbrev pub TextOf : List ℕ → Text → Type 0
-TextOf script s = (i : ℕ) × (from script i ≡ s)
 
 pub text-at : (script : List ℕ) (c : Char) (s : Text) → TextOf script (c ∷ s) → (from script (c .at) ≡ c ∷ s) × TextOf script s
 unfolding from

@@ -1,4 +1,4 @@
--- The promises of specs/Promises.antt hold.
+-- The promises of specs/promises hold.
 use Prim.Native.Nat.{ℕ, _+_, _≤_, _<_}
 use mathlib.Core.Path.{_≡_, refl, sym, _∙_, ap}
 use native.Mathlib.Omega.{arith}
@@ -10,15 +10,26 @@ use Rattle.chars.specs.paper.Ranges.{Range, Ascending}
 use Rattle.chars.specs.computed.Ascending.{ascendingFrom}
 use Rattle.chars.specs.paper.Utf8.{width, codeOf}
 use Rattle.chars.specs.code.Utf8.{decodeAt}
-use Rattle.chars.specs.code.Text.{charEnd}
-use Rattle.chars.specs.Promises.{tables, TablesAscend, Decoding, Reads}
+use Rattle.chars.specs.code.Text.{codeAt, charEnd}
+use Rattle.chars.specs.promises.Codes.{CodeLaws}
+use Rattle.chars.specs.promises.Utf8.{Decoding, ValidLaws}
+use Rattle.chars.specs.promises.Texts.{TextLaws}
+use Rattle.chars.specs.promises.Classes.{tables, ClassLaws}
+use Rattle.chars.specs.promises.Runs.{RunLaws}
 use Rattle.chars.specs.declared.utf8.Decoded.the-variants as decoded
 use Rattle.chars.proofs.utf8.Rows.{here, inside, row-00, none-low, none-high}
 use Rattle.chars.proofs.utf8.Codes.{code-one}
 use Rattle.chars.proofs.utf8.Widths.{width-most, width-within}
 use Rattle.chars.proofs.text.Steps.{Stands, char-stands}
-use Rattle.chars.proofs.text.Places.{codeAt, at-char, at-end, next-on, place-from, wide-code, wide-tail}
-use Rattle.chars.proofs.classes.Ranges.{ascending}
+use Rattle.chars.proofs.utf8.Valid as valids
+use Rattle.chars.proofs.text.Places as places
+use Rattle.chars.proofs.text.Texts as texts
+use Rattle.chars.proofs.Carry as carries
+use Rattle.chars.proofs.classes.Laws as classes
+use Rattle.chars.proofs.classes.Cyrillic as letters
+use Rattle.chars.proofs.classes.IdRuns as runs
+use Rattle.chars.proofs.runs.Laws as eights
+use Rattle.chars.proofs.classes.Ranges as ranges
 use Rattle.chars.proofs.theorems.Encodes.{encoding}
 
 abbrev allAscend : List (List Range) → Bool
@@ -29,12 +40,7 @@ all-ascending : (ts : List (List Range)) → allAscend ts ≡ true → (t : List
 all-ascending [] e t m = absurd (List·Memᴰ·not-nil m)
 all-ascending (u ∷ ts) e t m =
     let k = and-eq-true-iff (ascendingFrom 0 u) (allAscend ts) .0 e in
-    ⊎-elim (λ q. rw q (ascending u (k .0))) (λ r. all-ascending ts (k .1) t r) (List·Memᴰ·cases-cons m)
-
--- one computed test over the five
-pub tables-ascend : TablesAscend
-unfolding tables
-tables-ascend = record { ascend = all-ascending tables refl }
+    ⊎-elim (λ q. rw q (ranges.ascending u (k .0))) (λ r. all-ascending ts (k .1) t r) (List·Memᴰ·cases-cons m)
 
 -- ---- decoding
 
@@ -66,11 +72,14 @@ module _ (s : List ℕ) (i : ℕ) where
     tail = λ h l m. nothing (ap width (here s i h) ∙ sym (none-low (getD s i 0) (drop (i + 1) s) l m));
     high = λ h l. nothing (ap width (here s i h) ∙ sym (none-high (getD s i 0) (drop (i + 1) s) l));
     past = λ h. nothing (empty h);
-    wide = λ c w e l. let h = char-stands s i c w e in let k = wide-code s i l in let q : codeAt s i ≡ c = ap (λ v. codeOf v (drop i s)) (h .width-is) ∙ h .code-is in omega arith;
-    others = λ c w j e l m.
+    wide = λ c w e l. let h = char-stands s i c w e in let k = places.wide-code s i l in let q : codeAt s i ≡ c = ap (λ v. codeOf v (drop i s)) (h .width-is) ∙ h .code-is in omega arith;
+    tails = λ c w j e l m.
         let h = char-stands s i c w e in
         let n : charEnd s i ≡ i + w = next-is c w h in
-        wide-tail s i (ends c w e) j l (omega arith);
+        places.wide-tail s i (ends c w e) j l (omega arith);
+    in-text = λ c w e.
+        let h = char-stands s i c w e in
+        (ap (λ v. codeOf v (drop i s)) (h .width-is) ∙ h .code-is, next-end s i c w h);
     encodes = encoding;
   }
     where
@@ -80,12 +89,94 @@ module _ (s : List ℕ) (i : ℕ) where
       next-is : (c w : ℕ) → Stands s i c w → charEnd s i ≡ i + w
       next-is c w h = next-end s i c w h
 
-  pub reads : Reads s i
-  reads = record {
-    next = λ h. (at-char s i h, next-on s i h .0, next-on s i h .1);
-    none = at-end s i;
-    starts = place-from s i;
-    decoded-one = λ c w e.
-        let h = char-stands s i c w e in
-        (ap (λ v. codeOf v (drop i s)) (h .width-is) ∙ h .code-is, next-end s i c w h);
-  }
+-- ---- laws
+
+pub code-laws : CodeLaws
+code-laws = record {
+  carry = carries.carry;
+  carry-not = carries.carry-not;
+  no-member = carries.no-member;
+  each = carries.each;
+  agree = carries.agree;
+  mask-set = carries.mask-set;
+  hits = carries.hits;
+  misses = carries.misses;
+  between-in = ranges.between-in;
+  between-out = ranges.between-out;
+  in-between = ranges.in-between;
+  not-between = ranges.not-between;
+}
+
+pub valid-laws : ValidLaws
+valid-laws = record {
+  valid = valids.valid;
+  longest-one = valids.longest-one;
+  valid-all = valids.valid-all;
+  all-valid = valids.all-valid;
+}
+
+pub text-laws : TextLaws
+text-laws = record {
+  at-char = places.at-char;
+  next-on = places.next-on;
+  at-end = places.at-end;
+  place-from = places.place-from;
+  at-ascii = places.at-ascii;
+  ascii-code = places.ascii-code;
+  ascii-next = places.ascii-next;
+  wide-code = places.wide-code;
+  wide-tail = places.wide-tail;
+  wide-past = places.wide-past;
+  head-at = places.head-at;
+  head-byte = places.head-byte;
+  step-text = places.step-text;
+  step-none = places.step-none;
+  suffix-refl = texts.suffix-refl;
+  suffix-cons = texts.suffix-cons;
+  suffix-trans = texts.suffix-trans;
+  suffix-same = texts.suffix-same;
+  drop-suffix = texts.drop-suffix;
+  text-at = texts.text-at;
+  text-drop = texts.text-drop;
+  text-suffix = texts.text-suffix;
+  text-place = texts.text-place;
+  from-length = texts.from-length;
+  run-next = places.run-next;
+  run-stays = runs.run-stays;
+  run-place = runs.run-place;
+  run-done = runs.run-done;
+}
+
+-- the order of the tables: one computed test over the five
+pub class-laws : ClassLaws
+unfolding tables
+class-laws = record {
+  tables-ascend = all-ascending tables refl;
+  sign-is = classes.sign-is;
+  sign-not = classes.sign-not;
+  no-sign = classes.no-sign;
+  sign-no-under = classes.sign-no-under;
+  sign-no-semi = classes.sign-no-semi;
+  nul-no-sign = classes.nul-no-sign;
+  slash-sign = classes.slash-sign;
+  start-not = classes.start-not;
+  no-start = classes.no-start;
+  slash-no-start = classes.slash-no-start;
+  sign-no-start = classes.sign-no-start;
+  under-no-id = classes.under-no-id;
+  sign-no-id = classes.sign-no-id;
+  byte-sign = classes.byte-sign;
+  byte-start = classes.byte-start;
+  byte-id = classes.byte-id;
+  sign-byte = classes.sign-byte;
+  russian = letters.russian;
+  ascii-on = runs.ascii-on;
+  ascii-out = runs.ascii-out;
+  ascii-end = runs.ascii-end;
+  ascii-whole = runs.ascii-whole;
+}
+
+pub run-laws : RunLaws
+run-laws = record {
+  eight-all = eights.eight-all;
+}

@@ -13,9 +13,12 @@ use Rattle.chars.specs.paper.Text.{Text, headIs}
 unfoldable pub bitIn : ℕ → ℕ → ℕ → Bool
 bitIn low high c = cond (ltb c 0x40) (eqb (low / 2 ^ c % 2) 1) (ltb c 0x80 && eqb (high / 2 ^ (c - 0x40) % 2) 1)
 
--- does the text begin with an id character of ASCII?
+-- is the code an id character of ASCII? Does the text begin with one?
+abbrev pub isAsciiId : ℕ → Bool
+isAsciiId c = ltb c 0x80 && isIdChar c
+
 abbrev pub asciiIdChar : Text → Bool
-asciiIdChar t = headIs (λ c. ltb c 0x80 && isIdChar c) t
+asciiIdChar t = headIs isAsciiId t
 
 -- does a Russian letter, U+0410 to U+044F, stand at the place i?
 unfoldable pub cyrillicAt : List ℕ → ℕ → Bool

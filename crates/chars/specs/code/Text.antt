@@ -8,7 +8,11 @@ use Rattle.chars.specs.paper.Utf8.{width, codeOf}
 use Rattle.chars.specs.declared.text.Step.{Step}
 use Rattle.chars.specs.declared.text.Step.the-variants as step
 
--- where the character at i ends
+-- the code of the character at i
+abbrev pub codeAt : List ℕ → ℕ → ℕ
+codeAt s i = codeOf (width (drop i s)) (drop i s)
+
+-- where it ends
 unfoldable pub charEnd : List ℕ → ℕ → ℕ
 charEnd s i = suc i + (width (drop i s) - 1)
 

@@ -8,7 +8,7 @@ valid-prefix-requires : tie.Need-valid-prefix-requires
 valid-prefix-requires c κs = search needs
 
 returns : tie.Need-returns
-returns c = c .valid-prefix .ensures .0
+returns c = c .valid-prefix .ensures .0 .0
 
 pub chars-valid-prefix-spec : {M : Type 1} → statement M
 chars-valid-prefix-spec = tie.close (tie.spec valid-prefix-requires returns)

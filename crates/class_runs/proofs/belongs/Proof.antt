@@ -39,10 +39,10 @@ is-printable-char-requires : tie.Need-is-printable-char-requires
 is-printable-char-requires c κs = search needs
 
 returns : tie.Need-returns
-returns c = c .is-id-start .ensures ∙ first _ _ (c .before .match .keys1)
+returns c = c .is-id-start .ensures .0 ∙ first _ _ (c .before .match .keys1)
 
 returns-2 : tie.Need-returns-2
-returns-2 c = c .is-id-char .ensures .0 ∙ second _ _ (c .before .match .keys2)
+returns-2 c = c .is-id-char .ensures ∙ second _ _ (c .before .match .keys2)
 
 returns-3 : tie.Need-returns-3
 returns-3 c = c .is-op-char .ensures ∙ third _ _ (c .before .match .keys3)

@@ -9,7 +9,8 @@ use native.Mathlib.Omega.{arith}
 use borrow.Author.Tests.{ltb-true, ltb-false, leb-true, leb-false, eqb-true, eqb-false, eq-eqb, ne-eqb}
 use Rattle.chars.specs.computed.Valid.{validPrefix}
 use Rattle.chars.specs.paper.Text.{Text}
-use Rattle.chars.proofs.utf8.Valid.{valid, longest-one, valid-all, all-valid}
+use Rattle.chars.specs.promises.Utf8.{ValidLaws}
+use Rattle.chars.proofs.theorems.Promises.{valid-laws}
 use Rattle.token.specs.paper.Kinds.{Token}
 use Rattle.token.specs.paper.Reading.{Piece, Reading, Tokens, TokensOf}
 use Rattle.token.specs.paper.Refusals.{BadEscape, Met}
@@ -21,6 +22,8 @@ use Rattle.words.specs.Words.{blockOf}
 use Rattle.entry.specs.Theorems.{HostTheorems, Lends, Accepts}
 use Rattle.entry.proofs.host.Verdicts.{verdict-17, verdict-18, verdict-rest, room-granted, room-lacking, room-rejected}
 use Rattle.token.proofs.theorems.Theorems.{complete, refusal, need, answer-tokens, tokens-answer, theorems}
+
+open ValidLaws valid-laws using (valid, longest-one, valid-all, all-valid)
 
 -- ---- the order, computed
 

@@ -15,10 +15,10 @@ use Rattle.chars.specs.paper.Text.{Text, from, place, idChar}
 use Rattle.chars.specs.computed.Runs.{afterRun}
 use Rattle.chars.specs.code.Classes.{asciiIdChar}
 use Rattle.chars.proofs.Bools.{clash, and-both, or-neither}
-use Rattle.chars.proofs.Carry.{carry, carry-not}
-use Rattle.chars.proofs.classes.Laws.{start-not, sign-no-start, slash-no-start}
-use Rattle.chars.proofs.classes.IdRuns.{run-stays, ascii-whole}
-use Rattle.chars.proofs.text.Places.{ascii-next, place-from, run-next}
+use Rattle.chars.specs.promises.Codes.{CodeLaws}
+use Rattle.chars.specs.promises.Classes.{ClassLaws}
+use Rattle.chars.specs.promises.Texts.{TextLaws}
+use Rattle.chars.proofs.theorems.Promises.{code-laws, text-laws, class-laws}
 use Rattle.token.specs.paper.Tests.{isAny, begins, quote, freeSign, opensComment}
 use Rattle.token.specs.paper.Kinds.{Token, kindNumber, wordOf, runOf}
 use Rattle.token.specs.paper.Records.{values, headLength, recordLength, fieldsOf, headOf, recordOf}
@@ -42,6 +42,10 @@ use Rattle.token.proofs.ident.Laws.{left-to, run-left, ident-left, pass
 use Rattle.token.proofs.lexer.Laws.{sign-at, word-at, operator-at, ascii-head, ascii-start, next-token, next-lf}
 use Rattle.token.proofs.lexer.Seeks.{seek-blanks}
 use Rattle.token.proofs.lexer.Turns.{Turn, turn-token, turn-line}
+
+open CodeLaws code-laws using (carry, carry-not)
+open TextLaws text-laws using (run-stays, ascii-next, place-from, run-next)
+open ClassLaws class-laws using (start-not, sign-no-start, slash-no-start, ascii-whole)
 
 -- ---- bytes
 

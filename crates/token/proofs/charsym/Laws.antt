@@ -12,9 +12,9 @@ use Rattle.chars.specs.paper.Classes.{isIdStart, isOpSign, isPrintable}
 use Rattle.chars.specs.paper.Text.{Char, Text, from, place}
 use Rattle.chars.specs.computed.Runs.{afterRun}
 use Rattle.chars.proofs.Bools.{and-both}
-use Rattle.chars.proofs.classes.Laws.{sign-no-semi}
-use Rattle.chars.proofs.text.Texts.{TextOf, text-drop, text-place}
-use Rattle.chars.proofs.text.Places.{at-end, place-from}
+use Rattle.chars.specs.promises.Texts.{TextLaws, TextOf}
+use Rattle.chars.specs.promises.Classes.{ClassLaws}
+use Rattle.chars.proofs.theorems.Promises.{text-laws, class-laws}
 use Rattle.token.specs.paper.Tests.{begins, backslash, apostrophe, opSign, freeSign, opensComment, plainChar}
 use Rattle.token.specs.computed.Answer.{Found, Esc, unbroken, broken, afterSlash, afterIdent, tickNext, escapedOf, scanCharSym}
 use Rattle.token.specs.code.Cursor.{cursorAt}
@@ -28,6 +28,9 @@ use Rattle.token.specs.declared.piece.Ended.the-variants as ended
 use Rattle.token.proofs.Base.{zero-one}
 use Rattle.token.proofs.cursor.Bytes.{any-byte, inside, past}
 use Rattle.token.proofs.cursor.Laws.{Here}
+
+open TextLaws text-laws using (text-drop, text-place, at-end, place-from)
+open ClassLaws class-laws using (sign-no-semi)
 
 -- ---- pieces
 

@@ -10,11 +10,15 @@ use lib.ListN.{length, getD}
 use Rattle.chars.specs.paper.Quoted.{between, oneOf}
 use Rattle.chars.specs.paper.Classes.{isOpSign}
 use Rattle.chars.proofs.Bools.{and-both}
-use Rattle.chars.proofs.Carry.{alike, agree}
-use Rattle.chars.proofs.classes.Laws.{signs, lowId, lowStart, byte-sign, byte-id, byte-start}
+use Rattle.chars.specs.promises.Codes.{CodeLaws, alike}
+use Rattle.chars.specs.promises.Classes.{ClassLaws, signs, lowId, lowStart}
+use Rattle.chars.proofs.theorems.Promises.{code-laws, class-laws}
 use Rattle.token.specs.paper.Tests.{isDigit, isHexDigit, digitValue}
 use Rattle.token.specs.code.ClassTable.{ByteClasses}
 use Rattle.token.specs.code.Digits.{digitIn, digitOf}
+
+open CodeLaws code-laws using (agree)
+open ClassLaws class-laws using (byte-sign, byte-id, byte-start)
 
 -- ---- two tests that agree at each entry x and its code b, from the code a on
 

@@ -11,12 +11,15 @@ use Rattle.chars.specs.paper.Quoted.{codes, oneOf}
 use Rattle.chars.specs.paper.Text.{Text, from}
 use Rattle.chars.specs.computed.Runs.{afterRun}
 use Rattle.chars.specs.code.Runs.{AllIn, Within}
-use Rattle.chars.proofs.Carry.{carry}
-use Rattle.chars.proofs.text.Places.{at-ascii}
-use Rattle.chars.proofs.classes.IdRuns.{run-stays}
+use Rattle.chars.specs.promises.Codes.{CodeLaws}
+use Rattle.chars.specs.promises.Texts.{TextLaws}
+use Rattle.chars.proofs.theorems.Promises.{code-laws, text-laws}
 use Rattle.token.specs.paper.Tests.{isAny}
 use Rattle.token.proofs.cursor.Bytes.{any-byte, inside}
 use Rattle.token.proofs.cursor.Laws.{run-past, run-none, all-past}
+
+open CodeLaws code-laws using (carry)
+open TextLaws text-laws using (at-ascii, run-stays)
 
 module _ (s : List ℕ) (i : ℕ) (f : Text) where
   pub blank-on : i < length s → oneOf " \t" (getD s i 0) ≡ true → afterRun (isAny " \t") (from s i) ≡ f → afterRun (isAny " \t") (from s (i + 1)) ≡ f

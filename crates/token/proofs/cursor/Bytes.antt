@@ -10,18 +10,21 @@ use native.Mathlib.Omega.{arith}
 use borrow.Author.Tests.{leb-true, ltb-true, ltb-false, ne-eqb}
 use Rattle.chars.specs.paper.Quoted.{codes, member, oneOf}
 use Rattle.chars.specs.paper.Text.{from}
-use Rattle.chars.specs.code.Text.{charEnd}
+use Rattle.chars.specs.code.Text.{charEnd, codeAt}
 use Rattle.chars.proofs.Bools.{and-both}
-use Rattle.chars.proofs.Carry.{every}
-use Rattle.chars.proofs.text.Places.{Ascii, head-byte, at-ascii, at-end, at-char, wide-code, codeAt}
+use Rattle.chars.specs.promises.Codes.{every}
+use Rattle.chars.specs.promises.Texts.{TextLaws, Ascii}
+use Rattle.chars.proofs.theorems.Promises.{text-laws}
 use Rattle.token.specs.paper.Tests.{isAny, startsWith}
+
+open TextLaws text-laws using (head-byte, at-ascii, at-end, at-char, wide-code)
 
 -- a list of ASCII codes but NUL: one computed test
 abbrev pub plain : List ℕ → Bool
 plain l = every (λ x. leb 1 x && ltb x 0x80) l
 
 pub ascii-list : (l : List ℕ) → plain l ≡ true → Ascii (member l)
-ascii-list l h = record { none = go l h; wide = λ c w. far l c h w }
+ascii-list l h = record { nul = go l h; wide = λ c w. far l c h w }
   where
     go : (l : List ℕ) → plain l ≡ true → member l 0 ≡ false
     go [] h = refl

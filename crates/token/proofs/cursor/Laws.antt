@@ -8,15 +8,18 @@ use lib.Dec.{ltb}
 use native.Mathlib.Omega.{arith}
 use borrow.Author.Tests.{ltb-true, ltb-false}
 use Rattle.chars.specs.paper.Text.{Char, Text, from, place}
-use Rattle.chars.specs.code.Text.{charEnd, stepAt}
+use Rattle.chars.specs.code.Text.{charEnd, stepAt, codeAt}
 use Rattle.chars.specs.computed.Runs.{afterRun}
 use Rattle.chars.specs.code.Runs.{Each}
 use Rattle.chars.specs.declared.text.Step.the-variants as step
-use Rattle.chars.proofs.text.Places.{at-char, at-end, place-from, next-on, step-text, step-none, codeAt}
+use Rattle.chars.specs.promises.Texts.{TextLaws}
+use Rattle.chars.proofs.theorems.Promises.{text-laws}
 use Rattle.token.specs.code.Cursor.{cursorAt, peekedOf, peekAt}
 use Rattle.token.specs.declared.cursor.Cursor.{Cursor}
 use Rattle.token.specs.declared.cursor.Peeked.the-variants as peeked
 use Rattle.token.proofs.Base.{zero-one}
+
+open TextLaws text-laws using (at-char, at-end, place-from, next-on, step-text, step-none)
 
 -- the character at i, as the code has it
 pub record Here (s : List ℕ) (i code next : ℕ) : Type 0 where

@@ -13,8 +13,9 @@ use Rattle.chars.specs.paper.Quoted.{between, codes, oneOf}
 use Rattle.chars.specs.paper.Text.{Text, from, place, headIs}
 use Rattle.chars.specs.computed.Runs.{afterRun}
 use Rattle.chars.proofs.Bools.{clash, and-both}
-use Rattle.chars.proofs.classes.Ranges.{between-in, between-out, in-between, not-between}
-use Rattle.chars.proofs.text.Places.{Ascii, head-byte, at-ascii, at-end, place-from}
+use Rattle.chars.specs.promises.Texts.{TextLaws, Ascii}
+use Rattle.chars.specs.promises.Codes.{CodeLaws}
+use Rattle.chars.proofs.theorems.Promises.{code-laws, text-laws}
 use Rattle.token.specs.paper.Tests.{isDigit, isHexDigit, digitValue, begins, hexDigit, hexAhead, longSuffix}
 use Rattle.token.specs.computed.Answer.{Found, read, readDigits, numberOf, scanNumber}
 use Rattle.token.specs.code.Cursor.{cursorAt}
@@ -26,6 +27,9 @@ use Rattle.token.specs.declared.digits.Value.the-variants as value
 use Rattle.token.proofs.Base.{zero-one}
 use Rattle.token.proofs.cursor.Bytes.{any-byte, ascii-list, inside, past, two-bytes}
 use Rattle.token.proofs.theorems.Numbers.{valueAfter, digitsOf, read-is}
+
+open CodeLaws code-laws using (between-in, between-out, in-between, not-between)
+open TextLaws text-laws using (head-byte, at-ascii, at-end, place-from)
 
 -- ---- the digits of a base
 
@@ -64,7 +68,7 @@ module _ (base b : ℕ) where
 
 pub digits-ascii : (base : ℕ) → Ascii (digitIn base)
 digits-ascii base = record {
-  none = no-digit base 0 (λ l. omega arith) (λ l. omega arith) (λ l. omega arith);
+  nul = no-digit base 0 (λ l. omega arith) (λ l. omega arith) (λ l. omega arith);
   wide = λ c w. no-digit base c (λ l. omega arith) (λ l. omega arith) (λ l. omega arith);
 }
 
@@ -162,7 +166,7 @@ module _ (p : ℕ → Bool) where
 -- a class of ASCII characters, at a place of a script
 module _ (p : ℕ → Bool) (a : Ascii p) where
   low : (b : ℕ) → p b ≡ true → (1 ≤ b) × (b < 0x80)
-  low zero e = clash (sym (a .none) ∙ e)
+  low zero e = clash (sym (a .nul) ∙ e)
   low (suc b) e = (omega arith, go (ltb (suc b) 0x80) refl)
     where
       go : (t : Bool) → ltb (suc b) 0x80 ≡ t → suc b < 0x80

@@ -12,7 +12,9 @@ use Rattle.chars.specs.paper.Text.{Char, Text, from}
 use Rattle.chars.specs.computed.Runs.{afterRun}
 use Rattle.chars.specs.code.Runs.{AllIn, Within, NeitherOf, Neither}
 use Rattle.chars.proofs.Bools.{and-both}
-use Rattle.chars.proofs.text.Places.{at-char, at-ascii, at-end, place-from, byte-by-byte}
+use Rattle.chars.specs.promises.Texts.{TextLaws}
+use Rattle.chars.proofs.theorems.Promises.{text-laws}
+use Rattle.token.proofs.cursor.Wide.{byte-by-byte}
 use Rattle.token.specs.paper.Tests.{startsWith, begins, endsLine, endOfLine, opensLine, opensBlock, closesBlock}
 use Rattle.token.specs.computed.Answer.{close}
 use Rattle.token.specs.code.Cursor.{cursorAt}
@@ -20,6 +22,8 @@ use Rattle.token.specs.code.Gap.{closedOf, opensAt, fourOpen}
 use Rattle.token.specs.declared.gap.Closed.the-variants as closed
 use Rattle.token.proofs.cursor.Bytes.{two-bytes, one-byte, inside}
 use Rattle.token.proofs.cursor.Laws.{run-past, run-here, run-none, all-past}
+
+open TextLaws text-laws using (at-char, at-ascii, at-end, place-from)
 
 -- ---- two ASCII characters at a place
 

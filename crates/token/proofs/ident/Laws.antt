@@ -15,10 +15,10 @@ use Rattle.chars.specs.computed.Runs.{afterRun}
 use Rattle.chars.specs.code.Runs.{AllIn, Within}
 use Rattle.chars.specs.paper.Classes.{isIdStart, isIdChar}
 use Rattle.chars.proofs.Bools.{clash}
-use Rattle.chars.proofs.classes.Laws.{under-no-id}
-use Rattle.chars.proofs.classes.IdRuns.{run-stays, run-done, run-place}
-use Rattle.chars.proofs.text.Texts.{Suffix, suffix-trans, drop-suffix}
-use Rattle.chars.proofs.text.Places.{at-char, at-ascii, at-end, next-on, place-from, byte-by-byte}
+use Rattle.chars.specs.promises.Texts.{TextLaws, Suffix}
+use Rattle.chars.specs.promises.Classes.{ClassLaws}
+use Rattle.chars.proofs.theorems.Promises.{text-laws, class-laws}
+use Rattle.token.proofs.cursor.Wide.{byte-by-byte}
 use Rattle.token.specs.paper.Tests.{isAny, begins, quote, opSign, freeSign, opensComment, notBacktick}
 use Rattle.token.specs.paper.Kinds.{wordOf, runOf}
 use Rattle.token.specs.computed.Answer.{Found, afterIdent, orPrefixed, prefixedOf, closeString, codesTo, wordOr, scanIdent, runOr, scanOperator, backtickOr, scanBacktick}
@@ -34,6 +34,9 @@ use Rattle.token.proofs.cursor.Bytes.{any-byte, inside, one-byte}
 use Rattle.token.proofs.theorems.Runs.{after-next, after-stop, run-after, run-suffix}
 use Rattle.token.proofs.cursor.Laws.{all-past}
 use Rattle.token.proofs.theorems.Idents.{ident-finds, start-rest, rest-suffix}
+
+open TextLaws text-laws using (run-stays, run-done, run-place, suffix-trans, drop-suffix, at-char, at-ascii, at-end, next-on, place-from)
+open ClassLaws class-laws using (under-no-id)
 
 -- ---- places
 
@@ -193,7 +196,7 @@ module _ (s : List ℕ) (i : ℕ) where
   pub pass-all : (j : ℕ) → i ≤ length s → j ≡ place (length s) (afterRun idChar (from s i)) → (getD s j 0 ≡ 0x5F → ⊥)
       → from s j ≡ afterIdent false (from s i)
   pass-all j h e n =
-      let f = ap idChar (run-place idChar s i j h e .2) ∙ run-done idChar s refl (from s i) in
+      let f = ap idChar (run-place idChar s i j h e .2) ∙ run-done idChar refl (from s i) in
       sym (rest-none false (from s j) f (any-byte "_" refl s j ∙ rw (ne-eqb (getD s j 0) 0x5F n))) ∙ pass-run j h e .1
 
 -- past an underscore and those that follow it up to r

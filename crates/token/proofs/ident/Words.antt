@@ -10,10 +10,10 @@ use native.Mathlib.Omega.{arith}
 use borrow.Author.Tests.{ltb-true, ltb-false, eqb-true, eqb-false, eq-eqb, ne-eqb}
 use Rattle.chars.specs.paper.Quoted.{codes, member}
 use Rattle.chars.specs.paper.Text.{Char, Text, from, place}
-use Rattle.chars.specs.code.Text.{charEnd}
+use Rattle.chars.specs.code.Text.{charEnd, codeAt}
 use Rattle.chars.proofs.Bools.{clash, and-both, or-neither}
-use Rattle.chars.proofs.text.Texts.{Suffix, suffix-refl, suffix-same}
-use Rattle.chars.proofs.text.Places.{at-char, place-from, ascii-code, ascii-next, wide-code, codeAt}
+use Rattle.chars.specs.promises.Texts.{TextLaws, Suffix}
+use Rattle.chars.proofs.theorems.Promises.{text-laws}
 use Rattle.token.specs.paper.Tests.{same}
 use Rattle.token.specs.paper.Kinds.{Word, word, keyword, wordOf, runOf, wordKeywords, symbolKeywords}
 use Rattle.token.specs.computed.Answer.{codesTo}
@@ -24,6 +24,8 @@ use Rattle.token.specs.declared.ident.Keyword.the-variants as key
 use Rattle.token.proofs.Base.{zero-one}
 use Rattle.token.proofs.cursor.Bytes.{plain}
 use Rattle.token.proofs.theorems.Runs as runs
+
+open TextLaws text-laws using (suffix-refl, suffix-same, at-char, place-from, ascii-code, ascii-next, wide-code)
 
 -- ---- codes between two places
 

@@ -14,9 +14,9 @@ use Rattle.chars.specs.paper.Text.{Char, Text, from, place, headIs}
 use Rattle.chars.specs.code.Text.{charEnd}
 use Rattle.chars.specs.computed.Runs.{afterRun}
 use Rattle.chars.proofs.Bools.{clash, and-both}
-use Rattle.chars.proofs.Carry.{every, carry, no-member}
-use Rattle.chars.proofs.classes.Ranges.{between-in, between-out}
-use Rattle.chars.proofs.text.Places.{Ascii, head-byte, at-char, at-end, at-ascii, place-from, next-on}
+use Rattle.chars.specs.promises.Codes.{CodeLaws, every}
+use Rattle.chars.specs.promises.Texts.{TextLaws, Ascii}
+use Rattle.chars.proofs.theorems.Promises.{code-laws, text-laws}
 use Rattle.token.specs.paper.Tests.{isAny, begins, digit, isDigit, quote, apostrophe, opSign, opensLine, opensBlock, opensComment, isHexDigit, hexAhead, longSuffix, notBacktick, freeSign, backslash, plainChar, endOfLine}
 use Rattle.token.specs.code.Lexer.{wordless, seek, nextOf, passedOf}
 use Rattle.token.specs.computed.Flags.{GapKind, push, cutOf}
@@ -43,11 +43,14 @@ use Rattle.token.proofs.cursor.Bytes.{any-byte}
 use Rattle.token.proofs.lexer.Seeks.{gap-strict, seek-line, seek-block, seek-end, seek-token, seek-stuck, left-at}
 use Rattle.token.proofs.theorems.Shorter.{Strict}
 
+open CodeLaws code-laws using (carry, no-member, between-in, between-out)
+open TextLaws text-laws using (head-byte, at-char, at-end, at-ascii, place-from, next-on)
+
 -- ---- digits
 
 pub ascii-digit : Ascii isDigit
 unfolding isDigit
-ascii-digit = record { none = refl; wide = λ c h. rw (lt-leb c 0x39 (omega arith)) (last (leb 0x30 c)) }
+ascii-digit = record { nul = refl; wide = λ c h. rw (lt-leb c 0x39 (omega arith)) (last (leb 0x30 c)) }
   where
     last : (b : Bool) → b && false ≡ false
     last true = refl

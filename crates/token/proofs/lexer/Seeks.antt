@@ -8,8 +8,8 @@ use native.Mathlib.Omega.{arith}
 use Rattle.chars.specs.paper.Quoted.{oneOf}
 use Rattle.chars.specs.paper.Text.{Char, Text, from, place}
 use Rattle.chars.specs.computed.Runs.{afterRun}
-use Rattle.chars.proofs.text.Texts.{Suffix, text-suffix, text-place}
-use Rattle.chars.proofs.text.Places.{at-end}
+use Rattle.chars.specs.promises.Texts.{TextLaws, Suffix}
+use Rattle.chars.proofs.theorems.Promises.{text-laws}
 use Rattle.token.specs.paper.Tests.{isAny}
 use Rattle.token.specs.computed.Flags.{GapKind, push, cutOf}
 use Rattle.token.specs.computed.Answer.{Found, Start, scan}
@@ -20,6 +20,8 @@ use Rattle.token.specs.declared.kinds.TokenKind.{TokenKind}
 use Rattle.token.proofs.Base.{zero-one}
 use Rattle.token.proofs.theorems.Dispatch.{Hit, Scanned, scan-stands, scan-by, starts-blank, clear-head}
 use Rattle.token.proofs.theorems.Shorter.{Strict, stands-strict}
+
+open TextLaws text-laws using (text-suffix, text-place, at-end)
 
 -- ---- what is found leaves less of the text
 

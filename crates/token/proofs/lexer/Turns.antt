@@ -8,8 +8,8 @@ use lib.Dec.{ltb}
 use native.Mathlib.Omega.{arith}
 use borrow.Author.Tests.{ltb-true, ltb-false}
 use Rattle.chars.specs.paper.Text.{Char, Text, from, place}
-use Rattle.chars.proofs.text.Texts.{Suffix, suffix-refl, suffix-trans}
-use Rattle.chars.proofs.text.Places.{at-end}
+use Rattle.chars.specs.promises.Texts.{TextLaws, Suffix}
+use Rattle.chars.proofs.theorems.Promises.{text-laws}
 use Rattle.token.specs.paper.Kinds.{Token}
 use Rattle.token.specs.computed.Flags.{GapKind, fresh, push}
 use Rattle.token.specs.computed.Answer.{Found, scan, accepted, refused, prepend, walk}
@@ -25,6 +25,8 @@ use Rattle.token.proofs.theorems.Shorter.{Strict}
 use Rattle.token.proofs.theorems.Walks.{walk-gap, walk-token, walk-stuck, walk-end}
 use Rattle.token.proofs.lexer.Seeks.{gap-strict, token-strict, seek-blank, seek-line, seek-block, seek-end, seek-token, seek-stuck, left-at}
 use Rattle.token.proofs.lexer.Laws.{later-place}
+
+open TextLaws text-laws using (suffix-refl, suffix-trans, at-end)
 
 -- ---- on texts
 

@@ -11,9 +11,10 @@ use native.Mathlib.Omega.{arith}
 use borrow.Author.Tests.{ltb-true, ltb-false, le-leb, lt-leb}
 use Rattle.chars.specs.paper.Quoted.{oneOf}
 use Rattle.chars.specs.paper.Text.{Char, Text, from, place, headIs}
-use Rattle.chars.specs.code.Text.{charEnd}
+use Rattle.chars.specs.code.Text.{charEnd, codeAt}
 use Rattle.chars.proofs.Bools.{clash}
-use Rattle.chars.proofs.text.Places.{Ascii, head-byte, at-ascii, at-end, at-char, place-from, codeAt}
+use Rattle.chars.specs.promises.Texts.{TextLaws, Ascii}
+use Rattle.chars.proofs.theorems.Promises.{text-laws}
 use Rattle.token.specs.paper.Tests.{isDigit, isHexDigit, isAny, digit}
 use Rattle.token.specs.computed.Answer.{unbroken, broken, exactHexes, digitsUpTo, afterSlash}
 use Rattle.token.specs.code.Cursor.{cursorAt}
@@ -24,17 +25,19 @@ use Rattle.token.specs.declared.piece.Ended.the-variants as ended
 use Rattle.token.proofs.cursor.Bytes.{inside, any-byte, past}
 use Rattle.token.proofs.theorems.Escapes.{digit-no-simple, u-other}
 
+open TextLaws text-laws using (head-byte, at-ascii, at-end, at-char, place-from)
+
 -- ---- digits at a place
 
 digit-ascii : Ascii isDigit
 unfolding isDigit
-digit-ascii = record { none = refl; wide = λ c h. rw (le-leb 0x30 c (omega arith), lt-leb c 0x39 (omega arith)) }
+digit-ascii = record { nul = refl; wide = λ c h. rw (le-leb 0x30 c (omega arith), lt-leb c 0x39 (omega arith)) }
 
 hex-ascii : Ascii isHexDigit
 unfolding isHexDigit isDigit
 hex-ascii =
     record {
-      none = refl;
+      nul = refl;
       wide = λ c h. rw (le-leb 0x30 c (omega arith), lt-leb c 0x39 (omega arith), le-leb 0x41 c (omega arith), lt-leb c 0x46 (omega arith), le-leb 0x61 c (omega arith), lt-leb c 0x66 (omega arith));
     }
 
@@ -44,7 +47,7 @@ module _ (p : ℕ → Bool) (a : Ascii p) where
     where
       low : (l : Bool) → ltb 0 b ≡ l → 1 ≤ b
       low true q = ltb-true 0 b q
-      low false q = let z : 0 ≡ b = omega (arith, ltb-false 0 b q) in clash (sym (a .none) ∙ ap p z ∙ e)
+      low false q = let z : 0 ≡ b = omega (arith, ltb-false 0 b q) in clash (sym (a .nul) ∙ ap p z ∙ e)
 
       high : (l : Bool) → ltb b 0x80 ≡ l → b < 0x80
       high true q = ltb-true b 0x80 q

@@ -10,12 +10,13 @@ use native.Mathlib.Omega.{arith}
 use borrow.Author.Tests.{ltb-true, ltb-false, ne-eqb, eq-eqb, eqb-true}
 use Rattle.chars.specs.paper.Quoted.{oneOf}
 use Rattle.chars.specs.paper.Text.{Char, Text, from, place, headIs}
-use Rattle.chars.specs.code.Text.{charEnd}
+use Rattle.chars.specs.code.Text.{charEnd, codeAt}
 use Rattle.chars.specs.computed.Runs.{afterRun}
 use Rattle.chars.specs.code.Runs.{Within, AllIn, Other, NoneOf}
 use Rattle.chars.proofs.Bools.{clash, and-both, or-neither, not-true}
-use Rattle.chars.proofs.text.Texts.{Suffix}
-use Rattle.chars.proofs.text.Places.{at-ascii, at-end, at-char, place-from, next-on, wide-code, codeAt, byte-by-byte}
+use Rattle.chars.specs.promises.Texts.{TextLaws, Suffix}
+use Rattle.chars.proofs.theorems.Promises.{text-laws}
+use Rattle.token.proofs.cursor.Wide.{byte-by-byte}
 use Rattle.token.specs.paper.Tests.{isAny, begins, quote, threeQuotes, backslash, dollarBrace, opensComment}
 use Rattle.token.specs.paper.Kinds.{Kind, TokenType, isComment}
 use Rattle.token.specs.paper.Shapes.{singleChar, Single, tripleChar, Stands, HasShape, TokenShape}
@@ -36,6 +37,8 @@ use Rattle.token.proofs.cursor.Laws.{all-past}
 use Rattle.token.proofs.theorems.Escapes.{slash-finds, Good, Bad}
 use Rattle.token.proofs.theorems.Shorter.{Strict, stands-strict}
 use Rattle.token.proofs.theorems.Strings as strings
+
+open TextLaws text-laws using (at-ascii, at-end, at-char, place-from, next-on, wide-code)
 
 -- ---- places
 

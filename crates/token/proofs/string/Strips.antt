@@ -12,19 +12,22 @@ use borrow.Author.Tests.{eqb-true, eqb-false, ne-eqb, eq-eqb, le-leb, leb-true, 
 use Rattle.chars.specs.paper.Text.{Char, Text, from, place}
 use Rattle.chars.specs.code.Text.{charEnd}
 use Rattle.chars.proofs.Bools.{and-both}
-use Rattle.chars.proofs.text.Texts.{TextOf, text-at, text-drop}
-use Rattle.chars.proofs.text.Places.{at-char, at-end, next-on, place-from, ascii-next, wide-tail}
 use Rattle.token.specs.paper.Tests.{begins, quote}
 use Rattle.token.specs.paper.Shapes.{textOf}
 use Rattle.token.specs.computed.Answer.{closed, closeString, strip, plainContent}
 use Rattle.token.specs.code.String.{lastOff, eightsOff, SameContent}
 use Rattle.token.specs.code.Ident.{LeftOf}
 use Rattle.chars.specs.code.Runs.{eightIn}
-use Rattle.chars.proofs.runs.Laws.{eight-all}
+use Rattle.chars.specs.promises.Texts.{TextLaws, TextOf}
+use Rattle.chars.specs.promises.Runs.{RunLaws}
+use Rattle.chars.proofs.theorems.Promises.{text-laws, run-laws}
 use Rattle.token.specs.declared.kinds.TokenKind.the-variants as tk
 use Rattle.token.proofs.cursor.Bytes.{past}
 use Rattle.token.proofs.string.Escapes.{same-place}
 use Rattle.token.proofs.string.Laws.{quote-byte, plain-strict}
+
+open TextLaws text-laws using (text-at, text-drop, at-char, at-end, next-on, place-from, ascii-next, wide-tail)
+open RunLaws run-laws using (eight-all)
 
 -- ---- one turn of the definition
 

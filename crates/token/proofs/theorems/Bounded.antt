@@ -11,7 +11,8 @@ use lib.ListN.{length, take-append-drop}
 use native.Mathlib.Omega.{arith}
 use Rattle.chars.specs.paper.Utf8.{width}
 use Rattle.chars.specs.paper.Text.{Text, charsAt, from, place}
-use Rattle.chars.proofs.text.Texts.{Suffix, suffix-refl, suffix-trans, TextOf, text-suffix, text-place}
+use Rattle.chars.specs.promises.Texts.{TextLaws, Suffix, TextOf}
+use Rattle.chars.proofs.theorems.Promises.{text-laws}
 use Rattle.words.specs.Words.{le4, le8}
 use Rattle.token.specs.paper.Kinds.{Kind, TokenType, withoutValues, kwNumber, kindNumber, Token}
 use Rattle.token.specs.paper.Shapes.{both, textOf, limit, TokenShape, HasShape, Stands}
@@ -29,6 +30,8 @@ use Rattle.token.proofs.theorems.Runs.{run-suffix}
 use Rattle.token.proofs.theorems.Numbers.{one-value}
 use Rattle.token.proofs.theorems.Shorter.{one-strict, times-suffix, escape-suffix, prefix-strict, stands-strict}
 use Rattle.token.proofs.theorems.Mets.{within-suffix}
+
+open TextLaws text-laws using (suffix-refl, suffix-trans, text-suffix, text-place)
 
 -- ---- places
 

@@ -13,9 +13,10 @@ use borrow.Author.Tests.{eqb-true, leb-true}
 use Rattle.chars.specs.paper.Quoted.{codes, oneOf}
 use Rattle.chars.specs.paper.Classes.{isIdStart, isOpSign}
 use Rattle.chars.specs.paper.Text.{Char, Text, headIs}
-use Rattle.chars.proofs.classes.Laws.{signs, sign-is, sign-not, start-not, sign-no-start}
 use Rattle.chars.proofs.Bools.{clash, and-both, not-true}
-use Rattle.chars.proofs.Carry.{every, carry}
+use Rattle.chars.specs.promises.Classes.{ClassLaws, signs}
+use Rattle.chars.specs.promises.Codes.{CodeLaws, every}
+use Rattle.chars.proofs.theorems.Promises.{code-laws, class-laws}
 use Rattle.token.specs.paper.Tests.{isDigit, isAny, begins, startsWith, opensLine, opensBlock, opensComment, endsLine, quote, digit, opSign, freeSign, apostrophe}
 use Rattle.token.specs.paper.Kinds.{Kind, TokenType, withoutValues}
 use Rattle.token.specs.paper.Shapes.{One, both, Block, TokenShape, HasShape, Stands}
@@ -33,6 +34,9 @@ use Rattle.token.proofs.theorems.Prefixed.{word-stands, backtick-stands
 use Rattle.token.proofs.theorems.Contents.{content-is}
 use Rattle.token.proofs.theorems.Gaps.{two-codes, line-stands, block-stands}
 use Rattle.token.proofs.theorems.Heads.{no-start-met}
+
+open CodeLaws code-laws using (carry)
+open ClassLaws class-laws using (sign-is, sign-not, start-not, sign-no-start)
 
 -- no comment opens
 pub record Clear (s : Text) : Type 0 where

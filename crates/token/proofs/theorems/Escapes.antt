@@ -9,11 +9,14 @@ use native.Mathlib.Omega.{arith}
 use Rattle.chars.specs.paper.Quoted.{codes, oneOf}
 use Rattle.chars.specs.paper.Text.{Char, Text}
 use Rattle.chars.proofs.Bools.{clash, not-true}
-use Rattle.chars.proofs.Carry.{carry}
+use Rattle.chars.specs.promises.Codes.{CodeLaws}
+use Rattle.chars.proofs.theorems.Promises.{code-laws}
 use Rattle.token.specs.paper.Tests.{isDigit, isHexDigit, begins, backslash, digit, hexDigit}
 use Rattle.token.specs.paper.Shapes.{One, Times, UpTo, both, Escape}
 use Rattle.token.specs.paper.Refusals.{BadEscape}
 use Rattle.token.specs.computed.Answer.{unbroken, broken, exactHexes, digitsUpTo, afterSlash}
+
+open CodeLaws code-laws using (carry)
 
 -- n hex digits
 hexes-found : (n k : ℕ) {s r : Text} → Times hexDigit n s r → (exactHexes n k s ≡ unbroken (k + n)) × (r ≡ drop n s)

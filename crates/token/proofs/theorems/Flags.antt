@@ -11,7 +11,8 @@ use Rattle.chars.specs.paper.Text.{Text, from}
 use Rattle.chars.specs.computed.Runs.{afterRun}
 use Rattle.chars.specs.paper.Quoted.{oneOf}
 use Rattle.chars.proofs.Bools.{clash}
-use Rattle.chars.proofs.text.Texts.{suffix-same}
+use Rattle.chars.specs.promises.Texts.{TextLaws}
+use Rattle.chars.proofs.theorems.Promises.{text-laws}
 use Rattle.token.specs.paper.Tests.{isAny, begins, endsLine}
 use Rattle.token.specs.paper.Kinds.{Kind, isComment, isLineEnd}
 use Rattle.token.specs.paper.Shapes.{One, both, LineEnd, HasShape, Stands}
@@ -23,6 +24,8 @@ use Rattle.token.proofs.Base.{zero-one}
 use Rattle.token.proofs.theorems.Runs.{after-next, after-stop, run-after, run-suffix, after-least}
 use Rattle.token.proofs.theorems.Dispatch.{apart, clear-head, scan-by, starts-blank, starts-lf, starts-cr}
 use Rattle.token.proofs.theorems.Complete.{code-is}
+
+open TextLaws text-laws using (suffix-same)
 
 -- ---- lists that end in p
 

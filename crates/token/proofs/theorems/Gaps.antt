@@ -12,8 +12,9 @@ use borrow.Author.Tests.{eqb-true}
 use Rattle.chars.specs.paper.Quoted.{codes}
 use Rattle.chars.specs.paper.Text.{Char, Text}
 use Rattle.chars.specs.computed.Runs.{afterRun}
-use Rattle.chars.proofs.classes.IdRuns.{run-stays}
 use Rattle.chars.proofs.Bools.{clash, and-both}
+use Rattle.chars.specs.promises.Texts.{TextLaws}
+use Rattle.chars.proofs.theorems.Promises.{text-laws}
 use Rattle.token.specs.paper.Tests.{isAny, begins, startsWith, opensLine, opensBlock, closesBlock, endOfLine}
 use Rattle.token.specs.paper.Shapes.{Shape, One, Run, Times, _then_, both, LineComment, Block, Item, Items}
 use Rattle.token.specs.computed.Flags.{GapKind}
@@ -21,6 +22,8 @@ use Rattle.token.specs.computed.Answer.{Found, scanLine, close, blockOr,
 use Rattle.token.proofs.Base.{no-some}
 use Rattle.token.proofs.theorems.Runs.{after-next, run-after}
 use Rattle.token.proofs.theorems.Prefixed.{after-fails}
+
+open TextLaws text-laws using (run-stays)
 
 -- ---- runs that stop
 

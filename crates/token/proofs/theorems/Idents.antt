@@ -12,8 +12,9 @@ use Rattle.chars.specs.paper.Text.{Char, Text, headIs, idChar}
 use Rattle.chars.specs.computed.Runs.{afterRun}
 use Rattle.chars.specs.paper.Classes.{isIdStart, isIdChar}
 use Rattle.chars.proofs.Bools.{clash}
-use Rattle.chars.proofs.text.Texts.{Suffix, suffix-refl, suffix-trans, suffix-same}
-use Rattle.chars.proofs.classes.Laws.{under-no-id, sign-no-id, sign-no-under}
+use Rattle.chars.specs.promises.Texts.{TextLaws, Suffix}
+use Rattle.chars.specs.promises.Classes.{ClassLaws}
+use Rattle.chars.proofs.theorems.Promises.{text-laws, class-laws}
 use Rattle.token.specs.paper.Tests.{isAny, opSign, quote}
 use Rattle.token.specs.paper.Kinds.{TokenType, wordOf}
 use Rattle.token.specs.paper.Shapes.{One, Run, Run1, _then_, both, Chunks, Tail, Ident, codesOf, TokenShape}
@@ -24,6 +25,9 @@ use Rattle.token.specs.declared.kinds.TokenKind.the-variants as tk
 use Rattle.token.proofs.Base.{no-some}
 use Rattle.token.proofs.theorems.Runs.{run-after, run-suffix, after-least, run1-run}
 use Rattle.token.proofs.theorems.Operators.{Stood}
+
+open TextLaws text-laws using (suffix-refl, suffix-trans, suffix-same)
+open ClassLaws class-laws using (under-no-id, sign-no-id, sign-no-under)
 
 abbrev isUnder : ℕ → Bool
 isUnder c = oneOf "_" c

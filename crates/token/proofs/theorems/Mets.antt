@@ -12,9 +12,10 @@ use Rattle.chars.specs.paper.Quoted.{between, oneOf}
 use Rattle.chars.specs.paper.Classes.{isIdStart, isOpSign}
 use Rattle.chars.specs.paper.Text.{Char, Text, headIs}
 use Rattle.chars.specs.computed.Runs.{afterRun}
-use Rattle.chars.proofs.classes.Laws.{slash-sign, slash-no-start}
-use Rattle.chars.proofs.text.Texts.{Suffix, suffix-refl, suffix-cons, suffix-trans, suffix-same}
 use Rattle.chars.proofs.Bools.{clash, and-both, not-true}
+use Rattle.chars.specs.promises.Texts.{TextLaws, Suffix}
+use Rattle.chars.specs.promises.Classes.{ClassLaws}
+use Rattle.chars.proofs.theorems.Promises.{text-laws, class-laws}
 use Rattle.token.specs.paper.Tests.{isDigit, isHexDigit, isAny, begins, quote, threeQuotes, backslash, dollarBrace, digit, hexDigit, opSign, freeSign, notBacktick, apostrophe}
 use Rattle.token.specs.paper.Shapes.{One, Run, Times, both, Single, singleChar, tripleChar, Block, Name}
 use Rattle.token.specs.paper.Refusals.{BadEscape, Opens, InSingle, InTriple, WithinSingle, Met, GivesWay, First}
@@ -32,6 +33,9 @@ use Rattle.token.proofs.theorems.Shorter.{one-strict, times-suffix, esc
 use Rattle.token.proofs.theorems.Gaps.{pass-run, block-stands}
 use Rattle.token.proofs.theorems.Starts.{starts-declared}
 use Rattle.token.proofs.theorems.Dispatch.{clear-head, Clear, or-false, quote-any, scan-by, starts-block, starts-cr, starts-number, starts-word, starts-backtick, starts-string, starts-tick}
+
+open TextLaws text-laws using (suffix-refl, suffix-cons, suffix-trans, suffix-same)
+open ClassLaws class-laws using (slash-sign, slash-no-start)
 
 -- a class without `/` opens no comment
 clear-digit : (s : Text) → digit s ≡ true → Clear s

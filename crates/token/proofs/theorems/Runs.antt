@@ -9,8 +9,11 @@ use native.Mathlib.Omega.{arith}
 use Rattle.chars.specs.paper.Text.{Char, Text}
 use Rattle.chars.specs.computed.Runs.{afterRun}
 use Rattle.chars.proofs.Bools.{clash}
-use Rattle.chars.proofs.text.Texts.{Suffix, suffix-refl, suffix-cons, suffix-same}
+use Rattle.chars.specs.promises.Texts.{TextLaws, Suffix}
+use Rattle.chars.proofs.theorems.Promises.{text-laws}
 use Rattle.token.specs.paper.Shapes.{Run, Run1, Longest, codesOf}
+
+open TextLaws text-laws using (suffix-refl, suffix-cons, suffix-same)
 
 pub codes-none : (s : Text) → codesOf s s ≡ []
 codes-none s = rw sub-self

@@ -6,12 +6,15 @@ use lib.ListN.{length}
 use native.Mathlib.Omega.{arith}
 use Rattle.chars.specs.paper.Text.{Text, headIs}
 use Rattle.chars.specs.paper.Classes.{isIdStart}
-use Rattle.chars.proofs.text.Texts.{drop-suffix, Suffix, suffix-refl, suffix-cons, suffix-trans}
+use Rattle.chars.specs.promises.Texts.{TextLaws, Suffix}
+use Rattle.chars.proofs.theorems.Promises.{text-laws}
 use Rattle.token.specs.paper.Tests.{isAny, quote, digit, hexDigit, freeSign, notBacktick, apostrophe, endOfLine}
 use Rattle.token.specs.paper.Kinds.{Kind, TokenType}
 use Rattle.token.specs.paper.Shapes.{One, Run, Run1, Times, UpTo, _then_, both, Block, Item, Items, LineEnd, LineComment, Digits, NumberText, Chunks, Tail, Ident, Operator, Backtick, Escape, Single, Body, Prefix, Str, Character, Name, Symbol, TokenShape, HasShape, Stands}
 use Rattle.token.proofs.theorems.Runs.{run-suffix}
 use Rattle.token.proofs.theorems.Idents.{rest-suffix}
+
+open TextLaws text-laws using (drop-suffix, suffix-refl, suffix-cons, suffix-trans)
 
 -- a proper suffix
 abbrev pub Strict : Text → Text → Type 0

@@ -9,9 +9,10 @@ use borrow.Author.Tests.{eqb-true}
 use Rattle.chars.specs.paper.Quoted.{codes}
 use Rattle.chars.specs.paper.Classes.{isIdStart}
 use Rattle.chars.specs.paper.Text.{Char, Text}
-use Rattle.chars.proofs.classes.Laws.{slash-sign}
 use Rattle.chars.proofs.Bools.{clash, and-both}
-use Rattle.chars.proofs.Carry.{every, carry}
+use Rattle.chars.specs.promises.Codes.{CodeLaws, every}
+use Rattle.chars.specs.promises.Classes.{ClassLaws}
+use Rattle.chars.proofs.theorems.Promises.{code-laws, class-laws}
 use Rattle.token.specs.paper.Tests.{isDigit, isHexDigit, begins, startsWith}
 use Rattle.token.specs.paper.Kinds.{Kind, TokenType}
 use Rattle.token.specs.paper.Shapes.{One, Run, Run1, both, Escape, Single, Body, TokenShape, HasShape}
@@ -24,6 +25,9 @@ use Rattle.token.proofs.theorems.Idents.{ident-stands}
 use Rattle.token.proofs.theorems.Heads.{declared-starts}
 use Rattle.token.proofs.theorems.Dispatch.{Fact, start-fact, sign-of, digit-one}
 use Rattle.token.proofs.theorems.Complete.{code-is}
+
+open CodeLaws code-laws using (carry)
+open ClassLaws class-laws using (slash-sign)
 
 -- ---- texts that begin with a given start
 

@@ -12,7 +12,8 @@ use Rattle.chars.specs.paper.Quoted.{codes}
 use Rattle.chars.specs.paper.Text.{Char, Text}
 use Rattle.chars.specs.computed.Runs.{afterRun}
 use Rattle.chars.proofs.Bools.{clash, and-both, not-true}
-use Rattle.chars.proofs.text.Texts.{suffix-same}
+use Rattle.chars.specs.promises.Texts.{TextLaws}
+use Rattle.chars.proofs.theorems.Promises.{text-laws}
 use Rattle.token.specs.paper.Tests.{isAny, begins, startsWith, quote, threeQuotes, backslash, dollarBrace}
 use Rattle.token.specs.paper.Shapes.{One, Run, Times, both, Escape, allowed, singleChar, Single, tripleChar, Body}
 use Rattle.token.specs.paper.Refusals.{WithinSingle, Opens, Met}
@@ -20,6 +21,8 @@ use Rattle.token.specs.computed.Answer.{unbroken, broken, afterSlash, Cl
 use Rattle.token.proofs.theorems.Runs.{after-next, run-after, after-least, run-suffix}
 use Rattle.token.proofs.theorems.Numbers.{one-drop, one-found}
 use Rattle.token.proofs.theorems.Escapes.{slash-found, slash-finds, Good, Bad}
+
+open TextLaws text-laws using (suffix-same)
 
 -- ---- the tests of a first character exclude one another
 

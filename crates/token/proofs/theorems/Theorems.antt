@@ -8,8 +8,9 @@ use lib.ListN.{length}
 use native.Mathlib.Omega.{arith}
 use Rattle.chars.specs.paper.Text.{Char, Text, from, place}
 use Rattle.chars.proofs.Bools.{clash}
-use Rattle.chars.proofs.utf8.Valid.{valid}
-use Rattle.chars.proofs.text.Texts.{from-length}
+use Rattle.chars.specs.promises.Utf8.{ValidLaws}
+use Rattle.chars.specs.promises.Texts.{TextLaws}
+use Rattle.chars.proofs.theorems.Promises.{valid-laws, text-laws}
 use Rattle.token.specs.paper.Kinds.{Kind, Token}
 use Rattle.token.specs.paper.Shapes.{Stands}
 use Rattle.token.specs.paper.Reading.{Piece, Pieces, Reading, Tokens, TokensOf}
@@ -21,6 +22,9 @@ use Rattle.token.proofs.theorems.Unique.{one-kind, none-end, one-readin
 use Rattle.token.proofs.theorems.Alone.{tokens-one, records-length}
 use Rattle.token.proofs.theorems.Mets.{met-end, first-of, first-only}
 use Rattle.token.proofs.theorems.Walks.{Walked, answer-finds}
+
+open ValidLaws valid-laws using (valid)
+open TextLaws text-laws using (from-length)
 
 abbrev tokensIn : Answer → List Token
 tokensIn (accepted ts) = ts

@@ -10,7 +10,8 @@ use Rattle.chars.specs.paper.Text.{Char, Text, headIs}
 use Rattle.chars.specs.computed.Runs.{afterRun}
 use Rattle.chars.specs.paper.Classes.{isIdStart, isOpSign, isPrintable}
 use Rattle.chars.proofs.Bools.{clash, and-both, not-true}
-use Rattle.chars.proofs.classes.Laws.{sign-no-start, no-start, no-sign}
+use Rattle.chars.specs.promises.Classes.{ClassLaws}
+use Rattle.chars.proofs.theorems.Promises.{class-laws}
 use Rattle.token.specs.paper.Tests.{isAny, backslash, opSign, opensComment, freeSign, apostrophe, plainChar}
 use Rattle.token.specs.paper.Kinds.{TokenType}
 use Rattle.token.specs.paper.Shapes.{One, _then_, both, Character, Name, Symbol, TokenShape}
@@ -23,6 +24,8 @@ use Rattle.token.proofs.theorems.Numbers.{one-drop, one-found}
 use Rattle.token.proofs.theorems.Operators.{Stood}
 use Rattle.token.proofs.theorems.Idents.{ident-finds, ident-found}
 use Rattle.token.proofs.theorems.Escapes.{slash-found, slash-finds, Good, Bad}
+
+open ClassLaws class-laws using (sign-no-start, no-start, no-sign)
 
 -- a refusal that is found and met
 pub record Fell (s : Text) (f : Found) : Type 0 where

@@ -7,7 +7,8 @@ use mathlib.Core.List.{List, [], _∷_, _++_}
 use lib.ListN.{length, drop}
 use native.Mathlib.Omega.{arith}
 use Rattle.chars.specs.paper.Text.{Char, Text, from, place}
-use Rattle.chars.proofs.text.Texts.{TextOf, text-suffix, text-place}
+use Rattle.chars.specs.promises.Texts.{TextLaws, TextOf}
+use Rattle.chars.proofs.theorems.Promises.{text-laws}
 use Rattle.token.specs.paper.Kinds.{Kind, TokenType, isComment, Token}
 use Rattle.token.specs.paper.Shapes.{Stands}
 use Rattle.token.specs.paper.Reading.{Piece, Pieces, Valued, Tokens, AfterComment, Cut}
@@ -23,6 +24,8 @@ use Rattle.token.proofs.theorems.Dispatch.{Hit, Scanned, scan-stands}
 use Rattle.token.proofs.theorems.Unique.{bare-kind, fell-none}
 use Rattle.token.proofs.theorems.Shorter.{Strict, stands-strict, two-str, two-long}
 use Rattle.token.proofs.theorems.Flags.{Knows, cut-here, knows-fresh, knows-blank, knows-end, knows-line, knows-block, spaces, end-ends, blank-same, line-end-ends, other-ends}
+
+open TextLaws text-laws using (text-suffix, text-place)
 
 -- ---- one step of the walk
 

@@ -60,8 +60,8 @@ loop-less c = search needs
 
 loop-again : tie.Need-loop-again Inv-loop μ-loop
 loop-again c = (
-  turn _ _ _ _ (c .before .before .before .before .before .before .before .before .loop .inv .0) (c .before .before .before .before .before .before .bytes-of .ensures .0) (c .before .before .before .before .valid-prefix .ensures .0) (c .before .before .tally .ensures),
-  turn _ _ _ _ (c .before .before .before .before .before .before .before .before .loop .inv .1) (c .before .before .before .before .before .before .bytes-of .ensures .0) (c .before .before .before .before .valid-prefix .ensures .0) (c .tally2 .ensures),
+  turn _ _ _ _ (c .before .before .before .before .before .before .before .before .loop .inv .0) (c .before .before .before .before .before .before .bytes-of .ensures .0) (c .before .before .before .before .valid-prefix .ensures .0 .0) (c .before .before .tally .ensures),
+  turn _ _ _ _ (c .before .before .before .before .before .before .before .before .loop .inv .1) (c .before .before .before .before .before .before .bytes-of .ensures .0) (c .before .before .before .before .valid-prefix .ensures .0 .0) (c .tally2 .ensures),
   omega arith,
 )
 

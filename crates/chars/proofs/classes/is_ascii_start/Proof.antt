@@ -3,7 +3,8 @@ use mathlib.Core.Path.{refl, sym, _∙_}
 use mathlib.Core.Bool.{_&&_}
 use native.Mathlib.Omega.{arith}
 use lib.Dec.{leb, ltb, eqb}
-use Rattle.chars.proofs.classes.Laws.{lowStart, byte-start}
+use Rattle.chars.specs.promises.Classes.{lowStart}
+use Rattle.chars.proofs.classes.Laws.{byte-start}
 use Rattle.chars.proofs.Carry.{each, each-same}
 use Rattle.chars.proofs.classes.is_ascii_start.Statement.{statement}
 use Rattle.chars.proofs.classes.is_ascii_start.Tie as tie

@@ -3,7 +3,8 @@ use mathlib.Core.Path.{refl, sym, _∙_}
 use mathlib.Core.Bool.{_&&_}
 use native.Mathlib.Omega.{arith}
 use lib.Dec.{leb, ltb, eqb}
-use Rattle.chars.proofs.classes.Laws.{lowId, byte-id}
+use Rattle.chars.specs.promises.Classes.{lowId}
+use Rattle.chars.proofs.classes.Laws.{byte-id}
 use Rattle.chars.proofs.Carry.{each-same}
 use Rattle.chars.proofs.classes.is_id_byte.Statement.{statement}
 use Rattle.chars.proofs.classes.is_id_byte.Tie as tie

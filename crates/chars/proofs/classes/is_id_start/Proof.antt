@@ -4,6 +4,7 @@ use native.Mathlib.Omega.{arith}
 use Rattle.chars.specs.paper.Classes.{lowercase, uppercase}
 use Rattle.chars.proofs.classes.Ranges.{in-between, not-between}
 use Rattle.chars.proofs.classes.Laws.{above-no-start, circled-no-start, wide-start, russian-start}
+use Rattle.chars.proofs.theorems.Promises.{class-laws}
 use borrow.Author.Needs.{needs}
 use Rattle.chars.proofs.classes.is_id_start.Statement.{statement}
 use Rattle.chars.proofs.classes.is_id_start.Tie as tie
@@ -12,7 +13,7 @@ is-ascii-id-start-requires : tie.Need-is-ascii-id-start-requires
 is-ascii-id-start-requires c κs = search needs
 
 returns : tie.Need-returns
-returns c = search needs
+returns c = (c .is-ascii-id-start .ensures, class-laws)
 
 is-between-requires : tie.Need-is-between-requires
 is-between-requires c κs = search needs
@@ -22,12 +23,12 @@ returns-2 c =
     let args′ = c .before .before .before .args in
     let is-between′ = c .before .is-between in
     let if2′ = c .if2 in
-    sym (russian-start (args′ .c) (sym (is-between′ .ensures) ∙ if2′ .taken))
+    (sym (russian-start (args′ .c) (sym (is-between′ .ensures) ∙ if2′ .taken)), class-laws)
 
 returns-3 : tie.Need-returns-3
 returns-3 c =
     let args′ = c .before .before .before .before .args in
-    sym (above-no-start (args′ .c) (omega arith))
+    (sym (above-no-start (args′ .c) (omega arith)), class-laws)
 
 is-between-requires-2 : tie.Need-is-between-requires-2
 is-between-requires-2 c κs = search needs
@@ -38,7 +39,7 @@ returns-4 c =
     let is-between2′ = c .before .is-between2 in
     let if4′ = c .if4 in
     let r = in-between _ _ (args′ .c) (sym (is-between2′ .ensures) ∙ if4′ .taken) in
-    sym (circled-no-start (args′ .c) (omega arith) (omega arith))
+    (sym (circled-no-start (args′ .c) (omega arith) (omega arith)), class-laws)
 
 cast-k : tie.Need-cast-k
 cast-k c = search needs
@@ -55,7 +56,7 @@ returns-5 c =
     let if5′ = c .if5 in
     let out = not-between _ _ (args′ .c) (sym (is-between2′ .ensures) ∙ if4′ .left) in
     let low : lowercase (args′ .c) ≡ true = sym (is-lowercase′ .ensures) ∙ if5′ .taken in
-    sym (wide-start (args′ .c) (omega arith) (omega arith) (λ l. omega (arith, out (omega arith))) ∙ ap (λ b. b || uppercase (args′ .c)) low)
+    (sym (wide-start (args′ .c) (omega arith) (omega arith) (λ l. omega (arith, out (omega arith))) ∙ ap (λ b. b || uppercase (args′ .c)) low), class-laws)
 
 is-uppercase-requires : tie.Need-is-uppercase-requires
 is-uppercase-requires c κs = search needs
@@ -70,7 +71,7 @@ returns-6 c =
     let is-uppercase′ = c .is-uppercase in
     let out = not-between _ _ (args′ .c) (sym (is-between2′ .ensures) ∙ if4′ .left) in
     let low : lowercase (args′ .c) ≡ false = sym (is-lowercase′ .ensures) ∙ if5′ .left in
-    is-uppercase′ .ensures ∙ sym (wide-start (args′ .c) (omega arith) (omega arith) (λ l. omega (arith, out (omega arith))) ∙ ap (λ b. b || uppercase (args′ .c)) low)
+    (is-uppercase′ .ensures ∙ sym (wide-start (args′ .c) (omega arith) (omega arith) (λ l. omega (arith, out (omega arith))) ∙ ap (λ b. b || uppercase (args′ .c)) low), class-laws)
 
 pub is-id-start-spec : {M : Type 1} → statement M
 is-id-start-spec =

@@ -15,7 +15,7 @@ has-bit-requires c κs = search needs
 
 returns : tie.Need-returns
 unfolding bitIn isOpSign
-returns c = c .has-bit .ensures ∙ mask-set _ _ (λ x. ltb x 0x80 && isOpSign x) refl (λ x h. ap (λ z. z && isOpSign x) (le-ltb x 0x80 h)) (c .before .args .b)
+returns c = c .has-bit .ensures .0 ∙ mask-set _ _ (λ x. ltb x 0x80 && isOpSign x) refl (λ x h. ap (λ z. z && isOpSign x) (le-ltb x 0x80 h)) (c .before .args .b)
 
 pub is-op-byte-spec : {M : Type 1} → statement M
 is-op-byte-spec = tie.close (tie.spec has-bit-requires returns)

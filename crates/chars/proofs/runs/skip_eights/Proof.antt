@@ -21,21 +21,21 @@ eight-in-requires : tie.Need-eight-in-requires Inv-loop μ-loop
 eight-in-requires c κs = search needs
 
 add-i : tie.Need-add-i Inv-loop μ-loop
-add-i c = let m = all-more _ _ _ _ _ (c .before .before .loop .inv .2) (sym (c .before .eight-in .ensures) ∙ c .if1 .taken) .0 in omega arith
+add-i c = let m = all-more _ _ _ _ _ (c .before .before .loop .inv .2) (sym (c .before .eight-in .ensures .0) ∙ c .if1 .taken) .0 in omega arith
 
 loop-less : tie.Need-loop-less Inv-loop μ-loop
-loop-less c = let m = all-more _ _ _ _ _ (c .before .before .loop .inv .2) (sym (c .before .eight-in .ensures) ∙ c .if1 .taken) .0 in omega arith
+loop-less c = let m = all-more _ _ _ _ _ (c .before .before .loop .inv .2) (sym (c .before .eight-in .ensures .0) ∙ c .if1 .taken) .0 in omega arith
 
 loop-again : tie.Need-loop-again Inv-loop μ-loop
 loop-again c =
-    let m = all-more _ _ _ _ _ (c .before .before .loop .inv .2) (sym (c .before .eight-in .ensures) ∙ c .if1 .taken) in
+    let m = all-more _ _ _ _ _ (c .before .before .loop .inv .2) (sym (c .before .eight-in .ensures .0) ∙ c .if1 .taken) in
     let l = c .before .before .loop .inv .0 in
     (omega arith, λ h. m .0, m .1)
 
 returns : tie.Need-returns Inv-loop μ-loop
 returns c =
     let v = c .before .before .loop .inv in
-    (v .0, v .1, v .2, sym (c .before .eight-in .ensures) ∙ c .if1 .left)
+    (v .0, v .1, v .2, sym (c .before .eight-in .ensures .0) ∙ c .if1 .left)
 
 pub skip-eights-spec : {M : Type 1} → statement M
 skip-eights-spec = tie.close (tie.spec Inv-loop μ-loop loop-holds eight-in-requires add-i loop-less loop-again returns)

@@ -1,14 +1,14 @@
 use native.Mathlib.Omega.{arith}
 use mathlib.Core.Path.{sym, _∙_}
 use Rattle.chars.proofs.text.Steps.{char-stands, nothing-stands, step-char, step-byte, step-end}
-use Rattle.chars.proofs.theorems.Promises.{reads}
+use Rattle.chars.proofs.theorems.Promises.{text-laws}
 use borrow.Author.Needs.{needs}
 use Rattle.chars.proofs.text.char_at.Statement.{statement}
 use Rattle.chars.proofs.text.char_at.Tie as tie
 
 -- src/text.rt:18:9
 returns : tie.Need-returns
-returns c = (step-end (c .before .before .args .s .now) (c .before .before .args .at) (c .if1 .taken), reads _ _)
+returns c = (step-end (c .before .before .args .s .now) (c .before .before .args .at) (c .if1 .taken), text-laws)
 
 -- src/text.rt:20:13
 shared-slice-read-b : tie.Need-shared-slice-read-b
@@ -50,7 +50,7 @@ returns-2 c =
     let s = st .args .s .now in
     let i = st .args .at in
     let d = char-stands s i _ _ (sym (c .before .here .given .1) ∙ c .before .before .before .decode .ensures .0) in
-    (step-char s i _ _ (c .before .before .before .before .before .if1 .left) d .1, reads s i)
+    (step-char s i _ _ (c .before .before .before .before .before .if1 .left) d .1, text-laws)
 
 -- src/text.rt:14:1
 returns-3 : tie.Need-returns-3
@@ -58,7 +58,7 @@ returns-3 c =
     let st = c .before .before .before .before .before .before in
     let s = st .args .s .now in
     let i = st .args .at in
-    (step-byte s i (c .before .before .before .before .if1 .left) (nothing-stands s i (sym (c .enum-told .given .1) ∙ c .before .before .decode .ensures .0)), reads s i)
+    (step-byte s i (c .before .before .before .before .if1 .left) (nothing-stands s i (sym (c .enum-told .given .1) ∙ c .before .before .decode .ensures .0)), text-laws)
 
 pub char-at-spec : {M : Type 1} → statement M
 char-at-spec =

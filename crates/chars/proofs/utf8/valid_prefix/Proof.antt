@@ -1,6 +1,7 @@
 use Prim.Native.Nat.{_≤_, _-_}
 use mathlib.Core.Path.{_≡_, refl, sym, _∙_}
 use native.Mathlib.Omega.{arith}
+use Rattle.chars.proofs.theorems.Promises.{valid-laws}
 use borrow.Author.Needs.{needs}
 use lib.ListN.{length, drop}
 use Rattle.chars.specs.code.Runs.{Within}
@@ -87,7 +88,7 @@ returns c =
     let loop-test = c .before .before .before .before .before .before .loop-test in
     let s = args .s .now in
     let e = sym (valid-stop s (loop .i) (loop-test .taken) (sym (c .before .width-at .ensures) ∙ c .if3 .taken)) ∙ loop .inv .1 in
-    (e, rw e (valid s))
+    ((e, rw e (valid s)), valid-laws)
 
 add-i-2 : tie.Need-add-i-2 Inv-loop μ-loop
 add-i-2 c =
@@ -120,7 +121,7 @@ returns-2 c =
     let args = c .before .before .before .args in
     let s = args .s .now in
     let e = sym (valid-end s (c .before .loop .i) (c .loop-test .left)) ∙ c .before .loop .inv .1 in
-    (e, rw e (valid s))
+    ((e, rw e (valid s)), valid-laws)
 
 pub valid-prefix-spec : {M : Type 1} → statement M
 valid-prefix-spec =

@@ -8,9 +8,12 @@ use lib.ListN.{length}
 use Rattle.chars.specs.paper.Text.{from}
 use Rattle.chars.specs.computed.Runs.{afterRun}
 use Rattle.chars.specs.code.Classes.{asciiIdChar}
-use Rattle.chars.proofs.classes.IdRuns.{ascii-on, ascii-out, ascii-end}
+use Rattle.chars.specs.promises.Classes.{ClassLaws}
+use Rattle.chars.proofs.theorems.Promises.{class-laws}
 use Rattle.token.proofs.ascii.id_end.Statement.{statement}
 use Rattle.token.proofs.ascii.id_end.Tie as tie
+
+open ClassLaws class-laws using (ascii-on, ascii-out, ascii-end)
 
 abbrev Inv-loop : tie.InvT-loop
 Inv-loop s t at i₀ i = afterRun asciiIdChar (from s i) ≡ afterRun asciiIdChar (from s at)

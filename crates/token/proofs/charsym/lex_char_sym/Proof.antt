@@ -5,13 +5,16 @@ use native.Mathlib.Omega.{arith}
 use borrow.Author.Tests.{eq-eqb, ne-eqb}
 use lib.ListN.{length}
 use Rattle.chars.specs.paper.Text.{from}
+use Rattle.chars.specs.promises.Texts.{TextLaws}
+use Rattle.chars.proofs.theorems.Promises.{text-laws}
 use Rattle.token.specs.code.Piece.{pieceOf}
 use Rattle.token.proofs.charsym.Laws.{sym-stuck, tick-byte, past-tick, end-is, escape-is, char-piece, symbol-is}
 use borrow.Author.Needs.{needs}
-use Rattle.chars.proofs.text.Places.{at-end}
 use Rattle.token.proofs.cursor.Laws.{peeked-char, peeked-end}
 use Rattle.token.proofs.charsym.lex_char_sym.Statement.{statement}
 use Rattle.token.proofs.charsym.lex_char_sym.Tie as tie
+
+open TextLaws text-laws using (at-end)
 
 add-t7 : tie.Need-add-t7
 add-t7 c = search needs

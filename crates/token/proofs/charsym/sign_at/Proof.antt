@@ -2,10 +2,13 @@
 use mathlib.Core.Path.{sym, ap, _∙_}
 use Rattle.token.specs.paper.Tests.{opSign}
 use borrow.Author.Needs.{needs}
-use Rattle.chars.proofs.text.Places.{at-end}
 use Rattle.token.proofs.cursor.Laws.{peeked-char, peeked-end}
 use Rattle.token.proofs.charsym.sign_at.Statement.{statement}
 use Rattle.token.proofs.charsym.sign_at.Tie as tie
+use Rattle.chars.specs.promises.Texts.{TextLaws}
+use Rattle.chars.proofs.theorems.Promises.{text-laws}
+
+open TextLaws text-laws using (at-end)
 
 peek-requires : tie.Need-peek-requires
 peek-requires c κs = search needs

@@ -1,9 +1,12 @@
 use mathlib.Core.Path.{sym, _∙_}
 use mathlib.Core.List.{[], _∷_}
-use Rattle.chars.proofs.Carry.{hits, misses}
 use Rattle.token.proofs.cursor.Bytes.{swapped}
 use Rattle.token.proofs.cursor.is_blank.Statement.{statement}
 use Rattle.token.proofs.cursor.is_blank.Tie as tie
+use Rattle.chars.specs.promises.Codes.{CodeLaws}
+use Rattle.chars.proofs.theorems.Promises.{code-laws}
+
+open CodeLaws code-laws using (hits, misses)
 
 returns : tie.Need-returns
 returns c = sym (swapped (c .before .args .b) 0x20 0x09 ∙ hits (0x09 ∷ 0x20 ∷ []) (c .before .args .b) (c .match .keys1))

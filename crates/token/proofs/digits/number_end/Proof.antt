@@ -3,11 +3,14 @@ use mathlib.Core.Path.{sym, ap, _∙_}
 use mathlib.Core.List.{[], _∷_}
 use native.Mathlib.Omega.{arith}
 use Rattle.chars.specs.paper.Quoted.{oneOf}
-use Rattle.chars.proofs.Carry.{hits, misses}
+use Rattle.chars.specs.promises.Codes.{CodeLaws}
+use Rattle.chars.proofs.theorems.Promises.{code-laws}
 use Rattle.token.proofs.digits.Laws.{long-piece, int-piece}
 use borrow.Author.Needs.{needs}
 use Rattle.token.proofs.digits.number_end.Statement.{statement}
 use Rattle.token.proofs.digits.number_end.Tie as tie
+
+open CodeLaws code-laws using (hits, misses)
 
 byte-at-requires : tie.Need-byte-at-requires
 byte-at-requires c κs = search needs

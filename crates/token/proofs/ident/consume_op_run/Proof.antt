@@ -8,12 +8,14 @@ use lib.ListN.{length}
 use Rattle.chars.specs.paper.Classes.{isOpSign}
 use Rattle.chars.specs.paper.Text.{from}
 use Rattle.chars.specs.computed.Runs.{afterRun}
-use Rattle.chars.proofs.text.Places.{next-on, run-next}
+use Rattle.chars.specs.promises.Texts.{TextLaws}
+use Rattle.chars.proofs.theorems.Promises.{text-laws}
 use Rattle.token.specs.paper.Tests.{opSign, freeSign, opensComment}
 use Rattle.token.proofs.ident.Laws.{past-same, past-other}
-use Rattle.chars.proofs.classes.IdRuns.{run-stays}
 use Rattle.token.proofs.ident.consume_op_run.Statement.{statement}
 use Rattle.token.proofs.ident.consume_op_run.Tie as tie
+
+open TextLaws text-laws using (next-on, run-next, run-stays)
 
 abbrev Inv-loop : tie.InvT-loop
 Inv-loop s d₀ d = (d .at ≤ length s) × (afterRun freeSign (from s (d .at)) ≡ afterRun freeSign (from s (d₀ .at)))

@@ -7,12 +7,14 @@ use lib.ListN.{length}
 use Rattle.chars.specs.paper.Classes.{isOpSign}
 use Rattle.chars.specs.paper.Text.{from}
 use Rattle.chars.specs.computed.Runs.{afterRun}
-use Rattle.chars.proofs.text.Places.{next-on, run-next}
+use Rattle.chars.specs.promises.Texts.{TextLaws}
+use Rattle.chars.proofs.theorems.Promises.{text-laws}
 use Rattle.token.specs.paper.Tests.{opSign}
 use Rattle.token.proofs.ident.Laws.{past-same, past-other}
-use Rattle.chars.proofs.classes.IdRuns.{run-stays}
 use Rattle.token.proofs.ident.consume_signs.Statement.{statement}
 use Rattle.token.proofs.ident.consume_signs.Tie as tie
+
+open TextLaws text-laws using (next-on, run-next, run-stays)
 
 abbrev Inv-loop : tie.InvT-loop
 Inv-loop s i₀ i = (i ≤ length s) × (afterRun opSign (from s i) ≡ afterRun opSign (from s i₀))

@@ -2,11 +2,14 @@
 use mathlib.Core.Path.{sym, ap, _∙_}
 use Rattle.chars.specs.paper.Classes.{isOpSign}
 use Rattle.chars.specs.paper.Text.{headIs}
-use Rattle.chars.proofs.text.Places.{at-end, head-at, step-text, step-none}
+use Rattle.chars.specs.promises.Texts.{TextLaws}
+use Rattle.chars.proofs.theorems.Promises.{text-laws}
 use Rattle.token.proofs.ident.Laws.{past-on, past-off}
 use borrow.Author.Needs.{needs}
 use Rattle.token.proofs.ident.wide_sign_end.Statement.{statement}
 use Rattle.token.proofs.ident.wide_sign_end.Tie as tie
+
+open TextLaws text-laws using (at-end, head-at, step-text, step-none)
 
 char-at-requires : tie.Need-char-at-requires
 char-at-requires c κs = search needs

@@ -3,8 +3,9 @@ use native.Mathlib.Omega.{arith}
 use lib.ListN.{length}
 use Rattle.chars.specs.paper.Classes.{isIdStart, isOpSign}
 use Rattle.chars.specs.paper.Text.{from, headIs}
-use Rattle.chars.proofs.text.Places.{place-from}
-use Rattle.chars.proofs.classes.Cyrillic.{russian}
+use Rattle.chars.specs.promises.Texts.{TextLaws}
+use Rattle.chars.specs.promises.Classes.{ClassLaws}
+use Rattle.chars.proofs.theorems.Promises.{text-laws, class-laws}
 use Rattle.token.specs.code.Piece.{pieceOf}
 use Rattle.token.specs.declared.piece.Piece.the-variants as piece
 use Rattle.token.proofs.cursor.Laws.{peeked-char, peeked-end}
@@ -12,6 +13,9 @@ use Rattle.token.proofs.lexer.Laws.{word-at, operator-at, other-at}
 use borrow.Author.Needs.{needs}
 use Rattle.token.proofs.lexer.lex_wide_word.Statement.{statement}
 use Rattle.token.proofs.lexer.lex_wide_word.Tie as tie
+
+open TextLaws text-laws using (place-from)
+open ClassLaws class-laws using (russian)
 
 is-cyrillic-at-requires : tie.Need-is-cyrillic-at-requires
 is-cyrillic-at-requires c κs = search needs
@@ -63,7 +67,7 @@ lex-ident-requires-2 c κs =
     let here = c .before .before .before .before .here in
     let peek = c .before .before .before .before .before .before .peek in
     let h = peeked-char (args .s .now) (args .c .at) _ _ (sym (here .given .1) ∙ peek .ensures) in
-    (omega arith, ap (headIs isIdStart) (h .text) ∙ sym (c .before .before .is-id-start .ensures) ∙ c .before .if2 .taken, c .step .ensures .0, c .step .ensures .1)
+    (omega arith, ap (headIs isIdStart) (h .text) ∙ sym (c .before .before .is-id-start .ensures .0) ∙ c .before .if2 .taken, c .step .ensures .0, c .step .ensures .1)
 
 returns-3 : tie.Need-returns-3
 returns-3 c =
@@ -74,7 +78,7 @@ returns-3 c =
     let pre = c .before .before .before .before .before .before .before .before .before .before .before .pre in
     let s = args .s .now in
     let h = peeked-char s (args .c .at) _ _ (sym (here .given .1) ∙ peek .ensures) in
-    let e = ap (headIs isIdStart) (h .text) ∙ sym (is-id-start .ensures) ∙ c .before .before .if2 .taken in
+    let e = ap (headIs isIdStart) (h .text) ∙ sym (is-id-start .ensures .0) ∙ c .before .before .if2 .taken in
     c .lex-ident2 .ensures ∙ ap (pieceOf (length s)) (sym (word-at s (args .c .at) (pre .0) (pre .2) e))
 
 is-op-char-requires : tie.Need-is-op-char-requires
@@ -106,7 +110,7 @@ returns-5 c =
     let pre = c .before .before .before .before .before .before .before .before .before .before .before .pre in
     let s = args .s .now in
     let h = peeked-char s (args .c .at) _ _ (sym (here .given .1) ∙ peek .ensures) in
-    let a = ap (headIs isIdStart) (h .text) ∙ sym (is-id-start .ensures) ∙ if2 .left in
+    let a = ap (headIs isIdStart) (h .text) ∙ sym (is-id-start .ensures .0) ∙ if2 .left in
     let b = ap (headIs isOpSign) (h .text) ∙ sym (c .before .is-op-char .ensures) ∙ c .if3 .left in
     sym (ap (pieceOf (length s)) (other-at (length s) (from s (args .c .at)) (pre .2) (pre .1) a b) ∙ ap (piece.Refused 3) (place-from s (args .c .at) (omega arith)))
 

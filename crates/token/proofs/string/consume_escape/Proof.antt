@@ -8,12 +8,15 @@ use borrow.Author.Tests.{ltb-true, le-leb, lt-leb}
 use lib.ListN.{getD}
 use lib.Dec.{ltb}
 use Rattle.chars.specs.paper.Quoted.{codes, member, oneOf}
-use Rattle.chars.proofs.Carry.{carry, no-member, each, hits, misses}
+use Rattle.chars.specs.promises.Codes.{CodeLaws}
+use Rattle.chars.proofs.theorems.Promises.{code-laws}
 use Rattle.token.specs.paper.Tests.{isDigit}
 use Rattle.token.proofs.string.Escapes.{escape-end, escape-simple, escape-digits, escape-hexes, escape-other}
 use borrow.Author.Needs.{needs}
 use Rattle.token.proofs.string.consume_escape.Statement.{statement}
 use Rattle.token.proofs.string.consume_escape.Tie as tie
+
+open CodeLaws code-laws using (carry, no-member, each, hits, misses)
 
 -- the keys of the single cases
 abbrev keys : List ℕ

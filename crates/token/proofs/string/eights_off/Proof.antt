@@ -30,14 +30,14 @@ returns-2 : tie.Need-returns-2
 unfolding eightsOff
 returns-2 c =
     let a = c .before .before .before .before .before .args in
-    let e = sym (c .before .before .eight-in .ensures) ∙ c .before .if2 .taken in
-    rw (le-leb (a .start + 16) (a .end) (omega arith), e, c .eight-in2 .ensures)
+    let e = sym (c .before .before .eight-in .ensures .0) ∙ c .before .if2 .taken in
+    rw (le-leb (a .start + 16) (a .end) (omega arith), e, c .eight-in2 .ensures .0)
 
 returns-3 : tie.Need-returns-3
 unfolding eightsOff
 returns-3 c =
     let a = c .before .before .before .before .args in
-    let e = sym (c .before .eight-in .ensures) ∙ c .if2 .left in
+    let e = sym (c .before .eight-in .ensures .0) ∙ c .if2 .left in
     rw (le-leb (a .start + 16) (a .end) (omega arith), e)
 
 pub eights-off-spec : {M : Type 1} → statement M

@@ -2,10 +2,13 @@ use mathlib.Core.Path.{refl, sym, ap}
 use mathlib.Core.Bool.{not}
 use native.Mathlib.Omega.{arith}
 use Rattle.chars.specs.paper.Quoted.{codes}
-use Rattle.chars.proofs.Carry.{each, hits, misses}
+use Rattle.chars.specs.promises.Codes.{CodeLaws}
+use Rattle.chars.proofs.theorems.Promises.{code-laws}
 use Rattle.token.specs.code.String.{isOrdinary}
 use Rattle.token.proofs.string.is_ordinary.Statement.{statement}
 use Rattle.token.proofs.string.is_ordinary.Tie as tie
+
+open CodeLaws code-laws using (each, hits, misses)
 
 returns : tie.Need-returns
 unfolding isOrdinary

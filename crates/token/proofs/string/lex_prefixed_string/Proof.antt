@@ -1,11 +1,14 @@
 use mathlib.Core.Path.{sym, _∙_}
 use native.Mathlib.Omega.{arith}
 use lib.ListN.{length}
-use Rattle.chars.proofs.text.Places.{place-from}
 use Rattle.token.proofs.string.Laws.{prefixed-refused, prefixed-ended}
 use borrow.Author.Needs.{needs}
 use Rattle.token.proofs.string.lex_prefixed_string.Statement.{statement}
 use Rattle.token.proofs.string.lex_prefixed_string.Tie as tie
+use Rattle.chars.specs.promises.Texts.{TextLaws}
+use Rattle.chars.proofs.theorems.Promises.{text-laws}
+
+open TextLaws text-laws using (place-from)
 
 lex-string-requires : tie.Need-lex-string-requires
 lex-string-requires c κs = search needs

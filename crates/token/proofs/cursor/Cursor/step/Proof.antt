@@ -1,10 +1,13 @@
 use mathlib.Core.Path.{sym, _∙_, ap}
 use lib.ListN.{drop}
-use Rattle.chars.proofs.text.Places.{at-end, step-none}
 use Rattle.token.proofs.cursor.Laws.{here}
 use borrow.Author.Needs.{needs}
 use Rattle.token.proofs.cursor.Cursor.step.Statement.{statement}
 use Rattle.token.proofs.cursor.Cursor.step.Tie as tie
+use Rattle.chars.specs.promises.Texts.{TextLaws}
+use Rattle.chars.proofs.theorems.Promises.{text-laws}
+
+open TextLaws text-laws using (at-end, step-none)
 
 char-at-requires : tie.Need-char-at-requires
 char-at-requires c κs = search needs
