@@ -1,7 +1,7 @@
 -- A test that is computed at a few codes, carried to each code that is one of them.
 use Prim.Native.Nat.{ℕ, zero, suc, _+_, _≤_, _<_}
 use mathlib.Core.Path.{_≡_, refl, sym, _∙_}
-use mathlib.Core.Bool.{Bool, true, false, not, _&&_, _||_, and-eq-true-iff, or-true, or-false}
+use mathlib.Core.Bool.{Bool, true, false, not, _||_, and-eq-true-iff, or-true, or-false}
 use mathlib.Core.List.{List, [], _∷_}
 use mathlib.Core.Logic.{inl, inr, ⊎-elim}
 use native.Mathlib.Omega.{arith}

@@ -12,6 +12,7 @@ use Rattle.token.specs.paper.Records.{mostBytes, mostNeed, records, tokenCount,
 use Rattle.token.specs.Theorems.{Theorems}
 use Rattle.entry.specs.paper.Host.{Seen, seen, numberSeen, bufferSeen, Sees}
 use Rattle.entry.specs.computed.Host.{hostOf}
+use Rattle.entry.specs.computed.Examples.{Examples}
 
 -- What a host that lends enough passes: UTF-8 of at most 16,777,216 bytes, 17 times as many bytes and 13 for the records, 16 for the answer.
 pub record Lends (script buffer block : List ℕ) : Type 0 where
@@ -24,8 +25,8 @@ pub record Lends (script buffer block : List ℕ) : Type 0 where
 -- these tokens, every byte past them as before, and the block their count and their bytes.
 pub record Accepts (script buffer block : List ℕ) : Type 0 where
   pub exactly : (numberSeen (hostOf script buffer block) ≡ 0) ↔ ((ps : List Piece) × Reading script ps)
-  pub one : (ps qs : List Piece) → Reading script ps → Reading script qs → ps ≡ qs
-  pub tokens : (ps : List Piece) → Reading script ps → (ts : List Token) × Tokens script [] ps ts
+  pub one-reading : (ps qs : List Piece) → Reading script ps → Reading script qs → ps ≡ qs
+  pub has-tokens : (ps : List Piece) → Reading script ps → (ts : List Token) × Tokens script [] ps ts
   pub writes : (ps : List Piece) (ts : List Token) → Reading script ps → Tokens script [] ps ts
       → hostOf script buffer block ≡ seen 0 (records ts ++ drop (recordBytes ts) buffer) (blockOf 0 0 (tokenCount ts) (recordBytes ts))
 
@@ -40,3 +41,5 @@ pub record HostTheorems (script buffer block : List ℕ) : Type 0 where
   pub script-theorems : Theorems script
   -- To a host that lends enough the tokens of every reading are handed, and nothing else is accepted.
   pub accepts : Lends script buffer block → Accepts script buffer block
+  -- And document 01's examples come out as it says.
+  pub examples : Examples

@@ -89,7 +89,7 @@ seen-text {script} (Sees.eighteen {n} z v l) b s m =
     ap (refusedAt 18) (block-place 18 n 0 0 (omega arith) ∙ e) ∙ listed-18 script (omega arith)
 seen-text {script} {buffer} (Sees.refused {j} {a} c h) b s m =
     let place = refused-within script j a h in
-    let some = met-range (h .first .met) .0 in
+    let least = met-range (h .first .met) .0 in
     sym (refused-text j (fourAt (blockOf j a 0 0) 4) buffer (blockOf j a 0 0) (λ z. omega arith) refl)
     ∙ ap (refusedAt j) (block-place j a 0 0 (omega arith))
     ∙ listed-answer script (c .utf8) (Answer.refused j a) (refusal script j a .1 h)

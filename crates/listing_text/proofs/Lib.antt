@@ -1,3 +1,4 @@
+pub mod Examples
 pub mod PutLaws
 pub mod Decimals
 pub mod LineLaws

@@ -12,6 +12,7 @@ ghost use lib.Seq.{sets};
 ghost use Rattle.io.specs.Counts.{Counts};
 ghost use Rattle.entry.specs.paper.Host.{seen};
 ghost use Rattle.listing_text.specs.Lines.{Puts, answerText, zeros, recordsRoom, linesRoom, printed, caseText};
+ghost use Rattle.listing_text.specs.Examples.{ListingExamples};
 
 // The listing program takes up to 3,000 bytes.
 pub const MOST_BYTES: usize = 3000;
@@ -74,6 +75,7 @@ pub fn listing(script: &[u8], out: &mut [u8; TEXT_BYTES]) -> usize
     ensures { λ r. ⌜ r ≡ length (printed (now (script .entry))) ⌝ }
     ensures { λ r. ⌜ now (out .exit) ≡ sets (now (out .entry)) 0 (printed (now (script .entry))) ⌝ }
     ensures { λ r. ⌜ Counts r (now (out .exit)) ⌝ }
+    ensures { λ r. ⌜ ListingExamples ⌝ }
 {
     put_listing(out, 0, script)
 }

@@ -330,7 +330,7 @@ module _ {list records₀ records : List ℕ} {at scripts differ next : ℕ} (t 
 pub turn-end : {list records₀ records : List ℕ} {at scripts differ : ℕ} → Turn list records₀ records at scripts differ → length list ≤ at
     → (scripts ≡ caseCount list) × (placeOf list scripts ≡ length list)
 turn-end {list} {records₀} {records} {at} {scripts} t h =
-    let none = no-case (length list - scripts) list at h in
+    let over = no-case (length list - scripts) list at h in
     let e : scripts ≡ scripts + casesFrom (length list - scripts) list at = omega arith in
     let f : at ≡ length list = omega (arith, t .inside) in
     (e ∙ t .count, sym (t .place) ∙ f)

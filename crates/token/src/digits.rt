@@ -9,7 +9,7 @@ ghost use Prim.Native.Nat.{_+_, _*_, _≤_, _<_};
 ghost use lib.ListN.{length};
 ghost use Rattle.chars.specs.paper.Text.{from};
 ghost use Rattle.token.specs.paper.Tests.{hexAhead};
-ghost use Rattle.token.specs.computed.Answer.{read, readDigits, numberOf, scanNumber};
+ghost use Rattle.token.specs.computed.Answer.{numeral, readDigits, numberOf, scanNumber};
 ghost use Rattle.token.specs.code.Digits.{digitIn, digitOf, afterUpTo, valueOf, intOr};
 ghost use Rattle.token.specs.code.Piece.{pieceOf};
 
@@ -122,7 +122,7 @@ fn number_from(s: &[u8], start: usize, c: Cursor, base: u64) -> Piece
 // The number of this value whose digits end at a place: `L` or `l` makes it a LongLit.
 fn number_end(s: &[u8], start: usize, v: u64, end: usize) -> Piece
     requires { ⌜ (start ≤ end) × (end ≤ length (now s)) × (v ≤ 9223372036854775807) ⌝ }
-    ensures { λ r. ⌜ r ≡ pieceOf (length (now (s .entry))) (numberOf (from (now (s .entry)) start) (read v (from (now (s .entry)) end))) ⌝ }
+    ensures { λ r. ⌜ r ≡ pieceOf (length (now (s .entry))) (numberOf (from (now (s .entry)) start) (numeral v (from (now (s .entry)) end))) ⌝ }
 {
     match byte_at(s, end) {
         0x4C | 0x6C => Piece::Token(TokenKind::LongLit(v), Cursor { at: end + 1 }),

@@ -11,7 +11,7 @@ ghost use mathlib.Core.Logic.{_⊎_};
 ghost use Prim.Native.Nat.{_≤_, _<_};
 ghost use lib.ListN.{length};
 ghost use Rattle.chars.specs.paper.Text.{from};
-ghost use Rattle.token.specs.computed.Answer.{read, readDigits, numberOf, scanNumber, scan};
+ghost use Rattle.token.specs.computed.Answer.{numeral, readDigits, numberOf, scanNumber, scan};
 ghost use Rattle.token.specs.code.Cursor.{cursorAt};
 ghost use Rattle.token.specs.code.Piece.{pieceOf};
 ghost use Rattle.token.specs.code.Digits.{digitIn, intOr};
@@ -52,7 +52,7 @@ fn int_told(start: usize, v: u64, end: usize) -> Literal
 // The number of this value whose digits end at a place: `L` or `l` makes it a LongLit.
 fn told_end(s: &[u8], start: usize, v: u64, end: usize) -> Literal
     requires { ⌜ (start ≤ end) × (end ≤ length (now s)) × (v ≤ 9223372036854775807) ⌝ }
-    ensures { λ r. ⌜ LiteralAs start (pieceOf (length (now (s .entry))) (numberOf (from (now (s .entry)) start) (read v (from (now (s .entry)) end)))) r ⌝ }
+    ensures { λ r. ⌜ LiteralAs start (pieceOf (length (now (s .entry))) (numberOf (from (now (s .entry)) start) (numeral v (from (now (s .entry)) end)))) r ⌝ }
 {
     match byte_at(s, end) {
         0x4C | 0x6C => Literal {
@@ -92,7 +92,7 @@ fn run_of(s: &[u8], t: &[u16; 256], start: usize, at: usize, base: u64) -> Digit
 // The same from the number's start on, in either base.
 fn digits_at(s: &[u8], t: &[u16; 256], at: usize) -> DigitRun
     requires { ⌜ (at ≤ length (now s)) × ByteClasses (now t) ⌝ }
-    ensures { λ r. ⌜ (at < r .end → (r .end ≤ length (now (s .entry))) × (r .value ≤ 9223372036854775807) × (numberOf (from (now (s .entry)) at) (read (r .value) (from (now (s .entry)) (r .end))) ≡ scanNumber (from (now (s .entry)) at))) ⌝ }
+    ensures { λ r. ⌜ (at < r .end → (r .end ≤ length (now (s .entry))) × (r .value ≤ 9223372036854775807) × (numberOf (from (now (s .entry)) at) (numeral (r .value) (from (now (s .entry)) (r .end))) ≡ scanNumber (from (now (s .entry)) at))) ⌝ }
 {
     if hex_ahead(s, Cursor { at: at }) {
         return run_of(s, t, at, at + 2, 16);

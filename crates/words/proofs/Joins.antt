@@ -36,15 +36,15 @@ module _ (write : ℕ → List ℕ) (read : List ℕ → ℕ → ℕ) (n m : ℕ
   place l i = sym (half .from l i 0 ∙ ap (read l) (add-zero i))
 
   -- the least number is read from no bytes at all
-  some : 0 < m
-  some = omega (arith, half .fits [] 0 (λ i. omega arith))
+  m-least : 0 < m
+  m-least = omega (arith, half .fits [] 0 (λ i. omega arith))
 
   -- a number's halves
   lower : (a b : ℕ) → a < m → (a + b * m) % m ≡ a
   lower a b h = add-mul-mod-self-right a b m ∙ mod-eq-of-lt h
 
   upper : (a b : ℕ) → a < m → (a + b * m) / m ≡ b
-  upper a b h = add-mul-div-right a b some ∙ ap (λ k. k + b) (div-eq-of-lt h) ∙ zero-add b
+  upper a b h = add-mul-div-right a b m-least ∙ ap (λ k. k + b) (div-eq-of-lt h) ∙ zero-add b
 
   -- both halves, read where they were written
   halves-back : (x y : ℕ) (l : List ℕ) → x < m → y < m → lowerFirst read n m (write x ++ (write y ++ l)) 0 ≡ x + y * m
@@ -69,7 +69,7 @@ module _ (write : ℕ → List ℕ) (read : List ℕ → ℕ → ℕ) (n m : ℕ
     size = λ x. simp (e, length-append, half .size);
     fits = λ l i h. omega (arith, half .fits l i h, mul-le-mul-right m (half .fits l (i + n) h));
     from = λ l i j. simp (half .from, add-assoc);
-    back = λ x l h. rw (e, append-assoc) (halves-back (x % m) (x / m) l (mod-lt x some) (div-lt-iff-lt-mul some .1 h) ∙ mod-add-div' x m);
+    back = λ x l h. rw (e, append-assoc) (halves-back (x % m) (x / m) l (mod-lt x m-least) (div-lt-iff-lt-mul m-least .1 h) ∙ mod-add-div' x m);
     forth = λ l h k.
         let a = read l 0 in
         let b = read l n in

@@ -9,8 +9,8 @@ use borrow.Author.Tests.{le-leb}
 use Rattle.chars.specs.paper.Quoted.{between}
 use Rattle.chars.specs.paper.Ranges.{_to_}
 use Rattle.chars.specs.paper.Utf8.{fits, here, later, width, codeOf}
-use Rattle.chars.specs.paper.Classes.{isIdStart, isIdChar}
-use Rattle.chars.specs.paper.Text.{from, headIs}
+use Rattle.chars.specs.paper.Classes.{isIdStart}
+use Rattle.chars.specs.paper.Text.{from}
 use Rattle.chars.specs.code.Text.{codeAt, charEnd}
 use Rattle.chars.specs.code.Classes.{cyrillicAt}
 use Rattle.chars.specs.promises.Classes.{Russian}

@@ -146,7 +146,7 @@ sign-no-id c e = not-true (isIdChar c) (quoted-not isIdChar lowId low-id arrow-n
 
 -- ---- characters that document 01 names
 
--- There to be read, a trap of document 01: the small Roman numeral one starts an identifier and never continues one.
+-- A trap of document 01: the small Roman numeral one starts an identifier and never continues one.
 pub roman-start : isIdStart 0x2170 ≡ true
 unfolding isIdStart lowercase uppercase
 roman-start = refl

@@ -79,13 +79,13 @@ only-first (suc k) (_to_ a b ∷ t) h c e l = ap (λ z. between a b c || z) (onl
 -- ---- what the order test says
 
 -- of its first range and of the rest
-record Head (f a b : ℕ) (t : List Range) : Type 0 where
+record FirstRange (f a b : ℕ) (t : List Range) : Type 0 where
   start : f ≤ a
   ends : a ≤ b
   rest : ascendingFrom (suc b) t ≡ true
 
-head : (f a b : ℕ) (t : List Range) → ascendingFrom f (a to b ∷ t) ≡ true → Head f a b t
-head f a b t e =
+first-range : (f a b : ℕ) (t : List Range) → ascendingFrom f (a to b ∷ t) ≡ true → FirstRange f a b t
+first-range f a b t e =
     let k = and-eq-true-iff (leb f a && leb a b) (ascendingFrom (suc b) t) .0 e in
     let l = and-eq-true-iff (leb f a) (leb a b) .0 (k .0) in
     record { start = leb-true f a (l .0); ends = leb-true a b (l .1); rest = k .1 }
@@ -93,21 +93,21 @@ head f a b t e =
 -- every range begins at the bound or above
 low-from : (f : ℕ) (t : List Range) → ascendingFrom f t ≡ true → (k : ℕ) → k < length t → f ≤ low (rangeAt t k)
 low-from f [] e k h = absurd (not-suc-le-zero h)
-low-from f (_to_ a b ∷ t) e zero h = head f a b t e .start
+low-from f (_to_ a b ∷ t) e zero h = first-range f a b t e .start
 low-from f (_to_ a b ∷ t) e (suc k) h =
-    let q = head f a b t e in
+    let q = first-range f a b t e in
     let i = low-from (suc b) t (q .rest) k (le-of-suc-le-suc h) in
     omega arith
 
 ordered-from : (f : ℕ) (t : List Range) → ascendingFrom f t ≡ true → (k : ℕ) → k < length t → low (rangeAt t k) ≤ high (rangeAt t k)
 ordered-from f [] e k h = absurd (not-suc-le-zero h)
-ordered-from f (_to_ a b ∷ t) e zero h = head f a b t e .ends
-ordered-from f (_to_ a b ∷ t) e (suc k) h = ordered-from (suc b) t (head f a b t e .rest) k (le-of-suc-le-suc h)
+ordered-from f (_to_ a b ∷ t) e zero h = first-range f a b t e .ends
+ordered-from f (_to_ a b ∷ t) e (suc k) h = ordered-from (suc b) t (first-range f a b t e .rest) k (le-of-suc-le-suc h)
 
 disjoint-from : (f : ℕ) (t : List Range) → ascendingFrom f t ≡ true → (k : ℕ) → suc k < length t → high (rangeAt t k) < low (rangeAt t (suc k))
 disjoint-from f [] e k h = absurd (not-suc-le-zero h)
-disjoint-from f (_to_ a b ∷ t) e zero h = low-from (suc b) t (head f a b t e .rest) zero (le-of-suc-le-suc h)
-disjoint-from f (_to_ a b ∷ t) e (suc k) h = disjoint-from (suc b) t (head f a b t e .rest) k (le-of-suc-le-suc h)
+disjoint-from f (_to_ a b ∷ t) e zero h = low-from (suc b) t (first-range f a b t e .rest) zero (le-of-suc-le-suc h)
+disjoint-from f (_to_ a b ∷ t) e (suc k) h = disjoint-from (suc b) t (first-range f a b t e .rest) k (le-of-suc-le-suc h)
 
 -- a table that passes the test keeps document 01's rule
 pub ascending : (t : List Range) → ascendingFrom 0 t ≡ true → Ascending t
@@ -119,7 +119,7 @@ ascending t e = record { ordered = ordered-from 0 t e; disjoint = disjoint-from 
 outside : (f : ℕ) (t : List Range) (c : ℕ) → ascendingFrom f t ≡ true → (0 < length t → c < low (rangeAt t 0)) → inRanges t c ≡ false
 outside f [] c e h = refl
 outside f (_to_ a b ∷ t) c e h =
-    let q = head f a b t e in
+    let q = first-range f a b t e in
     let z : c < a = h (suc-le-suc zero-le) in
     let y : between a b c ≡ false = between-out a b c (λ l. omega arith) in
     rw y (outside (suc b) t c (q .rest) (λ n. let i = low-from (suc b) t (q .rest) 0 n in omega arith))
@@ -128,10 +128,10 @@ outside f (_to_ a b ∷ t) c e h =
 found : (f : ℕ) (t : List Range) (c k : ℕ) → ascendingFrom f t ≡ true → k < length t → low (rangeAt t k) ≤ c → (suc k < length t → c < low (rangeAt t (suc k))) → inRanges t c ≡ leb c (high (rangeAt t k))
 found f [] c k e h l n = absurd (not-suc-le-zero h)
 found f (_to_ a b ∷ t) c zero e h l n =
-    let q = head f a b t e in
+    let q = first-range f a b t e in
     rw (le-leb a c l, outside (suc b) t c (q .rest) (λ m. n (suc-le-suc m))) (or-false (leb c b))
 found f (_to_ a b ∷ t) c (suc k) e h l n =
-    let q = head f a b t e in
+    let q = first-range f a b t e in
     let i = low-from (suc b) t (q .rest) k (le-of-suc-le-suc h) in
     let y : between a b c ≡ false = between-out a b c (λ m. omega arith) in
     rw y (found (suc b) t c k (q .rest) (le-of-suc-le-suc h) l (λ m. n (suc-le-suc m)))

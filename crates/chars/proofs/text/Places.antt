@@ -71,10 +71,10 @@ module _ (s : List ℕ) (i : ℕ) where
   -- ---- past ASCII
 
   pub wide-code : 0x80 ≤ getD s i 0 → 0x80 ≤ codeAt s i
-  wide-code h = ⊎-elim none (λ w. w .code) (wide (drop i s) (rw byte0 h))
+  wide-code h = ⊎-elim alone (λ w. w .code) (wide (drop i s) (rw byte0 h))
     where
-      none : width (drop i s) ≡ 0 → 0x80 ≤ codeAt s i
-      none e = let q : codeAt s i ≡ getD s i 0 = ap (λ w. codeOf w (drop i s)) e ∙ sym (code-one s i 0 (omega arith)) in omega arith
+      alone : width (drop i s) ≡ 0 → 0x80 ≤ codeAt s i
+      alone e = let q : codeAt s i ≡ getD s i 0 = ap (λ w. codeOf w (drop i s)) e ∙ sym (code-one s i 0 (omega arith)) in omega arith
 
   -- the bytes of a character after its first
   pub wide-tail : i < length s → (j : ℕ) → i < j → j < charEnd s i → (0x80 ≤ getD s j 0) × (getD s j 0 ≤ 0xBF)

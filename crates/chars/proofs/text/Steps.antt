@@ -19,7 +19,7 @@ use Rattle.chars.proofs.utf8.Widths.{width-within}
 pub record Stands (s : List ℕ) (i code w : ℕ) : Type 0 where
   pub width-is : width (drop i s) ≡ w
   pub code-is : codeOf w (drop i s) ≡ code
-  pub some : 1 ≤ w
+  pub least : 1 ≤ w
 
 pub char-stands : (s : List ℕ) (i code w : ℕ) → decoded.Char code w ≡ decodeAt s i → Stands s i code w
 unfolding decodeAt
@@ -31,7 +31,7 @@ char-stands s i code w e = go (eqb (width (drop i s)) 0) refl e
         let a : w ≡ width (drop i s) = cc in
         let b : code ≡ codeOf (width (drop i s)) (drop i s) = cc in
         let n = eqb-false (width (drop i s)) 0 z in
-        record { width-is = sym a; code-is = rw a (sym b); some = omega arith }
+        record { width-is = sym a; code-is = rw a (sym b); least = omega arith }
 
 pub nothing-stands : (s : List ℕ) (i : ℕ) → decoded.Nothing ≡ decodeAt s i → width (drop i s) ≡ 0
 unfolding decodeAt
@@ -47,7 +47,7 @@ unfolding stepAt charEnd
 step-char s i code w h d =
     let a = width-within s i (omega arith) in
     let q = d .width-is in
-    let k = d .some in
+    let k = d .least in
     let n : suc i + (w - 1) ≡ i + w = omega arith in
     (omega arith, sym (rw (lt-ltb i (length s) h, d .width-is, d .code-is, n)))
 

@@ -8,7 +8,7 @@ use native.Mathlib.Nat.{sub-self}
 use native.Mathlib.Omega.{arith}
 use Rattle.chars.specs.paper.Utf8.{width}
 use Rattle.chars.specs.paper.Text.{Char, Text, charsAt, from, place}
-use Rattle.chars.specs.promises.Texts.{Suffix, TextOf}
+use Rattle.chars.specs.promises.Texts.{Suffix, ScriptText}
 
 -- ---- suffixes
 
@@ -69,7 +69,7 @@ chars-length i zero (a ∷ t) = let h = chars-length (suc i) (width (a ∷ t) - 
 
 -- ---- texts of the script
 
-pub text-at : (script : List ℕ) (c : Char) (s : Text) → TextOf script (c ∷ s) → (from script (c .at) ≡ c ∷ s) × TextOf script s
+pub text-at : (script : List ℕ) (c : Char) (s : Text) → ScriptText script (c ∷ s) → (from script (c .at) ≡ c ∷ s) × ScriptText script s
 unfolding from
 text-at script c s (i, e) =
     let h = chars-cons i (drop i script) c s e in
@@ -79,16 +79,16 @@ text-at script c s (i, e) =
       (suc i + h .1, sym (h .2 ∙ ap (charsAt (suc i + h .1) 0) q)),
     )
 
-pub text-drop : (script : List ℕ) (k : ℕ) (s : Text) → TextOf script s → TextOf script (drop k s)
+pub text-drop : (script : List ℕ) (k : ℕ) (s : Text) → ScriptText script s → ScriptText script (drop k s)
 text-drop script zero s h = h
 text-drop script (suc k) [] h = h
 text-drop script (suc k) (c ∷ s) h = text-drop script k s (text-at script c s h .1)
 
-pub text-suffix : (script : List ℕ) (r s : Text) → Suffix r s → TextOf script s → TextOf script r
+pub text-suffix : (script : List ℕ) (r s : Text) → Suffix r s → ScriptText script s → ScriptText script r
 text-suffix script r s h t = rw (h .tail) (text-drop script (length s - length r) s t)
 
 -- a text is the script's text from its own place on
-pub text-place : (script : List ℕ) (s : Text) → TextOf script s → from script (place (length script) s) ≡ s
+pub text-place : (script : List ℕ) (s : Text) → ScriptText script s → from script (place (length script) s) ≡ s
 unfolding from charsAt
 text-place script [] h = ap (charsAt (length script) 0) (drop-of-length-le script {i = length script} (omega arith))
 text-place script (c ∷ s) h = text-at script c s h .0

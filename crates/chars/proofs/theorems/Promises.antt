@@ -46,7 +46,7 @@ all-ascending (u ∷ ts) e t m =
 
 next-end : (s : List ℕ) (i c w : ℕ) → Stands s i c w → charEnd s i ≡ i + w
 unfolding charEnd
-next-end s i c w h = let a = h .width-is in let b = h .some in omega arith
+next-end s i c w h = let a = h .width-is in let b = h .least in omega arith
 
 module _ (s : List ℕ) (i : ℕ) where
   nothing : width (drop i s) ≡ 0 → decodeAt s i ≡ decoded.Nothing
@@ -58,7 +58,7 @@ module _ (s : List ℕ) (i : ℕ) where
   one e = rw (e, ← code-one s i 1 (omega arith))
 
   ends : (c w : ℕ) → decoded.Char c w ≡ decodeAt s i → i < length s
-  ends c w e = let h = char-stands s i c w e in let a = h .width-is in let b = h .some in inside s i (λ z. omega arith)
+  ends c w e = let h = char-stands s i c w e in let a = h .width-is in let b = h .least in inside s i (λ z. omega arith)
 
   pub decoding : Decoding s i
   decoding = record {
@@ -67,7 +67,7 @@ module _ (s : List ℕ) (i : ℕ) where
         let a = h .width-is in
         let m = width-most (drop i s) in
         let l = width-within s i (let z = ends c w e in omega arith) in
-        (h .some, omega arith, omega arith);
+        (h .least, omega arith, omega arith);
     ascii = λ h l. one (ap width (here s i h) ∙ sym (row-00 (getD s i 0) (drop (i + 1) s) (omega arith) (omega arith)));
     tail = λ h l m. nothing (ap width (here s i h) ∙ sym (none-low (getD s i 0) (drop (i + 1) s) l m));
     high = λ h l. nothing (ap width (here s i h) ∙ sym (none-high (getD s i 0) (drop (i + 1) s) l));
@@ -165,6 +165,14 @@ class-laws = record {
   sign-no-start = classes.sign-no-start;
   under-no-id = classes.under-no-id;
   sign-no-id = classes.sign-no-id;
+  roman-start = classes.roman-start;
+  roman-no-id = classes.roman-no-id;
+  circled-no-start = classes.circled-no-start;
+  circled-no-id = classes.circled-no-id;
+  above-no-start = classes.above-no-start;
+  above-no-id = classes.above-no-id;
+  above-no-sign = classes.above-no-sign;
+  above-no-print = classes.above-no-print;
   byte-sign = classes.byte-sign;
   byte-start = classes.byte-start;
   byte-id = classes.byte-id;

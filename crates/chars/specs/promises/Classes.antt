@@ -9,7 +9,7 @@ use lib.Dec.{ltb}
 use Rattle.chars.specs.paper.Quoted.{between, codes, oneOf}
 use Rattle.chars.specs.paper.Ranges.{Range, Ascending}
 use Rattle.chars.specs.paper.Tables.{alphabeticTable, lowercaseTable, uppercaseTable, ndTable, alphaNotLetterTable}
-use Rattle.chars.specs.paper.Classes.{isIdStart, isIdChar, isOpSign}
+use Rattle.chars.specs.paper.Classes.{isIdStart, isIdChar, isOpSign, isPrintable}
 use Rattle.chars.specs.paper.Text.{Text, from, place, headIs, idChar}
 use Rattle.chars.specs.computed.Runs.{afterRun}
 use Rattle.chars.specs.code.Text.{codeAt, charEnd}
@@ -63,6 +63,15 @@ pub record ClassLaws : Type 0 where
   -- ---- id characters: neither `_` nor an operator sign is one
   pub under-no-id : (c : ℕ) → oneOf "_" c ≡ true → isIdChar c ≡ false
   pub sign-no-id : (c : ℕ) → isOpSign c ≡ true → isIdChar c ≡ false
+  -- ---- traps: U+2170 starts an identifier and never continues one; the circled letters do neither; past U+FFFF nothing is in a class
+  pub roman-start : isIdStart 0x2170 ≡ true
+  pub roman-no-id : isIdChar 0x2170 ≡ false
+  pub circled-no-start : (c : ℕ) → 0x24B6 ≤ c → c ≤ 0x24E9 → isIdStart c ≡ false
+  pub circled-no-id : (c : ℕ) → 0x24B6 ≤ c → c ≤ 0x24E9 → isIdChar c ≡ false
+  pub above-no-start : (c : ℕ) → 0xFFFF < c → isIdStart c ≡ false
+  pub above-no-id : (c : ℕ) → 0xFFFF < c → isIdChar c ≡ false
+  pub above-no-sign : (c : ℕ) → 0xFFFF < c → isOpSign c ≡ false
+  pub above-no-print : (c : ℕ) → 0xFFFF < c → isPrintable c ≡ false
   -- ---- ASCII by the byte
   pub byte-sign : (b : ℕ) → ltb b 0x80 && isOpSign b ≡ ltb b 0x80 && oneOf signs b
   pub byte-start : (b : ℕ) → ltb b 0x80 && isIdStart b ≡ ltb b 0x80 && lowStart b

@@ -15,8 +15,8 @@ pub record Suffix (r s : Text) : Type 0 where
   pub tail : r ≡ drop (length s - length r) s
 
 -- s is the script's text from some place on
-abbrev pub TextOf : List ℕ → Text → Type 0
-TextOf script s = (i : ℕ) × (from script i ≡ s)
+abbrev pub ScriptText : List ℕ → Text → Type 0
+ScriptText script s = (i : ℕ) × (from script i ≡ s)
 
 -- a class of ASCII characters without NUL
 pub record Ascii (p : ℕ → Bool) : Type 0 where
@@ -58,10 +58,10 @@ pub record TextLaws : Type 0 where
   pub suffix-same : {q r s : Text} → Suffix q s → Suffix r s → length q ≡ length r → q ≡ r
   pub drop-suffix : (k : ℕ) (s : Text) → Suffix (drop k s) s
   -- ---- texts of the script: each is the script's text from its own place on, and has no more characters than the script has bytes
-  pub text-at : (script : List ℕ) (c : Char) (s : Text) → TextOf script (c ∷ s) → (from script (c .at) ≡ c ∷ s) × TextOf script s
-  pub text-drop : (script : List ℕ) (k : ℕ) (s : Text) → TextOf script s → TextOf script (drop k s)
-  pub text-suffix : (script : List ℕ) (r s : Text) → Suffix r s → TextOf script s → TextOf script r
-  pub text-place : (script : List ℕ) (s : Text) → TextOf script s → from script (place (length script) s) ≡ s
+  pub text-at : (script : List ℕ) (c : Char) (s : Text) → ScriptText script (c ∷ s) → (from script (c .at) ≡ c ∷ s) × ScriptText script s
+  pub text-drop : (script : List ℕ) (k : ℕ) (s : Text) → ScriptText script s → ScriptText script (drop k s)
+  pub text-suffix : (script : List ℕ) (r s : Text) → Suffix r s → ScriptText script s → ScriptText script r
+  pub text-place : (script : List ℕ) (s : Text) → ScriptText script s → from script (place (length script) s) ≡ s
   pub from-length : (script : List ℕ) → length (from script 0) ≤ length script
   -- ---- runs: past a character of it the run is the same; where the test fails at once nothing is passed
   pub run-next : (p : Text → Bool) (s : List ℕ) (i : ℕ) → i < length s → p (from s i) ≡ true → afterRun p (from s (charEnd s i)) ≡ afterRun p (from s i)

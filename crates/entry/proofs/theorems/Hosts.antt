@@ -22,6 +22,7 @@ use Rattle.words.specs.Words.{blockOf}
 use Rattle.entry.specs.Theorems.{HostTheorems, Lends, Accepts}
 use Rattle.entry.proofs.host.Verdicts.{verdict-17, verdict-18, verdict-rest, room-granted, room-lacking, room-rejected}
 use Rattle.token.proofs.theorems.Theorems.{complete, refusal, need, answer-tokens, tokens-answer, theorems}
+use Rattle.entry.proofs.theorems.Examples.{examples}
 
 open ValidLaws valid-laws using (valid, longest-one, valid-all, all-valid)
 
@@ -136,8 +137,8 @@ module _ (script buffer block : List ℕ) where
   accepts L =
       record {
         exactly = (reading-by sees-host, λ h. let c = complete script (h .0) (h .1) in ap numberSeen (writes (h .0) (c .0) (h .1) (c .2)));
-        one = theorems script .one-reading;
-        tokens = λ ps h. let c = complete script ps h in (c .0, c .2);
+        one-reading = theorems script .one-reading;
+        has-tokens = λ ps h. let c = complete script ps h in (c .0, c .2);
         writes = writes;
       }
     where
@@ -159,4 +160,5 @@ module _ (script buffer block : List ℕ) where
         numbers = number-by sees-host;
         script-theorems = theorems script;
         accepts = accepts;
+        examples = examples;
       }

@@ -27,14 +27,14 @@ Lent = RefT (List ℕ)
 -- "As a part": no copy. It points into the script's own block, as many bytes past where the script begins as start says, and has the bytes from
 -- there to end.
 pub record PartOf (script : Lent) (a e : ℕ) (part : Lent) : Type 0 where
-  pub block : part .ptr .0 ≡ script .ptr .0
+  pub memory : part .ptr .0 ≡ script .ptr .0
   pub offset : part .ptr .1 ≡ script .ptr .1 + a
   pub bytes : part .now ≡ take (e - a) (drop a (script .now))
 
 -- Token text is the script's bytes from start to end, as a part; at 21 the empty part at 0.
 pub record TextPart (script : Lent) (a e : ℕ) (part : Lent) : Type 0 where
   pub text : hasText (script .now) a e ≡ true → PartOf script a e part
-  pub none : hasText (script .now) a e ≡ false → PartOf script 0 0 part
+  pub no-text : hasText (script .now) a e ≡ false → PartOf script 0 0 part
 
 -- the number for hosts
 abbrev pub textNumber : List ℕ → ℕ → ℕ → ℕ

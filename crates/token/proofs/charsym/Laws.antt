@@ -12,7 +12,7 @@ use Rattle.chars.specs.paper.Classes.{isIdStart, isOpSign, isPrintable}
 use Rattle.chars.specs.paper.Text.{Char, Text, from, place}
 use Rattle.chars.specs.computed.Runs.{afterRun}
 use Rattle.chars.proofs.Bools.{and-both}
-use Rattle.chars.specs.promises.Texts.{TextLaws, TextOf}
+use Rattle.chars.specs.promises.Texts.{TextLaws, ScriptText}
 use Rattle.chars.specs.promises.Classes.{ClassLaws}
 use Rattle.chars.proofs.theorems.Promises.{text-laws, class-laws}
 use Rattle.token.specs.paper.Tests.{begins, backslash, apostrophe, opSign, freeSign, opensComment, plainChar}
@@ -63,7 +63,7 @@ module _ (s : List ℕ) (i : ℕ) where
 
 -- ---- an escape, from behind its backslash
 
-text-within : (s : List ℕ) (t : Text) → TextOf s t → place (length s) t ≤ length s
+text-within : (s : List ℕ) (t : Text) → ScriptText s t → place (length s) t ≤ length s
 text-within s t (i, e) = rw (← e) (go (ltb i (length s)) refl)
   where
     go : (b : Bool) → ltb i (length s) ≡ b → place (length s) (from s i) ≤ length s

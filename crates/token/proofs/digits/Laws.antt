@@ -17,7 +17,7 @@ use Rattle.chars.specs.promises.Texts.{TextLaws, Ascii}
 use Rattle.chars.specs.promises.Codes.{CodeLaws}
 use Rattle.chars.proofs.theorems.Promises.{code-laws, text-laws}
 use Rattle.token.specs.paper.Tests.{isDigit, isHexDigit, digitValue, begins, hexDigit, hexAhead, longSuffix}
-use Rattle.token.specs.computed.Answer.{Found, read, readDigits, numberOf, scanNumber}
+use Rattle.token.specs.computed.Answer.{Found, numeral, readDigits, numberOf, scanNumber}
 use Rattle.token.specs.code.Cursor.{cursorAt}
 use Rattle.token.specs.code.Piece.{pieceOf}
 use Rattle.token.specs.code.Digits.{digitIn, digitOf, afterUpTo, valueOf, intOr}
@@ -158,7 +158,7 @@ module _ (p : ℕ → Bool) where
   up-full zero t h = refl
   up-full (suc m) t h = absurd (omega arith)
 
-  read-none : (base v : ℕ) (t : Text) → headIs p t ≡ false → readDigits p base v t ≡ read v t
+  read-none : (base v : ℕ) (t : Text) → headIs p t ≡ false → readDigits p base v t ≡ numeral v t
   unfolding readDigits
   read-none base v [] e = refl
   read-none base v (c ∷ t) e = rw (e, readDigits)
@@ -192,7 +192,7 @@ module _ (p : ℕ → Bool) (a : Ascii p) where
     unfolding readDigits
     read-next base v e = sym (ap (readDigits p base v) (class-at e .1) ∙ rw (e, readDigits))
 
-    pub read-stop : (base v : ℕ) → p (getD s i 0) ≡ false → read v (from s i) ≡ readDigits p base v (from s i)
+    pub read-stop : (base v : ℕ) → p (getD s i 0) ≡ false → numeral v (from s i) ≡ readDigits p base v (from s i)
     read-stop base v e = sym (read-none p base v (from s i) (head-byte p a s i ∙ e))
 
 -- ---- values in any base and below any limit
@@ -210,7 +210,7 @@ module _ (base : ℕ) (h : 1 ≤ base) where
   passes limit v d k q = let m = div-lt-iff-lt-mul h .0 q in omega (arith, m)
 
 -- at the script's end nothing more is read
-pub read-done : (p : ℕ → Bool) (base v : ℕ) (s : List ℕ) (i : ℕ) → length s ≤ i → read v (from s i) ≡ readDigits p base v (from s i)
+pub read-done : (p : ℕ → Bool) (base v : ℕ) (s : List ℕ) (i : ℕ) → length s ≤ i → numeral v (from s i) ≡ readDigits p base v (from s i)
 unfolding readDigits
 read-done p base v s i h = rw (at-end s i h)
 
@@ -256,7 +256,7 @@ overs v e = go (leb v 9223372036854775807) refl e
 -- the number that begins at start, whose digits of the value v end at end
 module _ (s : List ℕ) (start end v : ℕ) (h : start ≤ length s) where
   pub long-piece : v ≤ 9223372036854775807 → oneOf "Ll" (getD s end 0) ≡ true
-      → piece.Token (tk.LongLit v) (cursorAt (end + 1)) ≡ pieceOf (length s) (numberOf (from s start) (read v (from s end)))
+      → piece.Token (tk.LongLit v) (cursorAt (end + 1)) ≡ pieceOf (length s) (numberOf (from s start) (numeral v (from s end)))
   unfolding pieceOf
   long-piece k e =
       let c = class-at (oneOf "Ll") (ascii-list (codes "Ll") refl) s end e in
@@ -265,7 +265,7 @@ module _ (s : List ℕ) (start end v : ℕ) (h : start ≤ length s) where
       rw (q, le-leb v 9223372036854775807 k, r)
 
   pub int-piece : end ≤ length s → oneOf "Ll" (getD s end 0) ≡ false
-      → intOr start v (cursorAt end) ≡ pieceOf (length s) (numberOf (from s start) (read v (from s end)))
+      → intOr start v (cursorAt end) ≡ pieceOf (length s) (numberOf (from s start) (numeral v (from s end)))
   unfolding pieceOf intOr
   int-piece k e =
       let q : longSuffix (from s end) ≡ false = any-byte "Ll" refl s end ∙ e in
@@ -277,7 +277,7 @@ module _ (s : List ℕ) (start end v : ℕ) (h : start ≤ length s) where
       go false = rw (place-from s start h)
 
 module _ (s : List ℕ) (start : ℕ) (h : start ≤ length s) where
-  over-piece : (v : ℕ) (r : Text) → 9223372036854775807 < v → piece.Refused 6 start ≡ pieceOf (length s) (numberOf (from s start) (read v r))
+  over-piece : (v : ℕ) (r : Text) → 9223372036854775807 < v → piece.Refused 6 start ≡ pieceOf (length s) (numberOf (from s start) (numeral v r))
   unfolding pieceOf
   over-piece v r k = rw (lt-leb v 9223372036854775807 k, lt-leb v 2147483647 (omega arith)) (go (longSuffix r))
     where

@@ -19,14 +19,14 @@ use Rattle.words.proofs.Stores.{after}
 -- ---- lengths
 
 pub known-least : {n : ℕ} → Known n → headLength ≤ n
-known-least Known.head = omega arith
+known-least Known.bare = omega arith
 known-least Known.line = omega arith
 known-least Known.int = omega arith
 known-least Known.long = omega arith
 known-least Known.str = omega arith
 
 pub known-most : {n : ℕ} → Known n → n ≤ mostLength
-known-most Known.head = omega arith
+known-most Known.bare = omega arith
 known-most Known.line = omega arith
 known-most Known.int = omega arith
 known-most Known.long = omega arith
@@ -34,7 +34,7 @@ known-most Known.str = omega arith
 
 -- no other length is left
 pub known-else : {n : ℕ} → Known n → (n ≡ lineLength → ⊥) → (n ≡ intLength → ⊥) → (n ≡ longLength → ⊥) → n ≡ headLength
-known-else Known.head a b c = refl
+known-else Known.bare a b c = refl
 known-else Known.line a b c = absurd (a refl)
 known-else Known.int a b c = absurd (b refl)
 known-else Known.long a b c = absurd (c refl)
@@ -132,25 +132,25 @@ form-values (tk.Kw k) = refl
 
 pub form-known : (k : TokenKind) → Known (formOf k .length)
 unfolding formOf recordLength values le4 le8
-form-known tk.Ident = Known.head
-form-known tk.OpId = Known.head
-form-known tk.BacktickId = Known.head
+form-known tk.Ident = Known.bare
+form-known tk.OpId = Known.bare
+form-known tk.BacktickId = Known.bare
 form-known (tk.IntLit v) = Known.int
 form-known (tk.LongLit v) = Known.long
 form-known (tk.Str a e) = Known.str
-form-known tk.CharSym = Known.head
-form-known tk.LParen = Known.head
-form-known tk.RParen = Known.head
-form-known tk.LBracket = Known.head
-form-known tk.RBracket = Known.head
-form-known tk.LBrace = Known.head
-form-known tk.RBrace = Known.head
-form-known tk.Comma = Known.head
-form-known tk.Semi = Known.head
-form-known tk.Dot = Known.head
+form-known tk.CharSym = Known.bare
+form-known tk.LParen = Known.bare
+form-known tk.RParen = Known.bare
+form-known tk.LBracket = Known.bare
+form-known tk.RBracket = Known.bare
+form-known tk.LBrace = Known.bare
+form-known tk.RBrace = Known.bare
+form-known tk.Comma = Known.bare
+form-known tk.Semi = Known.bare
+form-known tk.Dot = Known.bare
 form-known (tk.Newline mark) = Known.line
-form-known tk.Eof = Known.head
-form-known (tk.Kw k) = Known.head
+form-known tk.Eof = Known.bare
+form-known (tk.Kw k) = Known.bare
 
 pub form-length : (k : TokenKind) → formOf k .length ≡ recordLength k
 unfolding formOf
@@ -178,7 +178,7 @@ length-by f k e = rw e (form-length k)
 
 -- a kind without values
 pub plain-known : (f : Form) (n : ℕ) → f ≡ plainForm n → Known (f .length)
-plain-known f n e = rw e Known.head
+plain-known f n e = rw e Known.bare
 
 pub plain-length : (f : Form) (n : ℕ) → f ≡ plainForm n → f .length ≡ headLength
 plain-length f n e = rw e

@@ -29,7 +29,7 @@ held-on bytes at = simp (values-from, two-from, four-from, getD-drop, add-zero)
 
 values-back : {n : ℕ} (v : ℕ) (rest : List ℕ) → Known n → v < 256 ^ (n - headLength) → valuesAt (take (n - headLength) (le8 v) ++ rest) 0 n ≡ v
 unfolding valuesAt le8 le4
-values-back v rest Known.head h = omega arith
+values-back v rest Known.bare h = omega arith
 values-back v rest Known.line h = ap (λ l. oneAt (l ++ rest) 0) (take-one v) ∙ mod-eq-of-lt h
 values-back v rest Known.int h = ap (λ l. fourAt (l ++ rest) 0) (take-four v) ∙ four-le4 (v % 4294967296) rest (omega arith) ∙ omega arith
 values-back v rest Known.long h = ap (λ l. eightAt (l ++ rest) 0) (take-eight v) ∙ eight-le8 v rest h
@@ -53,7 +53,7 @@ read-back f start end cut rest h =
 
 values-again : {n : ℕ} (l : List ℕ) → Known n → Bytes l → n ≤ headLength + length l → take (n - headLength) (le8 (valuesAt l 0 n)) ≡ take (n - headLength) l
 unfolding valuesAt
-values-again l Known.head h k = refl
+values-again l Known.bare h k = refl
 values-again [] Known.line h k = absurd (omega arith)
 values-again (x ∷ l) Known.line h k = take-one x ∙ rw (mod-eq-of-lt (h 0))
 values-again l Known.int h k = take-four (fourAt l 0) ∙ low-four (fourAt l 0) ∙ le4-four l h (omega arith)

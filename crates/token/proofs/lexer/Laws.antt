@@ -20,7 +20,7 @@ use Rattle.chars.proofs.theorems.Promises.{code-laws, text-laws}
 use Rattle.token.specs.paper.Tests.{isAny, begins, digit, isDigit, quote, apostrophe, opSign, opensLine, opensBlock, opensComment, isHexDigit, hexAhead, longSuffix, notBacktick, freeSign, backslash, plainChar, endOfLine}
 use Rattle.token.specs.code.Lexer.{wordless, seek, nextOf, passedOf}
 use Rattle.token.specs.computed.Flags.{GapKind, push, cutOf}
-use Rattle.token.specs.computed.Answer.{Found, Start, startOf, signOf, scan, scanAs, scanReturn, scanLine, scanBlock, blockOr, close, Read, read, readDigits, numberOf, scanNumber, Closing, closed, wrong, closeString, prefixedOf, plainOf, orPrefixed, afterIdent, codesTo, wordOr, scanIdent, runOr, scanOperator, backtickOr, scanBacktick, scanString, Esc, unbroken, broken, afterSlash, escapedOf, scanCharSym}
+use Rattle.token.specs.computed.Answer.{Found, Start, startOf, signOf, scan, scanAs, scanReturn, scanLine, scanBlock, blockOr, close, Numeral, numeral, readDigits, numberOf, scanNumber, Closing, closed, wrong, closeString, prefixedOf, plainOf, orPrefixed, afterIdent, codesTo, wordOr, scanIdent, runOr, scanOperator, backtickOr, scanBacktick, scanString, Esc, unbroken, broken, afterSlash, escapedOf, scanCharSym}
 use Rattle.token.specs.code.Cursor.{cursorAt}
 use Rattle.token.specs.code.Piece.{pieceOf}
 use Rattle.token.specs.code.Gap.{closedOf}
@@ -177,8 +177,8 @@ number-gapless : (s : Text) → gapless (scanNumber s) ≡ true
 unfolding scanNumber
 number-gapless s = go (cond (hexAhead s) (readDigits isHexDigit 16 0 (drop 2 s)) (readDigits isDigit 10 0 s))
   where
-    go : (x : Read) → gapless (numberOf s x) ≡ true
-    go (read v r) = pick-gapless (longSuffix r) _ _ (pick-gapless (leb v 9223372036854775807) _ _ refl refl) (pick-gapless (leb v 2147483647) _ _ refl refl)
+    go : (x : Numeral) → gapless (numberOf s x) ≡ true
+    go (numeral v r) = pick-gapless (longSuffix r) _ _ (pick-gapless (leb v 9223372036854775807) _ _ refl refl) (pick-gapless (leb v 2147483647) _ _ refl refl)
 
 prefixed-gapless : (n : ℕ) (s : Text) (x : Closing) → gapless (prefixedOf n s x) ≡ true
 prefixed-gapless n s (closed r) = refl

@@ -18,7 +18,7 @@ use Rattle.token.specs.computed.Answer.{closed, closeString, strip, plai
 use Rattle.token.specs.code.String.{lastOff, eightsOff, SameContent}
 use Rattle.token.specs.code.Ident.{LeftOf}
 use Rattle.chars.specs.code.Runs.{eightIn}
-use Rattle.chars.specs.promises.Texts.{TextLaws, TextOf}
+use Rattle.chars.specs.promises.Texts.{TextLaws, ScriptText}
 use Rattle.chars.specs.promises.Runs.{RunLaws}
 use Rattle.chars.proofs.theorems.Promises.{text-laws, run-laws}
 use Rattle.token.specs.declared.kinds.TokenKind.the-variants as tk
@@ -67,7 +67,7 @@ strip-only (c ∷ t) (d ∷ back) x y k e h l =
 
 -- ---- the last character before b
 
-module _ (s : List ℕ) (b : ℕ) (within : b ≤ length s) (d : Char) (stands : TextOf s (d ∷ from s b)) where
+module _ (s : List ℕ) (b : ℕ) (within : b ≤ length s) (d : Char) (stands : ScriptText s (d ∷ from s b)) where
   here : from s (d .at) ≡ d ∷ from s b
   here = text-at s d (from s b) stands .0
 
@@ -259,7 +259,7 @@ module _ (s : List ℕ) (start end a b : ℕ) (h : Left s start end a b) (k : a 
     rest : from s (a + 1) ≡ w ++ (d ∷ from s b)
     rest = tail c v x ∙ more (from s b)
 
-    stands : TextOf s (d ∷ from s b)
+    stands : ScriptText s (d ∷ from s b)
     stands = rw (← drop-append-seam w (d ∷ from s b), ← rest) (text-drop s (length w) (from s (a + 1)) (a + 1, refl))
 
     further : a + 1 < b

@@ -11,7 +11,7 @@ use lib.ListN.{length, take-append-drop}
 use native.Mathlib.Omega.{arith}
 use Rattle.chars.specs.paper.Utf8.{width}
 use Rattle.chars.specs.paper.Text.{Text, charsAt, from, place}
-use Rattle.chars.specs.promises.Texts.{TextLaws, Suffix, TextOf}
+use Rattle.chars.specs.promises.Texts.{TextLaws, Suffix, ScriptText}
 use Rattle.chars.proofs.theorems.Promises.{text-laws}
 use Rattle.words.specs.Words.{le4, le8}
 use Rattle.token.specs.paper.Kinds.{Kind, TokenType, withoutValues, kwNumber, kindNumber, Token}
@@ -192,7 +192,7 @@ valued-within {n} {s} {r} h w (Valued.plain q c) =
 valued-within {n} {s} {r} h w (Valued.bare {t} e) = rw e at (bare-within (place n s) (place n r) t)
 
 module _ (script : List ℕ) where
-  tokens-bounded : {gap ps : List Piece} {ts : List Token} {s r : Text} → TextOf script s → Rising (length script) s
+  tokens-bounded : {gap ps : List Piece} {ts : List Token} {s r : Text} → ScriptText script s → Rising (length script) s
       → Pieces (length script) s ps r → Tokens script gap ps ts → AllBounded (length script) ts
   tokens-bounded t h Pieces.done (Tokens.eof c) = (record { start = omega arith; end = omega arith; values = tt }, tt)
   tokens-bounded t h (Pieces.piece {k} {s} {m} w v) (Tokens.skip o x) =

@@ -5,7 +5,7 @@ use mathlib.Core.Path.{_≡_, refl, sym, _∙_, ap}
 use mathlib.Core.Bool.{Bool, true, false, cond, not, _&&_, _||_}
 use mathlib.Core.Logic.{_⊎_, inl, inr}
 use mathlib.Core.List.{[], _∷_}
-use mathlib.Core.Option.{none, some}
+use mathlib.Core.Option.{some}
 use lib.ListN.{drop}
 use lib.Dec.{eqb, leb}
 use native.Mathlib.Omega.{arith}
@@ -373,9 +373,9 @@ unfolding scanReturn HasShape begins
 return-scan n [] e = clash e
 return-scan n (c ∷ s) e = go (begins "\r\n" (c ∷ s)) refl
   where
-    none : (b : Bool) → eqb (c .code) 13 ≡ b → b || false ≡ true → endsLine (c ∷ s) ≡ begins "\r\n" (c ∷ s)
-    none true q f = let z = eqb-true (c .code) 13 q in rw z
-    none false q f = clash f
+    cr-alone : (b : Bool) → eqb (c .code) 13 ≡ b → b || false ≡ true → endsLine (c ∷ s) ≡ begins "\r\n" (c ∷ s)
+    cr-alone true q f = let z = eqb-true (c .code) 13 q in rw z
+    cr-alone false q f = clash f
 
     go : (b : Bool) → begins "\r\n" (c ∷ s) ≡ b
         → ((r : Text) × (scanReturn (c ∷ s) ≡ Found.gap GapKind.lineEnd r) × HasShape Kind.lineEnd (c ∷ s) r) ⊎ Fell (c ∷ s) (scanReturn (c ∷ s))
@@ -384,7 +384,7 @@ return-scan n (c ∷ s) e = go (begins "\r\n" (c ∷ s)) refl
         second : (s : Text) → startsWith (codes "\n") s ≡ true → One (isAny "\n") s (drop 1 s)
         second [] e = clash e
         second (d ∷ s) e = One.one {c = d} {s = s} (rw (and-both (eqb (d .code) 10) true e .0))
-    go false b = inr (record { number = 1; rest = c ∷ s; found = rw b; met = Met.m1 e (none (eqb (c .code) 13) refl e ∙ b) })
+    go false b = inr (record { number = 1; rest = c ∷ s; found = rw b; met = Met.m1 e (cr-alone (eqb (c .code) 13) refl e ∙ b) })
 
 clear-by : (s : Text) → opensLine s ≡ false → opensBlock s ≡ false → opensComment s ≡ false
 clear-by s a b = rw (a, b)

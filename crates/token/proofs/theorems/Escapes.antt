@@ -27,17 +27,17 @@ hexes-found (suc n) k (Times.more {c} {s} e w) =
     (rw e (h .0 ∙ ap unbroken (omega arith)), h .1)
 
 pub record Lacks (n k : ℕ) (s : Text) : Type 0 where
-  pub some : ℕ
+  pub stood : ℕ
   pub rest : Text
-  pub fewer : some < n
+  pub fewer : stood < n
   pub found : exactHexes n k s ≡ broken 13 rest
-  pub times : Times hexDigit some s rest
+  pub times : Times hexDigit stood s rest
   pub lacks : hexDigit rest ≡ false
 
 hexes-finds : (n k : ℕ) (s : Text) → ((exactHexes n k s ≡ unbroken (k + n)) × Times hexDigit n s (drop n s)) ⊎ Lacks n k s
 unfolding exactHexes
 hexes-finds zero k s = inl (ap unbroken (omega arith), Times.done)
-hexes-finds (suc n) k [] = inr (record { some = 0; rest = []; fewer = omega arith; found = refl; times = Times.done; lacks = refl })
+hexes-finds (suc n) k [] = inr (record { stood = 0; rest = []; fewer = omega arith; found = refl; times = Times.done; lacks = refl })
 hexes-finds (suc n) k (c ∷ s) = go (isHexDigit (c .code)) refl (hexes-finds n (suc k) s)
   where
     go : (b : Bool) → isHexDigit (c .code) ≡ b → ((exactHexes n (suc k) s ≡ unbroken (suc k + n)) × Times hexDigit n s (drop n s)) ⊎ Lacks n (suc k) s
@@ -45,14 +45,14 @@ hexes-finds (suc n) k (c ∷ s) = go (isHexDigit (c .code)) refl (hexes-finds n 
     go true e (inl h) = inl (rw e (h .0 ∙ ap unbroken (omega arith)), Times.more e (h .1))
     go true e (inr l) =
         inr (record {
-          some = suc (l .some);
+          stood = suc (l .stood);
           rest = l .rest;
           fewer = omega (arith, l .fewer);
           found = rw e (l .found);
           times = Times.more e (l .times);
           lacks = l .lacks;
         })
-    go false e h = inr (record { some = 0; rest = c ∷ s; fewer = omega arith; found = rw e; times = Times.done; lacks = e })
+    go false e h = inr (record { stood = 0; rest = c ∷ s; fewer = omega arith; found = rw e; times = Times.done; lacks = e })
 
 -- at most n digits
 upto-found : (n k : ℕ) {s r : Text} → UpTo digit n s r → (m : ℕ) × (digitsUpTo n k s ≡ k + m) × (r ≡ drop m s)
@@ -139,7 +139,7 @@ slash-finds (b ∷ c ∷ t) e = go (simple (c .code)) (isDigit (c .code)) (oneOf
           number = 13;
           rest = l .rest;
           found = rw (x, y, z) (l .found);
-          wrong = BadEscape.e13 (l .some) (l .fewer) (both (One.one e) (both (One.one z) (l .times))) (l .lacks);
+          wrong = BadEscape.e13 (l .stood) (l .fewer) (both (One.one e) (both (One.one z) (l .times))) (l .lacks);
         })
 
     number : simple (c .code) ≡ false → isDigit (c .code) ≡ true → (m : ℕ) × (digitsUpTo 2 1 t ≡ 1 + m) × UpTo digit 2 t (drop m t) → Good (b ∷ c ∷ t)

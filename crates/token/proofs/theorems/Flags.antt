@@ -273,16 +273,16 @@ knows-fresh script s =
     record {
       newline = refl;
       comment = ((λ e. clash e), λ h. clash (nothing (h .front) (h .back) (h .split) (h .comment)));
-      cut = ((λ e. clash e), λ h. none (h .front) (h .back) _ (h .split));
+      cut = ((λ e. clash e), λ h. no-front (h .front) (h .back) _ (h .split));
     }
   where
     nothing : (f b : List Piece) → [] ≡ f ++ b → hasPiece isComment b ≡ true → false ≡ true
     nothing [] b e c = ap (hasPiece isComment) e ∙ c
     nothing (x ∷ f) b e c = no-cons x (f ++ b) e
 
-    none : (f b : List Piece) (x : Piece) → [] ≡ f ++ (x ∷ b) → false ≡ true
-    none [] b x e = no-cons x b e
-    none (y ∷ f) b x e = no-cons y (f ++ (x ∷ b)) e
+    no-front : (f b : List Piece) (x : Piece) → [] ≡ f ++ (x ∷ b) → false ≡ true
+    no-front [] b x e = no-cons x b e
+    no-front (y ∷ f) b x e = no-cons y (f ++ (x ∷ b)) e
 
 -- a cut that p, which is no block comment, leaves as it is
 same-cut : (script : List ℕ) (gap : List Piece) (p : Piece) {b : Bool} → b ≡ true ↔ Cut script gap → (p .kind ≡ Kind.blockComment → ⊥)

@@ -18,7 +18,7 @@ use Rattle.token.specs.paper.Kinds.{TokenType}
 use Rattle.token.specs.paper.Shapes.{One, both, codesOf, valueOfDigits, Digits, limit, NumberText, Number, TokenShape}
 use Rattle.token.specs.paper.Reading.{Valued}
 use Rattle.token.specs.paper.Refusals.{Met}
-use Rattle.token.specs.computed.Answer.{Found, read, readDigits, numberOf, scanNumber}
+use Rattle.token.specs.computed.Answer.{Found, numeral, readDigits, numberOf, scanNumber}
 use Rattle.token.specs.declared.kinds.TokenKind.{TokenKind}
 use Rattle.token.specs.declared.kinds.TokenKind.the-variants as tk
 use Rattle.token.proofs.theorems.Runs.{codes-none, codes-more, run-after, run-suffix, run1-finds, run1-found}
@@ -46,23 +46,23 @@ abbrev pub digitsOf : (ℕ → Bool) → Text → List ℕ
 digitsOf p s = codesOf s (afterRun (headIs p) s)
 
 -- reading digits gives their value and what follows their run
-pub read-is : (p : ℕ → Bool) (b v : ℕ) (s : Text) → readDigits p b v s ≡ read (valueAfter b v (digitsOf p s)) (afterRun (headIs p) s)
+pub read-is : (p : ℕ → Bool) (b v : ℕ) (s : Text) → readDigits p b v s ≡ numeral (valueAfter b v (digitsOf p s)) (afterRun (headIs p) s)
 unfolding readDigits afterRun
-read-is p b v [] = ap (λ x. read x []) (after-none b v)
+read-is p b v [] = ap (λ x. numeral x []) (after-none b v)
 read-is p b v (c ∷ s) = go (p (c .code)) refl (read-is p b (v * b + digitValue (c .code)) s)
   where
     r : Text
     r = afterRun (headIs p) s
 
-    go : (t : Bool) → p (c .code) ≡ t → readDigits p b (v * b + digitValue (c .code)) s ≡ read (valueAfter b (v * b + digitValue (c .code)) (codesOf s r)) r
-        → readDigits p b v (c ∷ s) ≡ read (valueAfter b v (digitsOf p (c ∷ s))) (afterRun (headIs p) (c ∷ s))
+    go : (t : Bool) → p (c .code) ≡ t → readDigits p b (v * b + digitValue (c .code)) s ≡ numeral (valueAfter b (v * b + digitValue (c .code)) (codesOf s r)) r
+        → readDigits p b v (c ∷ s) ≡ numeral (valueAfter b v (digitsOf p (c ∷ s))) (afterRun (headIs p) (c ∷ s))
     go true e h =
         let w = run-suffix (headIs p) (run-after (headIs p) s) .within in
-        rw e (h ∙ ap (λ x. read x r) (after-digit b v (c .code) (codesOf s r) ∙ ap (valueAfter b v) (sym (codes-more c s r w))))
-    go false e h = rw e (ap (λ x. read x (c ∷ s)) (after-none b v ∙ ap (valueAfter b v) (sym (codes-none (c ∷ s)))))
+        rw e (h ∙ ap (λ x. numeral x r) (after-digit b v (c .code) (codesOf s r) ∙ ap (valueAfter b v) (sym (codes-more c s r w))))
+    go false e h = rw e (ap (λ x. numeral x (c ∷ s)) (after-none b v ∙ ap (valueAfter b v) (sym (codes-none (c ∷ s)))))
 
-read-all : (p : ℕ → Bool) (b : ℕ) (s : Text) → readDigits p b 0 s ≡ read (valueOfDigits b (digitsOf p s)) (afterRun (headIs p) s)
-read-all p b s = read-is p b 0 s ∙ ap (λ x. read x (afterRun (headIs p) s)) (omega arith)
+read-all : (p : ℕ → Bool) (b : ℕ) (s : Text) → readDigits p b 0 s ≡ numeral (valueOfDigits b (digitsOf p s)) (afterRun (headIs p) s)
+read-all p b s = read-is p b 0 s ∙ ap (λ x. numeral x (afterRun (headIs p) s)) (omega arith)
 
 -- ---- what the scanner finds
 
@@ -72,11 +72,11 @@ digitsEnd s = cond (hexAhead s) (afterRun hexDigit (drop 2 s)) (afterRun digit s
 unfoldable pub digitsValue : Text → ℕ
 digitsValue s = cond (hexAhead s) (valueOfDigits 16 (digitsOf isHexDigit (drop 2 s))) (valueOfDigits 10 (digitsOf isDigit s))
 
-scan-number : (s : Text) → scanNumber s ≡ numberOf s (read (digitsValue s) (digitsEnd s))
+scan-number : (s : Text) → scanNumber s ≡ numberOf s (numeral (digitsValue s) (digitsEnd s))
 unfolding scanNumber digitsValue
 scan-number s = rw (read-all isHexDigit 16 (drop 2 s), read-all isDigit 10 s) (go (hexAhead s) _ _ _ _)
   where
-    go : (b : Bool) (v w : ℕ) (q r : Text) → numberOf s (cond b (read v q) (read w r)) ≡ numberOf s (read (cond b v w) (cond b q r))
+    go : (b : Bool) (v w : ℕ) (q r : Text) → numberOf s (cond b (numeral v q) (numeral w r)) ≡ numberOf s (numeral (cond b v w) (cond b q r))
     go true v w q r = refl
     go false v w q r = refl
 

@@ -31,8 +31,8 @@ open ClassLaws class-laws using (slash-sign)
 
 -- ---- texts that begin with a given start
 
-abbrev char : ℕ → Char
-char x = record { code = x; at = 0 }
+abbrev lone : ℕ → Char
+lone x = record { code = x; at = 0 }
 
 own-shape : (k : Kind) (c : Char) (s r : Text) → HasShape k (c ∷ s) r → StartsShape (c .code)
 own-shape k c s r h = StartsShape.shape k c s r refl h
@@ -47,54 +47,54 @@ isToken (Found.gap g r) = false
 isToken (Found.token t r) = true
 isToken (Found.stuck j q) = false
 
-small-digits : every (λ x. isToken (scanNumber (char x ∷ []))) (codes "0123456789") ≡ true
+small-digits : every (λ x. isToken (scanNumber (lone x ∷ []))) (codes "0123456789") ≡ true
 unfolding scanNumber readDigits begins isDigit isHexDigit
 small-digits = refl
 
 digit-shape : (x : ℕ) → isDigit x ≡ true → StartsShape x
-digit-shape x e = go (number-stands 0 (char x ∷ []) e)
+digit-shape x e = go (number-stands 0 (lone x ∷ []) e)
   where
-    small : isToken (scanNumber (char x ∷ [])) ≡ true
-    small = carry (λ y. isToken (scanNumber (char y ∷ []))) (codes "0123456789") x small-digits (digit-one x e)
+    small : isToken (scanNumber (lone x ∷ [])) ≡ true
+    small = carry (λ y. isToken (scanNumber (lone y ∷ []))) (codes "0123456789") x small-digits (digit-one x e)
 
-    go : Stood 0 (char x ∷ []) (scanNumber (char x ∷ []))
-        ⊎ ((scanNumber (char x ∷ []) ≡ Found.stuck 6 (char x ∷ [])) × Met (char x ∷ []) 6 (char x ∷ [])) → StartsShape x
-    go (inl h) = stood-shape 0 (char x) [] _ h
+    go : Stood 0 (lone x ∷ []) (scanNumber (lone x ∷ []))
+        ⊎ ((scanNumber (lone x ∷ []) ≡ Found.stuck 6 (lone x ∷ [])) × Met (lone x ∷ []) 6 (lone x ∷ [])) → StartsShape x
+    go (inl h) = stood-shape 0 (lone x) [] _ h
     go (inr h) = clash (sym (ap isToken (h .0)) ∙ small)
 
 -- an identifier of one character
 word-shape : (x : ℕ) → isIdStart x ≡ true → StartsShape x
 unfolding begins afterIdent
-word-shape x e = stood-shape 0 (char x) [] _ (ident-stands 0 (char x ∷ []) e (inl refl))
+word-shape x e = stood-shape 0 (lone x) [] _ (ident-stands 0 (lone x ∷ []) e (inl refl))
 
 slash-shape : StartsShape 47
 unfolding begins
-slash-shape = stood-shape 0 (char 47) [] _ (operator-stands 0 (char 47 ∷ []) (rw slash-sign))
+slash-shape = stood-shape 0 (lone 47) [] _ (operator-stands 0 (lone 47 ∷ []) (rw slash-sign))
 
 -- CR LF
 return-shape : StartsShape 13
 unfolding HasShape
-return-shape = StartsShape.shape Kind.lineEnd (char 13) (char 10 ∷ []) [] refl (inr (both (One.one refl) (One.one refl)))
+return-shape = StartsShape.shape Kind.lineEnd (lone 13) (lone 10 ∷ []) [] refl (inr (both (One.one refl) (One.one refl)))
 
 -- a backtick, `n`, a backtick
 backtick-shape : StartsShape 96
 unfolding HasShape TokenShape begins
 backtick-shape =
-    StartsShape.shape (Kind.token TokenType.backtickId) (char 96) (char 110 ∷ char 96 ∷ []) [] refl
+    StartsShape.shape (Kind.token TokenType.backtickId) (lone 96) (lone 110 ∷ lone 96 ∷ []) [] refl
     (both (One.one refl) (both (Run1.run refl Run.stop) (One.one refl)), refl)
 
 -- `""`
 quote-shape : StartsShape 34
 unfolding HasShape TokenShape begins
 quote-shape =
-    StartsShape.shape (Kind.token TokenType.str) (char 34) (char 34 ∷ []) [] refl
+    StartsShape.shape (Kind.token TokenType.str) (lone 34) (lone 34 ∷ []) [] refl
     (inl (Body.single refl (both (One.one refl) (both Single.done (One.one refl)))))
 
 -- `'\n'`
 tick-shape : StartsShape 39
 unfolding HasShape TokenShape begins
 tick-shape =
-    StartsShape.shape (Kind.token TokenType.charSym) (char 39) (char 92 ∷ char 110 ∷ char 39 ∷ []) [] refl
+    StartsShape.shape (Kind.token TokenType.charSym) (lone 39) (lone 92 ∷ lone 110 ∷ lone 39 ∷ []) [] refl
     (inl (inl (both (One.one refl) (both (Escape.simple (both (One.one refl) (One.one refl))) (One.one refl)))))
 
 -- ---- every start has one

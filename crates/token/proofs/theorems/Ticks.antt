@@ -147,10 +147,10 @@ tick-stands n (t ∷ m) e = go (backslash m) refl
     symbol : backslash m ≡ false → charAhead m ≡ false → (r : Text) → Name m r → TokenShape TokenType.charSym (t ∷ m) r
     symbol k f r h = unfold TokenShape in (inr (both (One.one e) h, no-char t m k f, k))
 
-    none : headIs isIdStart m ≡ false → freeSign m ≡ false → semiAhead m ≡ false → (r : Text) → NameIs m r → ⊥
-    none x y z r (NameIs.word a b) = clash (sym x ∙ a)
-    none x y z r (NameIs.run a b) = clash (sym y ∙ a)
-    none x y z r (NameIs.semi a b c) = clash (sym z ∙ rw (a, b))
+    no-name : headIs isIdStart m ≡ false → freeSign m ≡ false → semiAhead m ≡ false → (r : Text) → NameIs m r → ⊥
+    no-name x y z r (NameIs.word a b) = clash (sym x ∙ a)
+    no-name x y z r (NameIs.run a b) = clash (sym y ∙ a)
+    no-name x y z r (NameIs.semi a b c) = clash (sym z ∙ rw (a, b))
 
     names : (x y z : Bool) → backslash m ≡ false → charAhead m ≡ false → headIs isIdStart m ≡ x → freeSign m ≡ y → semiAhead m ≡ z → Answer
     names true y z k f ex ey ez = inl (stood (afterIdent false (drop 1 m)) (scan-tick t m ∙ rw (f, k, ex)) (symbol k f _ (inl (ident-finds m ex))))
@@ -172,7 +172,7 @@ tick-stands n (t ∷ m) e = go (backslash m) refl
         bad-name r h = below r (h .0)
           where
             below : (r : Text) → (One apostrophe then Name) (t ∷ m) r → ⊥
-            below r (both (One.one u) w) = none ex ey ez r (name-is m r w)
+            below r (both (One.one u) w) = no-name ex ey ez r (name-is m r w)
 
     chars : (b : Bool) → backslash m ≡ false → charAhead m ≡ b → Answer
     chars true k f = inl (stood (drop 2 m) (scan-tick t m ∙ rw (f, k)) (unfold TokenShape in (inl (char-stands t m e f))))

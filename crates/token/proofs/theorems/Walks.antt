@@ -7,7 +7,7 @@ use mathlib.Core.List.{List, [], _∷_, _++_}
 use lib.ListN.{length, drop}
 use native.Mathlib.Omega.{arith}
 use Rattle.chars.specs.paper.Text.{Char, Text, from, place}
-use Rattle.chars.specs.promises.Texts.{TextLaws, TextOf}
+use Rattle.chars.specs.promises.Texts.{TextLaws, ScriptText}
 use Rattle.chars.proofs.theorems.Promises.{text-laws}
 use Rattle.token.specs.paper.Kinds.{Kind, TokenType, isComment, Token}
 use Rattle.token.specs.paper.Shapes.{Stands}
@@ -124,7 +124,7 @@ module _ (script : List ℕ) where
       Walked.reads _ _ (e ∙ ap (prepend _) f) (Pieces.piece h x) (Tokens.token refl u o y) (before-bytes t _ _ cut ts (length s) (length r) b l)
   tokened gap k t cut s r v w e o u h (Walked.stops ps c a z f x y) = Walked.stops _ c a z (e ∙ ap (prepend _) f) (Pieces.piece h x) y
 
-  pub walk-finds : (fuel : ℕ) (s : Text) (gap : List Piece) (f : Gap) → length s ≤ fuel → TextOf script s → Knows script gap f s
+  pub walk-finds : (fuel : ℕ) (s : Text) (gap : List Piece) (f : Gap) → length s ≤ fuel → ScriptText script s → Knows script gap f s
       → Walked script gap s (walk (length script) 0 f s)
   walk-finds zero [] gap f l t K =
       Walked.reads [] _ (walk-end (length script) f) Pieces.done (Tokens.eof (cut-here K end-ends)) (eof-bytes (length script) (cutOf f))
@@ -138,13 +138,13 @@ module _ (script : List ℕ) where
 
       Below : Type 0
       Below =
-          (r : Text) (gap : List Piece) (f : Gap) → length r ≤ fuel → TextOf script r → Knows script gap f r → Walked script gap r
+          (r : Text) (gap : List Piece) (f : Gap) → length r ≤ fuel → ScriptText script r → Knows script gap f r → Walked script gap r
           (walk (length script) 0 f r)
 
       shorter : (r : Text) → Strict r (c ∷ s) → length r ≤ fuel
       shorter r h = let a = h .1 in omega arith
 
-      by : (k : Kind) (r : Text) → Stands k (c ∷ s) r → Strict r (c ∷ s) → TextOf script r
+      by : (k : Kind) (r : Text) → Stands k (c ∷ s) r → Strict r (c ∷ s) → ScriptText script r
           → Hit (length script) (c ∷ s) r (scan (length script) (c ∷ s)) k → Below → Walked script gap (c ∷ s) (walk (length script) 0 f (c ∷ s))
       by k r h m u (Hit.blank e) below =
           skipped gap Kind.blank (c ∷ s) r _ _ (walk-gap n f c s r GapKind.blank e m) (inl refl) h

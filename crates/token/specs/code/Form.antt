@@ -34,7 +34,7 @@ mostLength = longLength
 
 -- the lengths that records have
 pub data Known : ℕ → Type 0 where
-  head : Known headLength
+  bare : Known headLength
   line : Known lineLength
   int : Known intLength
   long : Known longLength

@@ -57,17 +57,17 @@ scanBlock s = blockOr s (close 0 0 (drop 2 s))
 -- ---- numbers
 
 -- digits' value, and what follows them
-pub data Read : Type 0 where
-  read : ℕ → Text → Read
+pub data Numeral : Type 0 where
+  numeral : ℕ → Text → Numeral
 
-unfoldable pub readDigits : (ℕ → Bool) → ℕ → ℕ → Text → Read
-readDigits p b v [] = read v []
+unfoldable pub readDigits : (ℕ → Bool) → ℕ → ℕ → Text → Numeral
+readDigits p b v [] = numeral v []
 readDigits p b v (c ∷ s) =
     let more = readDigits p b (v * b + digitValue (c .code)) s in
-    cond (p (c .code)) more (read v (c ∷ s))
+    cond (p (c .code)) more (numeral v (c ∷ s))
 
-abbrev pub numberOf : Text → Read → Found
-numberOf s (read v r) =
+abbrev pub numberOf : Text → Numeral → Found
+numberOf s (numeral v r) =
     cond (longSuffix r)
     (cond (leb v 9223372036854775807) (Found.token (tk.LongLit v) (drop 1 r)) (Found.stuck 6 s))
     (cond (leb v 2147483647) (Found.token (tk.IntLit v) r) (Found.stuck 6 s))

@@ -102,7 +102,7 @@ pub record Refused (script : List ℕ) (j a : ℕ) : Type 0 where
   pub pieces : List Piece
   pub at : Text
   pub up : Pieces (length script) (from script 0) pieces at
-  pub none : (k : Kind) (r : Text) → Stands k at r → ⊥
+  pub no-piece : (k : Kind) (r : Text) → Stands k at r → ⊥
   pub rest : Text
   pub first : First at j rest
   pub place-is : place (length script) rest ≡ a

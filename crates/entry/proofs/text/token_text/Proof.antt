@@ -31,7 +31,7 @@ returns c =
     let has-text = c .before .before .has-text in
     let yes = sym (has-text .ensures) ∙ c .before .if1 .taken in (
       simp (← has-text .ensures, c .before .if1 .taken),
-      record { text = λ h. record { block = refl; offset = omega arith; bytes = refl }; none = λ h. clash (sym h ∙ yes) },
+      record { text = λ h. record { memory = refl; offset = omega arith; bytes = refl }; no-text = λ h. clash (sym h ∙ yes) },
     )
 
 slice-aggregate-result : tie.Need-slice-aggregate-result
@@ -43,7 +43,7 @@ returns-2 c =
     let has-text = c .before .before .has-text in
     let no = sym (has-text .ensures) ∙ c .before .if1 .left in (
       simp (← has-text .ensures, c .before .if1 .left),
-      record { text = λ h. clash (sym no ∙ h); none = λ h. record { block = refl; offset = omega arith; bytes = refl } },
+      record { text = λ h. clash (sym no ∙ h); no-text = λ h. record { memory = refl; offset = omega arith; bytes = refl } },
     )
 
 pub token-text-spec : {M : Type 1} → statement M

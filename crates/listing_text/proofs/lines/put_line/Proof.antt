@@ -27,8 +27,8 @@ returns : tie.Need-returns
 unfolding lineText
 returns c =
     let values = c .before .before .put-values .ensures in
-    let head = c .before .before .before .before .before .before .put-head .ensures in
-    (put-on (put-on (head .0) (values .0)) (put-byte _ _ 10), omega (arith, head .1, values .1))
+    let put = c .before .before .before .before .before .before .put-head .ensures in
+    (put-on (put-on (put .0) (values .0)) (put-byte _ _ 10), omega (arith, put .1, values .1))
 
 pub put-line-spec : {M : Type 1} → statement M
 put-line-spec =

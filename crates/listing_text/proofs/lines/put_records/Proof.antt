@@ -76,17 +76,17 @@ loop-again c =
     let records = c .before .before .before .before .before .before .before .before .before .before .before .before .before .args .records .now in
     let loop = c .before .before .before .before .before .before .before .before .before .before .loop in
     let size = c .before .before .before .before .before .before .before .record-length in
-    let some = c .before .before .before .before .before .before .if1 .left in
+    let longer = c .before .before .before .before .before .before .if1 .left in
     let line = c .before .before .before .before .line-of .ensures in
     let put = c .before .before .put-line in
     let e = length-on records (loop .from) _ (size .ensures .0) in
-    let least = at-least (drop (loop .from) records) (λ z. some (e ∙ z)) in
+    let least = at-least (drop (loop .from) records) (λ z. longer (e ∙ z)) in
     let within : loop .from + size .result ≤ length records = omega (arith, size .ensures .1, length-drop (loop .from) records) in
     let stands = put-as (line-on records (loop .from) _ line) (put .ensures .0) in (
       within,
       put .kept .0 ∙ loop .inv .1,
       omega (arith, within, e, least, loop .inv .2, put .ensures .1),
-      listed-turn (loop .inv .3) e some stands,
+      listed-turn (loop .inv .3) e longer stands,
     )
 
 same-length-2 : tie.Need-same-length-2 Inv-loop μ-loop

@@ -33,9 +33,9 @@ returns-3 c =
     let line = c .before .before .before .before .before .before .before .before .before .before .before .before .before .args .line in
     let second = c .before .before .put-spaced2 .ensures in
     let first = c .before .before .before .before .before .before .before .before .put-spaced .ensures in
-    let none = c .before .before .before .before .before .before .before .before .before .before .if1 .left in
+    let valued = c .before .before .before .before .before .before .before .before .before .before .if1 .left in
     let one = c .before .before .before .before .if2 .left in
-    (put-as (two-values line none one) (put-more (line .first) (line .second ∷ []) (first .0) (second .0)), omega (arith, first .1, second .1))
+    (put-as (two-values line valued one) (put-more (line .first) (line .second ∷ []) (first .0) (second .0)), omega (arith, first .1, second .1))
 
 pub put-values-spec : {M : Type 1} → statement M
 put-values-spec =

@@ -39,14 +39,14 @@ returns c =
     let if1′ = c .before .before .before .before .before .before .if1 in
     let out = args′ .out .now in
     let f = plain′ .ensures ∙ ap plainForm (ascii-number′ .ensures) in
-    stored-in out (args′ .w) headLength _ (length-form (plainForm _) (args′ .start) (args′ .end) (args′ .cut) Known.head) _ (if1′ .taken)
+    stored-in out (args′ .w) headLength _ (length-form (plainForm _) (args′ .start) (args′ .end) (args′ .cut) Known.bare) _ (if1′ .taken)
     (put-record′ .ensures ∙ ap (λ z. sets out (args′ .w) (byForm z (args′ .start) (args′ .end) (args′ .cut))) f)
 
 returns-2 : tie.Need-returns-2
 returns-2 c =
     let args′ = c .before .before .before .args in
     let if1′ = c .if1 in
-    stored-out (args′ .out .now) (args′ .w) headLength _ (length-form (plainForm _) (args′ .start) (args′ .end) (args′ .cut) Known.head) (if1′ .left)
+    stored-out (args′ .out .now) (args′ .w) headLength _ (length-form (plainForm _) (args′ .start) (args′ .end) (args′ .cut) Known.bare) (if1′ .left)
 
 pub put-ascii-if-spec : {M : Type 1} → statement M
 put-ascii-if-spec =

@@ -30,8 +30,8 @@ div-if2 c = base-some (c .before .args .base) (c .before .pre .1)
 returns-2 : tie.Need-returns-2
 returns-2 c =
     let a = c .before .before .args in
-    let some = base-some (a .base) (c .before .before .pre .1) in
-    over (a .v * a .base + a .d) (passes (a .base) some 9223372036854775807 (a .v) (a .d) (omega arith) (c .if2 .taken))
+    let least = base-some (a .base) (c .before .before .pre .1) in
+    over (a .v * a .base + a .d) (passes (a .base) least 9223372036854775807 (a .v) (a .d) (omega arith) (c .if2 .taken))
 
 mul-t7 : tie.Need-mul-t7
 mul-t7 c =
@@ -46,8 +46,8 @@ add-t8 c =
 returns-3 : tie.Need-returns-3
 returns-3 c =
     let a = c .before .before .args in
-    let some = base-some (a .base) (c .before .before .pre .1) in
-    fits (a .v * a .base + a .d) (stays (a .base) some 9223372036854775807 (a .v) (a .d) (omega arith) (c .if2 .left))
+    let least = base-some (a .base) (c .before .before .pre .1) in
+    fits (a .v * a .base + a .d) (stays (a .base) least 9223372036854775807 (a .v) (a .d) (omega arith) (c .if2 .left))
 
 pub push-digit-spec : {M : Type 1} → statement M
 push-digit-spec =

@@ -44,13 +44,13 @@ one-requires c κs = search needs
 returns : tie.Need-returns
 unfolding heldAt
 returns c =
-    let length = c .before .before .before .before .before .two .ensures .0 in
+    let size = c .before .before .before .before .before .two .ensures .0 in
     let number = c .before .before .before .before .two2 .ensures .0 in
     let values = c .before .before .before .read-values .ensures in
     let start = c .before .before .four .ensures .0 in
     let end = c .before .four2 .ensures .0 in
     let cut = c .one .ensures .0 in
-    (simp (values, length, number, start, end, cut), record-form)
+    (simp (values, size, number, start, end, cut), record-form)
 
 pub read-record-spec : {M : Type 1} → statement M
 read-record-spec =
