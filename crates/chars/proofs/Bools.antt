@@ -1,7 +1,7 @@
--- Small facts about tests.
+-- Three facts about tests, of no definition of this crate.
 use Prim.Native.Nat.{ℕ}
 use mathlib.Core.Path.{_≡_, refl, sym}
-use mathlib.Core.Bool.{Bool, true, false, not, _&&_, _||_}
+use mathlib.Core.Bool.{Bool, true, false, _&&_, _||_}
 use native.Mathlib.Omega.{arith}
 
 pub clash : {A : Type 0} → false ≡ true → A
@@ -15,7 +15,3 @@ and-both false q e = clash e
 pub or-neither : (p q : Bool) → p || q ≡ false → (p ≡ false) × (q ≡ false)
 or-neither true q e = clash (sym e)
 or-neither false q e = (refl, e)
-
-pub not-true : (b : Bool) → not b ≡ true → b ≡ false
-not-true true e = clash e
-not-true false e = refl

@@ -1,4 +1,4 @@
--- A test that is computed at a few codes, carried to each code that is one of them.
+-- A test that is computed at a few codes, carried to carry-span code that is one of them.
 use Prim.Native.Nat.{ℕ, zero, suc, _+_, _≤_, _<_}
 use mathlib.Core.Path.{_≡_, refl, sym, _∙_}
 use mathlib.Core.Bool.{Bool, true, false, not, _||_, and-eq-true-iff, or-true, or-false}
@@ -46,16 +46,16 @@ in-span a (suc n) c h k = go (eqb c a) refl (λ z. in-span (suc a) n c z (omega 
     go true q r = refl
     go false q r = r (let y = eqb-false c a q in omega (arith, y))
 
-pub each : (f : ℕ → Bool) (a n c : ℕ) → every f (span a n) ≡ true → a ≤ c → c < a + n → f c ≡ true
-each f a n c h p q = carry f (span a n) c h (in-span a n c p q)
+pub carry-span : (f : ℕ → Bool) (a n c : ℕ) → every f (span a n) ≡ true → a ≤ c → c < a + n → f c ≡ true
+carry-span f a n c h p q = carry f (span a n) c h (in-span a n c p q)
 
 pub each-not : (f : ℕ → Bool) (a n c : ℕ) → every (λ x. not (f x)) (span a n) ≡ true → a ≤ c → c < a + n → f c ≡ false
-each-not f a n c h p q = not-true (f c) (each (λ x. not (f x)) a n c h p q)
+each-not f a n c h p q = not-true (f c) (carry-span (λ x. not (f x)) a n c h p q)
 
 -- the same where some codes are left out
 pub each-but : (f : ℕ → Bool) (ks : List ℕ) (a n c : ℕ) → every (λ x. not (f x) || member ks x) (span a n) ≡ true → a ≤ c → c < a + n → member ks c ≡ false → f c ≡ false
 each-but f ks a n c h p q e =
-    let z = each (λ x. not (f x) || member ks x) a n c h p q in
+    let z = carry-span (λ x. not (f x) || member ks x) a n c h p q in
     not-true (f c) (sym (or-false (not (f c))) ∙ (rw e at z))
 
 pub agree : (x y : Bool) → alike x y ≡ true → x ≡ y
@@ -64,9 +64,9 @@ agree false y e = sym (not-true y e)
 
 -- two tests that agree at n codes from a on
 pub each-same : (f g : ℕ → Bool) (a n c : ℕ) → every (λ x. alike (f x) (g x)) (span a n) ≡ true → a ≤ c → c < a + n → f c ≡ g c
-each-same f g a n c h p q = agree (f c) (g c) (each (λ x. alike (f x) (g x)) a n c h p q)
+each-same f g a n c h p q = agree (f c) (g c) (carry-span (λ x. alike (f x) (g x)) a n c h p q)
 
--- ---- a set of ASCII characters as two masks: computed at each code of ASCII, and empty past it
+-- ---- a set of ASCII characters as two masks: computed at carry-span code of ASCII, and empty past it
 
 mask-none : (low high c : ℕ) → 0x80 ≤ c → bitIn low high c ≡ false
 unfolding bitIn

@@ -10,7 +10,7 @@ ghost use Rattle.chars.specs.paper.Ranges.{_to_};
 ghost use Rattle.chars.specs.paper.Utf8.{fits, width, codeOf, LongestValid};
 ghost use Rattle.chars.specs.code.Utf8.{decodeAt};
 ghost use Rattle.chars.specs.computed.Valid.{validPrefix};
-ghost use Rattle.chars.specs.promises.Utf8.{Decoding, ValidLaws};
+ghost use Rattle.chars.specs.promises.Utf8.{Decoding, ValidLaws, EncodingLaws};
 
 // The character that stands at a byte offset, or that none does.
 pub enum Decoded {
@@ -125,6 +125,7 @@ fn code_at(s: &[u8], at: usize, w: usize) -> u32
 pub fn decode(s: &[u8], at: usize) -> Decoded
     ensures { λ r. ⌜ r ≡ decodeAt (now (s .entry)) at ⌝ }
     ensures { λ r. ⌜ Decoding (now (s .entry)) at ⌝ }
+    ensures { λ r. ⌜ EncodingLaws ⌝ }
 {
     let w = width_at(s, at);
     if w == 0 {

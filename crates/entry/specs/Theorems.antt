@@ -17,7 +17,7 @@ use Rattle.entry.specs.computed.Examples.{Examples}
 -- What a host that lends enough passes: UTF-8 of at most 16,777,216 bytes, 17 times as many bytes and 13 for the records, 16 for the answer.
 pub record Lends (script buffer block : List ℕ) : Type 0 where
   pub utf8 : WellFormed script
-  pub short : length script ≤ mostBytes
+  pub in-limit : length script ≤ mostBytes
   pub room : mostNeed (length script) ≤ length buffer
   pub sixteen : length block ≡ 16
 
@@ -40,6 +40,6 @@ pub record HostTheorems (script buffer block : List ℕ) : Type 0 where
   -- Of the script alone: its readings, their tokens, and refusals 1 to 16.
   pub script-theorems : Theorems script
   -- To a host that lends enough the tokens of every reading are handed, and nothing else is accepted.
-  pub accepts : Lends script buffer block → Accepts script buffer block
+  pub lent-enough : Lends script buffer block → Accepts script buffer block
   -- And document 01's examples come out as it says.
   pub examples : Examples

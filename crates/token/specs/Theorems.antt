@@ -17,7 +17,7 @@ pub record Theorems (script : List ℕ) : Type 0 where
   -- Refusal 18: the prefix that is measured is the longest valid one.
   pub longest-valid : LongestValid script (validPrefix script)
   -- "A reading of a script": the script has one exactly when it is accepted.
-  pub accepts : ((ps : List Piece) × Reading script ps) ↔ ((ts : List Token) × (answer script ≡ accepted ts))
+  pub read-exactly : ((ps : List Piece) × Reading script ps) ↔ ((ts : List Token) × (answer script ≡ accepted ts))
   -- Two readings are the same, in every kind, start and end.
   pub one-reading : (ps qs : List Piece) → Reading script ps → Reading script qs → ps ≡ qs
   -- "The records of a reading": the tokens of a reading, with their values, marks and cuts, are those of the answer, and it has one list of them.

@@ -53,11 +53,10 @@ letters t e = go (fits (0xD0 to 0xD0 ∷ 0x90 to 0xBF ∷ []) t) refl e
         letter 0xD1 0x80 0x8F (omega arith) (omega arith) (omega arith) (omega arith)
         (λ y l h u. between-in 0x0410 0x044F (codeOf 2 (0xD1 ∷ y ∷ u)) (omega arith) (omega arith)) t e
 
--- a Russian letter, where a test b has found one
-pub russian : (s : List ℕ) (i : ℕ) {b : Bool} → b ≡ cyrillicAt s i → b ≡ true → Russian s i
+pub russian : (s : List ℕ) (i : ℕ) → cyrillicAt s i ≡ true → Russian s i
 unfolding cyrillicAt charEnd
-russian s i q t =
-    let l = letters (drop i s) (sym q ∙ t) in
+russian s i t =
+    let l = letters (drop i s) t in
     let d = length-drop i s in
     let g = l .long in
     let w = l .two in
@@ -65,9 +64,10 @@ russian s i q t =
     let n : charEnd s i ≡ i + 2 = omega arith in
     let c : between 0x0410 0x044F (codeAt s i) ≡ true = ap (λ w. between 0x0410 0x044F (codeOf w (drop i s))) (l .two) ∙ l .code in
     record {
+      letter = c;
       within = omega arith;
       next = n;
       start = head-at isIdStart s i h ∙ russian-start (codeAt s i) c;
-      id = russian-id (codeAt s i) c;
+      goes-on = russian-id (codeAt s i) c;
       after = ap (from s) (sym n) ∙ sym (ap (drop 1) (at-char s i h));
     }

@@ -12,7 +12,7 @@ use Rattle.chars.specs.paper.Text.{Text, from, place, idChar}
 use Rattle.chars.specs.code.Text.{charEnd}
 use Rattle.chars.specs.computed.Runs.{afterRun}
 use Rattle.chars.specs.code.Classes.{asciiIdChar, isAsciiId}
-use Rattle.chars.specs.promises.Texts.{Suffix, Ascii}
+use Rattle.chars.specs.promises.Texts.{Suffix, AsciiClass}
 use Rattle.chars.specs.promises.Classes.{Russian}
 use Rattle.chars.proofs.Bools.{clash, and-both}
 use Rattle.chars.proofs.text.Texts.{suffix-refl, suffix-cons, text-suffix, text-place}
@@ -87,7 +87,7 @@ run-done p z (c ∷ t) = go (p (c ∷ t)) refl (run-done p z t)
 -- ---- id characters of ASCII
 
 -- they are tested on the byte
-pub ascii-id : Ascii isAsciiId
+pub ascii-id : AsciiClass isAsciiId
 unfolding isIdChar alphabetic alphaNotLetter nd
 ascii-id = record { nul = refl; wide = λ c h. ap (λ z. z && isIdChar c) (le-ltb c 0x80 h) }
 
@@ -95,22 +95,8 @@ pub ascii-id-id : (t : Text) → asciiIdChar t ≡ true → idChar t ≡ true
 ascii-id-id [] e = clash e
 ascii-id-id (c ∷ t) e = and-both (ltb (c .code) 0x80) (isIdChar (c .code)) e .1
 
--- the run goes on past the byte at i, or stops there; f: what the loop found at its start
-module _ (s : List ℕ) (i : ℕ) (f : Text) where
-  pub ascii-on : i < length s → isAsciiId (getD s i 0) ≡ true
-      → afterRun asciiIdChar (from s i) ≡ f → afterRun asciiIdChar (from s (i + 1)) ≡ f
-  ascii-on h e q =
-      let l = ltb-true (getD s i 0) 0x80 (and-both (ltb (getD s i 0) 0x80) (isIdChar (getD s i 0)) e .0) in
-      ap (λ j. afterRun asciiIdChar (from s j)) (sym (ascii-next s i h l))
-      ∙ run-next asciiIdChar s i h (head-byte isAsciiId ascii-id s i ∙ e) ∙ q
-
-  pub ascii-out : i < length s → isAsciiId (getD s i 0) ≡ false → afterRun asciiIdChar (from s i) ≡ f → i ≡ place (length s) f
-  ascii-out h e q = run-stop asciiIdChar s i h (head-byte isAsciiId ascii-id s i ∙ e) ∙ ap (place (length s)) q
-
-  pub ascii-end : length s ≤ i → afterRun asciiIdChar (from s i) ≡ f → length s ≡ place (length s) f
-  ascii-end h q = run-end asciiIdChar s i h ∙ ap (place (length s)) q
-
--- the same of all id characters, by the test b of the byte, and past a Russian letter
+-- A run of id characters goes on past the byte at i, by the test b of the byte, or past a Russian letter, or stops there; f: what the loop found at
+-- its start.
 module _ (s : List ℕ) (i : ℕ) (f : Text) where
   pub id-on : {b : Bool} → i < length s → b ≡ isAsciiId (getD s i 0) → b ≡ true
       → afterRun idChar (from s i) ≡ f → afterRun idChar (from s (i + 1)) ≡ f
@@ -129,7 +115,7 @@ module _ (s : List ℕ) (i : ℕ) (f : Text) where
   pub russian-on : Russian s i → afterRun idChar (from s i) ≡ f → afterRun idChar (from s (i + 2)) ≡ f
   russian-on r v =
       let w = r .within in
-      ap (λ j. afterRun idChar (from s j)) (sym (r .next)) ∙ runs-on isIdChar s i f (omega arith) (r .id) v
+      ap (λ j. afterRun idChar (from s j)) (sym (r .next)) ∙ runs-on isIdChar s i f (omega arith) (r .goes-on) v
 
 -- a run of ASCII id characters that ends at the place r
 module _ (s : List ℕ) (i r : ℕ) (h : i ≤ length s) (e : r ≡ place (length s) (afterRun asciiIdChar (from s i))) where

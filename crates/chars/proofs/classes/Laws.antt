@@ -1,52 +1,24 @@
--- What the crate above needs to know of the character classes: each computed at the few characters that document 01 names.
+-- The character classes: what excludes what, each computed at the few characters that document 01 names.
 use Prim.Native.Nat.{ℕ, _≤_, _<_}
 use Prim.Native.String.{String}
 use mathlib.Core.Path.{_≡_, refl, sym, ap, _∙_}
 use mathlib.Core.Bool.{Bool, true, false, cond, not, _&&_, _||_, and-true, and-false, or-true, or-false}
 use native.Mathlib.Omega.{arith}
-use borrow.Author.Tests.{eqb-true, ltb-true, ltb-false, le-leb, lt-leb, lt-ltb, le-ltb, ne-eqb}
+use borrow.Author.Tests.{not-true, eqb-true, ltb-true, ltb-false, le-leb, lt-leb, lt-ltb, le-ltb, ne-eqb}
 use lib.Dec.{eqb, ltb}
 use Rattle.chars.specs.paper.Quoted.{between, codes, oneOf}
 use Rattle.chars.specs.paper.Tables.{alphabeticTable, lowercaseTable, uppercaseTable, ndTable, alphaNotLetterTable}
-use Rattle.chars.specs.paper.Classes.{isIdStart, isIdChar, isOpSign, isPrintable, alphabetic, lowercase, uppercase, nd, alphaNotLetter}
-use Rattle.chars.proofs.Bools.{not-true}
+use Rattle.chars.specs.paper.Classes.{isIdStart, isIdChar, opSigns, isOpSign, isPrintable, alphabetic, lowercase, uppercase, nd, alphaNotLetter}
 use Rattle.chars.proofs.classes.Ranges.{between-in, between-out, in-between, clear-out, covered-in, only-first}
 use Rattle.chars.specs.promises.Codes.{every}
-use Rattle.chars.specs.promises.Classes.{signs, others, lowStart, lowId}
-use Rattle.chars.proofs.Carry.{every-sub, carry, carry-not, no-member}
+use Rattle.chars.specs.promises.Classes.{lowStart, lowId}
+use Rattle.chars.proofs.Carry.{carry}
 
 -- ---- operator signs
 
-pub sign-is : (c : ℕ) → isOpSign c ≡ true → oneOf signs c ≡ true
+pub sign-is : (c : ℕ) → isOpSign c ≡ oneOf opSigns c
 unfolding isOpSign
-sign-is c e = e
-
--- of a byte
-pub byte-sign : (b : ℕ) → ltb b 0x80 && isOpSign b ≡ ltb b 0x80 && oneOf signs b
-unfolding isOpSign
-byte-sign b = refl
-
--- none of the quoted characters is a sign, where none of them is quoted in `signs`
-pub sign-not : (t : String) → every (λ x. not (oneOf signs x)) (codes t) ≡ true → every (λ x. not (isOpSign x)) (codes t) ≡ true
-unfolding isOpSign
-sign-not t h = h
-
-pub no-sign : (t : String) → every (λ x. not (oneOf signs x)) (codes t) ≡ true → (c : ℕ) → oneOf t c ≡ true → isOpSign c ≡ false
-no-sign t h c e = carry-not isOpSign (codes t) c (sign-not t h) e
-
-pub sign-no-under : (c : ℕ) → isOpSign c ≡ true → oneOf "_" c ≡ false
-sign-no-under c e = carry-not (oneOf "_") (codes signs) c refl (sign-is c e)
-
-pub sign-no-semi : (c : ℕ) → isOpSign c ≡ true → oneOf ";" c ≡ false
-sign-no-semi c e = carry-not (oneOf ";") (codes signs) c refl (sign-is c e)
-
-pub nul-no-sign : isOpSign 0 ≡ false
-unfolding isOpSign
-nul-no-sign = refl
-
-pub slash-sign : isOpSign 0x2F ≡ true
-unfolding isOpSign
-slash-sign = refl
+sign-is c = refl
 
 -- ---- ASCII, of which the tables have their first ranges
 
@@ -108,41 +80,21 @@ quoted-not p q h a t k c e = go (ltb c 0x80) refl (carry (λ x. cond (ltb x 0x80
     go true f g = ap not (h c (ltb-true c 0x80 f)) ∙ g
     go false f g = ap (λ z. not (p z)) (eqb-true c 0x21D2 g) ∙ ap not a
 
--- ---- id starts
+-- ---- operator signs are neither
 
 arrow-no-start : isIdStart 0x21D2 ≡ false
 unfolding isIdStart lowercase uppercase
 arrow-no-start = refl
 
-other-no-start : (c : ℕ) → oneOf others c ≡ true → not (isIdStart c) ≡ true
-other-no-start c e = quoted-not isIdStart lowStart low-start arrow-no-start others refl c e
-
--- none of the quoted characters is an id start, where each of them is quoted in `others`
-pub start-not : (t : String) → every (oneOf others) (codes t) ≡ true → every (λ x. not (isIdStart x)) (codes t) ≡ true
-start-not t h = every-sub (oneOf others) (λ x. not (isIdStart x)) (codes t) h other-no-start
-
-pub no-start : (t : String) → every (oneOf others) (codes t) ≡ true → (c : ℕ) → oneOf t c ≡ true → isIdStart c ≡ false
-no-start t h c e = carry-not isIdStart (codes t) c (start-not t h) e
-
-pub slash-no-start : isIdStart 0x2F ≡ false
-slash-no-start = low-start 0x2F (omega arith)
-
 pub sign-no-start : (c : ℕ) → isOpSign c ≡ true → isIdStart c ≡ false
-sign-no-start c e = no-start signs refl c (sign-is c e)
-
--- ---- id characters
+sign-no-start c e = not-true (isIdStart c) (quoted-not isIdStart lowStart low-start arrow-no-start opSigns refl c (sym (sign-is c) ∙ e))
 
 arrow-no-id : isIdChar 0x21D2 ≡ false
 unfolding isIdChar alphabetic nd alphaNotLetter
 arrow-no-id = refl
 
--- `_` is no id character
-pub under-no-id : (c : ℕ) → oneOf "_" c ≡ true → isIdChar c ≡ false
-under-no-id c e = not-true (isIdChar c) (quoted-not isIdChar lowId low-id arrow-no-id "_" refl c e)
-
--- an operator sign is none either
 pub sign-no-id : (c : ℕ) → isOpSign c ≡ true → isIdChar c ≡ false
-sign-no-id c e = not-true (isIdChar c) (quoted-not isIdChar lowId low-id arrow-no-id signs refl c (sign-is c e))
+sign-no-id c e = not-true (isIdChar c) (quoted-not isIdChar lowId low-id arrow-no-id opSigns refl c (sym (sign-is c) ∙ e))
 
 -- ---- characters that document 01 names
 
@@ -182,9 +134,8 @@ module _ (c : ℕ) (from : 0x24B6 ≤ c) (to : c ≤ 0x24E9) where
 module _ (c : ℕ) (h : 0x80 ≤ c) where
   -- the one operator sign is the double arrow
   pub wide-sign : isOpSign c ≡ true → c ≡ 0x21D2
-  unfolding isOpSign
   wide-sign e =
-      let k = carry (λ x. ltb x 0x80 || eqb x 0x21D2) (codes signs) c refl (sign-is c e) in
+      let k = carry (λ x. ltb x 0x80 || eqb x 0x21D2) (codes opSigns) c refl (sym (sign-is c) ∙ e) in
       eqb-true c 0x21D2 (rw (le-ltb c 0x80 h) at k)
 
   -- no `$` or `_` is left, so up to U+FFFF the tables decide
@@ -213,17 +164,9 @@ module _ (c : ℕ) (h : 0xFFFF < c) where
   unfolding isIdChar
   above-no-id = let a : (c ≡ 0x24 → ⊥) = λ e. omega arith in rw (ne-eqb c 0x24 a, lt-leb c 0xFFFF h)
 
-  pub above-no-sign : isOpSign c ≡ false
-  unfolding isOpSign
-  above-no-sign = no-member (ltb 0xFFFF) (codes signs) c refl (le-leb 0x10000 c h)
-
   pub above-no-print : isPrintable c ≡ false
   unfolding isPrintable
   above-no-print = rw (lt-leb c 0xFFFF h)
-
--- an ASCII sign by its byte
-pub sign-byte : (b : ℕ) → b < 0x80 → isOpSign b ≡ ltb b 0x80 && isOpSign b
-sign-byte b l = sym (ap (λ z. z && isOpSign b) (lt-ltb b 0x80 l))
 
 -- ---- the Russian letters: in each table they are in one range, or in none
 

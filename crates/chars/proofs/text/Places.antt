@@ -13,7 +13,7 @@ use borrow.Author.Tests.{ltb-true, ltb-false}
 use Rattle.chars.specs.paper.Utf8.{width, codeOf}
 use Rattle.chars.specs.paper.Text.{Char, Text, charsAt, from, place, headIs}
 use Rattle.chars.specs.code.Text.{codeAt, charEnd, stepAt}
-use Rattle.chars.specs.promises.Texts.{Ascii, PastWide}
+use Rattle.chars.specs.promises.Texts.{AsciiClass, PastWide}
 use Rattle.chars.specs.computed.Runs.{afterRun}
 use Rattle.chars.specs.declared.text.Step.the-variants as step
 use Rattle.chars.proofs.utf8.Rows as rows
@@ -103,7 +103,7 @@ module _ (s : List ℕ) (i : ℕ) where
 
 -- ---- a class of ASCII characters is tested on the byte; past the end the byte counts as 0
 
-pub head-byte : (p : ℕ → Bool) → Ascii p → (s : List ℕ) (i : ℕ) → headIs p (from s i) ≡ p (getD s i 0)
+pub head-byte : (p : ℕ → Bool) → AsciiClass p → (s : List ℕ) (i : ℕ) → headIs p (from s i) ≡ p (getD s i 0)
 head-byte p a s i = go (ltb i (length s)) refl (ltb (getD s i 0) 0x80) refl
   where
     go : (b : Bool) → ltb i (length s) ≡ b → (l : Bool) → ltb (getD s i 0) 0x80 ≡ l → headIs p (from s i) ≡ p (getD s i 0)

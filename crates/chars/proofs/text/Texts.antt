@@ -13,22 +13,22 @@ use Rattle.chars.specs.promises.Texts.{Suffix, ScriptText}
 -- ---- suffixes
 
 pub suffix-refl : (s : Text) → Suffix s s
-suffix-refl s = record { within = omega arith; tail = rw sub-self }
+suffix-refl s = record { within = omega arith; rest-is = rw sub-self }
 
 pub suffix-cons : {r s : Text} (c : Char) → Suffix r s → Suffix r (c ∷ s)
 suffix-cons {r} {s} c h =
     let e : suc (length s) - length r ≡ suc (length s - length r) = omega arith in
-    record { within = omega arith; tail = rw e (h .tail) }
+    record { within = omega arith; rest-is = rw e (h .rest-is) }
 
 pub suffix-trans : {q r s : Text} → Suffix q r → Suffix r s → Suffix q s
 suffix-trans {q} {r} {s} h k =
     let e : length s - length r + (length r - length q) ≡ length s - length q = omega arith in
     let d : drop (length r - length q) (drop (length s - length r) s) ≡ drop (length s - length q) s =
     drop-drop (length r - length q) (length s - length r) s ∙ ap (λ n. drop n s) e in
-    record { within = omega arith; tail = h .tail ∙ ap (drop (length r - length q)) (k .tail) ∙ d }
+    record { within = omega arith; rest-is = h .rest-is ∙ ap (drop (length r - length q)) (k .rest-is) ∙ d }
 
 pub suffix-same : {q r s : Text} → Suffix q s → Suffix r s → length q ≡ length r → q ≡ r
-suffix-same {q} {r} {s} h k e = h .tail ∙ ap (λ n. drop (length s - n) s) e ∙ sym (k .tail)
+suffix-same {q} {r} {s} h k e = h .rest-is ∙ ap (λ n. drop (length s - n) s) e ∙ sym (k .rest-is)
 
 pub drop-suffix : (k : ℕ) (s : Text) → Suffix (drop k s) s
 drop-suffix zero s = suffix-refl s
@@ -85,7 +85,7 @@ text-drop script (suc k) [] h = h
 text-drop script (suc k) (c ∷ s) h = text-drop script k s (text-at script c s h .1)
 
 pub text-suffix : (script : List ℕ) (r s : Text) → Suffix r s → ScriptText script s → ScriptText script r
-text-suffix script r s h t = rw (h .tail) (text-drop script (length s - length r) s t)
+text-suffix script r s h t = rw (h .rest-is) (text-drop script (length s - length r) s t)
 
 -- a text is the script's text from its own place on
 pub text-place : (script : List ℕ) (s : Text) → ScriptText script s → from script (place (length script) s) ≡ s

@@ -7,12 +7,13 @@ use lib.ListN.{length}
 use lib.Seq.{drop-append-seam}
 use lib.Dec.{leb, ltb}
 use native.Mathlib.Omega.{arith}
-use borrow.Author.Tests.{ltb-true, ltb-false, leb-true, lt-ltb, le-ltb}
+use borrow.Author.Tests.{not-true, ltb-true, ltb-false, leb-true, lt-ltb, le-ltb}
 use Rattle.chars.specs.paper.Quoted.{between}
 use Rattle.chars.specs.paper.Ranges.{Range, _to_}
 use Rattle.chars.specs.paper.Utf8.{table37, fits, Row, here, later, WellFormed, width, codeOf}
-use Rattle.chars.specs.computed.Encoded.{encoded, isScalar, Encoding}
-use Rattle.chars.proofs.Bools.{and-both, not-true}
+use Rattle.chars.specs.computed.Encoded.{encoded}
+use Rattle.chars.specs.promises.Utf8.{isScalar, EncodingLaws}
+use Rattle.chars.proofs.Bools.{and-both}
 use Rattle.chars.proofs.classes.Ranges.{between-in, not-between}
 use Rattle.chars.proofs.utf8.Valid.{width-fit}
 
@@ -123,8 +124,6 @@ module _ (c : ℕ) where
           (λ i. split 0x100000 (λ k. four (later (later (later (later (later (later (later here))))))) h (omega arith) (omega arith) (omega arith) (omega arith))
           (λ i. four (later (later (later (later (later (later (later (later here)))))))) h (omega arith) (omega arith) (omega arith) (omega arith)))
 
--- ---- what a reader may rely on
-
 pub encoded-decodes : (c : ℕ) (rest : List ℕ) → isScalar c ≡ true
     → (width (encoded c ++ rest) ≡ length (encoded c)) × (codeOf (length (encoded c)) (encoded c ++ rest) ≡ c)
 encoded-decodes c rest e = let w = writes c e in (width-fit (w .is-row) (encoded c ++ rest) (w .met rest) ∙ w .long, w .code rest)
@@ -134,6 +133,5 @@ encoded-valid c e rest v =
     let w = writes c e in
     WellFormed.char (w .is-row) (w .met rest) (rw (w .long, drop-append-seam) v)
 
--- Part of what `Decoding` promises, and for whoever writes characters.
-pub encoding : (c : ℕ) → Encoding c
-encoding c = record { decodes = encoded-decodes c; valid = encoded-valid c }
+pub encoding-laws : EncodingLaws
+encoding-laws = record { decodes = encoded-decodes; encodes-valid = encoded-valid }

@@ -30,7 +30,6 @@ use Rattle.chars.proofs.classes.Cyrillic as letters
 use Rattle.chars.proofs.classes.IdRuns as runs
 use Rattle.chars.proofs.runs.Laws as eights
 use Rattle.chars.proofs.classes.Ranges as ranges
-use Rattle.chars.proofs.theorems.Encodes.{encoding}
 
 abbrev allAscend : List (List Range) → Bool
 allAscend [] = true
@@ -69,25 +68,16 @@ module _ (s : List ℕ) (i : ℕ) where
         let l = width-within s i (let z = ends c w e in omega arith) in
         (h .least, omega arith, omega arith);
     ascii = λ h l. one (ap width (here s i h) ∙ sym (row-00 (getD s i 0) (drop (i + 1) s) (omega arith) (omega arith)));
-    tail = λ h l m. nothing (ap width (here s i h) ∙ sym (none-low (getD s i 0) (drop (i + 1) s) l m));
+    no-first = λ h l m. nothing (ap width (here s i h) ∙ sym (none-low (getD s i 0) (drop (i + 1) s) l m));
     high = λ h l. nothing (ap width (here s i h) ∙ sym (none-high (getD s i 0) (drop (i + 1) s) l));
     past = λ h. nothing (empty h);
-    wide = λ c w e l. let h = char-stands s i c w e in let k = places.wide-code s i l in let q : codeAt s i ≡ c = ap (λ v. codeOf v (drop i s)) (h .width-is) ∙ h .code-is in omega arith;
-    tails = λ c w j e l m.
-        let h = char-stands s i c w e in
-        let n : charEnd s i ≡ i + w = next-is c w h in
-        places.wide-tail s i (ends c w e) j l (omega arith);
     in-text = λ c w e.
         let h = char-stands s i c w e in
         (ap (λ v. codeOf v (drop i s)) (h .width-is) ∙ h .code-is, next-end s i c w h);
-    encodes = encoding;
   }
     where
       empty : length s ≤ i → width (drop i s) ≡ 0
       empty h = let a = width-most (drop i s) in let b = length-drop i s in omega arith
-
-      next-is : (c w : ℕ) → Stands s i c w → charEnd s i ≡ i + w
-      next-is c w h = next-end s i c w h
 
 -- ---- laws
 
@@ -96,7 +86,8 @@ code-laws = record {
   carry = carries.carry;
   carry-not = carries.carry-not;
   no-member = carries.no-member;
-  each = carries.each;
+  every-sub = carries.every-sub;
+  carry-span = carries.carry-span;
   agree = carries.agree;
   mask-set = carries.mask-set;
   hits = carries.hits;
@@ -127,7 +118,6 @@ text-laws = record {
   wide-code = places.wide-code;
   wide-tail = places.wide-tail;
   wide-past = places.wide-past;
-  head-at = places.head-at;
   head-byte = places.head-byte;
   step-text = places.step-text;
   step-none = places.step-none;
@@ -153,34 +143,19 @@ unfolding tables
 class-laws = record {
   tables-ascend = all-ascending tables refl;
   sign-is = classes.sign-is;
-  sign-not = classes.sign-not;
-  no-sign = classes.no-sign;
-  sign-no-under = classes.sign-no-under;
-  sign-no-semi = classes.sign-no-semi;
-  nul-no-sign = classes.nul-no-sign;
-  slash-sign = classes.slash-sign;
-  start-not = classes.start-not;
-  no-start = classes.no-start;
-  slash-no-start = classes.slash-no-start;
   sign-no-start = classes.sign-no-start;
-  under-no-id = classes.under-no-id;
   sign-no-id = classes.sign-no-id;
+  byte-start = classes.byte-start;
+  byte-id = classes.byte-id;
   roman-start = classes.roman-start;
   roman-no-id = classes.roman-no-id;
   circled-no-start = classes.circled-no-start;
   circled-no-id = classes.circled-no-id;
   above-no-start = classes.above-no-start;
   above-no-id = classes.above-no-id;
-  above-no-sign = classes.above-no-sign;
   above-no-print = classes.above-no-print;
-  byte-sign = classes.byte-sign;
-  byte-start = classes.byte-start;
-  byte-id = classes.byte-id;
-  sign-byte = classes.sign-byte;
   russian = letters.russian;
-  ascii-on = runs.ascii-on;
-  ascii-out = runs.ascii-out;
-  ascii-end = runs.ascii-end;
+  ascii-id = runs.ascii-id;
   ascii-whole = runs.ascii-whole;
 }
 

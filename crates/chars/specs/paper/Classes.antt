@@ -1,5 +1,6 @@
 -- Document 01, "Character classes".
 use Prim.Native.Nat.{ℕ}
+use Prim.Native.String.{String}
 use mathlib.Core.Bool.{Bool, not, _&&_, _||_}
 use lib.Dec.{leb}
 use Rattle.chars.specs.paper.Quoted.{between, oneOf}
@@ -31,8 +32,11 @@ unfoldable pub isIdChar : ℕ → Bool
 isIdChar c = oneOf "$" c || leb c 0xFFFF && (alphabetic c && not (alphaNotLetter c) || nd c)
 
 -- Operator sign: `! # % & * + - / : < = > ? @ \ ^ | ~` and U+21D2.
+abbrev pub opSigns : String
+opSigns = "!#%&*+-/:<=>?@\\^|~⇒"
+
 unfoldable pub isOpSign : ℕ → Bool
-isOpSign c = oneOf "!#%&*+-/:<=>?@\\^|~⇒" c
+isOpSign c = oneOf opSigns c
 
 -- Printable: at most U+FFFF, not U+0000 to U+001F, U+007F to U+009F, nor U+FFF0 to U+FFFF.
 unfoldable pub isPrintable : ℕ → Bool

@@ -1,4 +1,4 @@
--- Tests on codes: what is computed at a few of them holds at each code that is one of them.
+-- Tests on codes. What is computed for a list of codes is carried to a code that is known to be in the list.
 use Prim.Native.Nat.{ℕ, zero, suc, _+_, _≤_, _<_}
 use mathlib.Core.Path.{_≡_}
 use mathlib.Core.Bool.{Bool, true, false, not, _&&_}
@@ -23,13 +23,16 @@ alike true y = y
 alike false y = not y
 
 pub record CodeLaws : Type 0 where
-  -- a test that holds at every code of a list holds at each of them; one that holds at none of them does not
+  -- a test that holds at every code of a list holds at a member; one that holds at none of them fails at a member
   pub carry : (f : ℕ → Bool) (l : List ℕ) (c : ℕ) → every f l ≡ true → member l c ≡ true → f c ≡ true
   pub carry-not : (f : ℕ → Bool) (l : List ℕ) (c : ℕ) → every (λ x. not (f x)) l ≡ true → member l c ≡ true → f c ≡ false
-  -- a code at which such a test holds is not in the list
+  -- where a test fails at every code of a list, a code at which it holds is no member
   pub no-member : (f : ℕ → Bool) (l : List ℕ) (c : ℕ) → every (λ x. not (f x)) l ≡ true → f c ≡ true → member l c ≡ false
-  -- codes from a on
-  pub each : (f : ℕ → Bool) (a n c : ℕ) → every f (span a n) ≡ true → a ≤ c → c < a + n → f c ≡ true
+  -- a test that implies another, over a list
+  pub every-sub : (f g : ℕ → Bool) (l : List ℕ) → every f l ≡ true → ((c : ℕ) → f c ≡ true → g c ≡ true) → every g l ≡ true
+  -- the list of n codes from a on
+  pub carry-span : (f : ℕ → Bool) (a n c : ℕ) → every f (span a n) ≡ true → a ≤ c → c < a + n → f c ≡ true
+  -- two tests that are found alike say the same
   pub agree : (x y : Bool) → alike x y ≡ true → x ≡ y
   -- a set of ASCII characters as two masks: computed at each code of ASCII, and empty past it
   pub mask-set : (low high : ℕ) (p : ℕ → Bool) → every (λ x. alike (bitIn low high x) (p x)) (span 0 128) ≡ true

@@ -12,14 +12,14 @@ use Rattle.chars.specs.declared.text.Step.the-variants as step
 -- r is what is left of s after some characters
 pub record Suffix (r s : Text) : Type 0 where
   pub within : length r ≤ length s
-  pub tail : r ≡ drop (length s - length r) s
+  pub rest-is : r ≡ drop (length s - length r) s
 
 -- s is the script's text from some place on
 abbrev pub ScriptText : List ℕ → Text → Type 0
 ScriptText script s = (i : ℕ) × (from script i ≡ s)
 
 -- a class of ASCII characters without NUL
-pub record Ascii (p : ℕ → Bool) : Type 0 where
+pub record AsciiClass (p : ℕ → Bool) : Type 0 where
   pub nul : p 0 ≡ false
   pub wide : (c : ℕ) → 0x80 ≤ c → p c ≡ false
 
@@ -42,12 +42,11 @@ pub record TextLaws : Type 0 where
   -- what begins past ASCII has a code past ASCII; the other bytes of a character are 0x80 to 0xBF
   pub wide-code : (s : List ℕ) (i : ℕ) → 0x80 ≤ getD s i 0 → 0x80 ≤ codeAt s i
   pub wide-tail : (s : List ℕ) (i : ℕ) → i < length s → (j : ℕ) → i < j → j < charEnd s i → (0x80 ≤ getD s j 0) × (getD s j 0 ≤ 0xBF)
-  -- one byte further, inside a wide character too, only wide characters are to be passed to where the character ends
+  -- from such a byte, and from one byte further, only characters past ASCII lie before the character's end
   pub wide-past : (s : List ℕ) (i : ℕ) → i < length s → 0x80 ≤ getD s i 0
       → PastWide (from s i) (from s (charEnd s i)) × PastWide (from s (i + 1)) (from s (charEnd s i))
-  -- ---- a class there: by the character, and a class of ASCII by the byte, which counts as 0 past the end
-  pub head-at : (p : ℕ → Bool) (s : List ℕ) (i : ℕ) → i < length s → headIs p (from s i) ≡ p (codeAt s i)
-  pub head-byte : (p : ℕ → Bool) → Ascii p → (s : List ℕ) (i : ℕ) → headIs p (from s i) ≡ p (getD s i 0)
+  -- ---- a class of ASCII characters is seen by the byte there, which counts as 0 past the end
+  pub head-byte : (p : ℕ → Bool) → AsciiClass p → (s : List ℕ) (i : ℕ) → headIs p (from s i) ≡ p (getD s i 0)
   -- ---- one step
   pub step-text : (s : List ℕ) (i code next : ℕ) → step.Char code next ≡ stepAt s i → (i < length s) × (codeAt s i ≡ code) × (charEnd s i ≡ next)
   pub step-none : (s : List ℕ) (i : ℕ) → step.End ≡ stepAt s i → length s ≤ i
@@ -57,11 +56,12 @@ pub record TextLaws : Type 0 where
   pub suffix-trans : {q r s : Text} → Suffix q r → Suffix r s → Suffix q s
   pub suffix-same : {q r s : Text} → Suffix q s → Suffix r s → length q ≡ length r → q ≡ r
   pub drop-suffix : (k : ℕ) (s : Text) → Suffix (drop k s) s
-  -- ---- texts of the script: each is the script's text from its own place on, and has no more characters than the script has bytes
+  -- ---- texts of the script: what is left of one is one too, and each is the script's text from its own place on
   pub text-at : (script : List ℕ) (c : Char) (s : Text) → ScriptText script (c ∷ s) → (from script (c .at) ≡ c ∷ s) × ScriptText script s
   pub text-drop : (script : List ℕ) (k : ℕ) (s : Text) → ScriptText script s → ScriptText script (drop k s)
   pub text-suffix : (script : List ℕ) (r s : Text) → Suffix r s → ScriptText script s → ScriptText script r
   pub text-place : (script : List ℕ) (s : Text) → ScriptText script s → from script (place (length script) s) ≡ s
+  -- a script has no more characters than bytes
   pub from-length : (script : List ℕ) → length (from script 0) ≤ length script
   -- ---- runs: past a character of it the run is the same; where the test fails at once nothing is passed
   pub run-next : (p : Text → Bool) (s : List ℕ) (i : ℕ) → i < length s → p (from s i) ≡ true → afterRun p (from s (charEnd s i)) ≡ afterRun p (from s i)

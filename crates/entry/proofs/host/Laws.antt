@@ -91,7 +91,7 @@ holds-fits s scratch next n b q k f l =
     let ts = w .0 in
     let y = records-length ts in
     let z : recordBytes ts ≤ length scratch = omega (arith, w .3) in
-    let o = f (rw (w .1) (record { accepts = refl; fits = z })) ∙ ap (λ v. sets scratch 0 (records (tokensIn v))) (w .1) ∙ sets-front scratch (records ts) (omega arith) in
+    let o = f (rw (w .1) (record { is-accepted = refl; fits = z })) ∙ ap (λ v. sets scratch 0 (records (tokensIn v))) (w .1) ∙ sets-front scratch (records ts) (omega arith) in
     ap (take b) o ∙ take-at (records ts) _ b (y ∙ sym (w .3)) ∙ sym (ap (λ v. records (tokensIn v)) (w .1))
 
 pub held : (r : Judged) (n b : ℕ) (s scratch : List ℕ) → r ≡ judged.Fits n b → Holds r s scratch → b ≤ length scratch → take b scratch ≡ records (tokensIn (answer s))
@@ -163,7 +163,7 @@ module _ (s : List ℕ) (room n b : ℕ) (e : judged.Fits n b ≡ judgedOf (verd
   entry-fits =
       let w = was-fits _ n b e in
       let g = verdict-granted s room (w .0) (w .1) in
-      rw (g .0) (record { accepts = refl; fits = g .1 })
+      rw (g .0) (record { is-accepted = refl; fits = g .1 })
 
   pub entry-bytes : b ≡ recordBytes (tokensIn (answer s))
   entry-bytes =

@@ -29,7 +29,7 @@ open ValidLaws valid-laws using (valid, longest-one, valid-all, all-valid)
 -- ---- the order, computed
 
 verdict-judge : (script block : List ℕ) (room : ℕ) → Clean script block → verdict script room ≡ byRoom room (answer script)
-verdict-judge script block room h = let e = valid-all script (h .utf8) in verdict-rest script room (h .sized .short) (omega arith)
+verdict-judge script block room h = let e = valid-all script (h .utf8) in verdict-rest script room (h .sized .in-limit) (omega arith)
 
 -- the numbers of the table's first sixteen rows
 escape-range : {b q : Text} {j : ℕ} → BadEscape b j q → (1 ≤ j) × (j ≤ 16)
@@ -69,7 +69,7 @@ module _ (script buffer block : List ℕ) where
   sees-only (Sees.seventeen e l) = host-16 e (rejected 17 0) (verdict-17 script (length buffer) l)
   sees-only (Sees.eighteen {n} z v m) =
       let q : validPrefix script ≡ n = longest-one (valid script) v in
-      host-16 (z .sixteen) (rejected 18 n) (verdict-18 script (length buffer) (z .short) (omega arith) ∙ ap (rejected 18) q)
+      host-16 (z .sixteen) (rejected 18 n) (verdict-18 script (length buffer) (z .in-limit) (omega arith) ∙ ap (rejected 18) q)
   sees-only (Sees.refused {j} {a} c h) =
       host-16 (c .sized .sixteen) (rejected j a) (verdict-judge script block (length buffer) c ∙ room-rejected (length buffer) (answer script) j a (refusal script j a .1 h))
   sees-only (Sees.nineteen {ts} r m) =
@@ -103,7 +103,7 @@ module _ (script buffer block : List ℕ) where
       long : length block ≡ 16 → (b : Bool) → ltb mostBytes (length script) ≡ b → Sees script buffer block (hostOf script buffer block)
       long e true h = put (Sees.seventeen e (ltb-true mostBytes (length script) h))
       long e false h =
-          utf8 (record { sixteen = e; short = ltb-false mostBytes (length script) h }) (ltb (validPrefix script) (length script)) refl
+          utf8 (record { sixteen = e; in-limit = ltb-false mostBytes (length script) h }) (ltb (validPrefix script) (length script)) refl
 
       sixteen : (b : Bool) → eqb (length block) 16 ≡ b → Sees script buffer block (hostOf script buffer block)
       sixteen true h = long (eqb-true (length block) 16 h) (ltb mostBytes (length script)) refl
@@ -133,8 +133,8 @@ module _ (script buffer block : List ℕ) where
   reading-by (Sees.nineteen r m) h = absurd (omega arith)
   reading-by (Sees.accepted r m) h = (r .tokensOf .pieces, r .tokensOf .reading)
 
-  accepts : Lends script buffer block → Accepts script buffer block
-  accepts L =
+  lent-enough : Lends script buffer block → Accepts script buffer block
+  lent-enough L =
       record {
         exactly = (reading-by sees-host, λ h. let c = complete script (h .0) (h .1) in ap numberSeen (writes (h .0) (c .0) (h .1) (c .2)));
         one-reading = theorems script .one-reading;
@@ -148,7 +148,7 @@ module _ (script buffer block : List ℕ) where
           let k : TokensOf script ts = record { pieces = ps; reading = h; tokens = t } in
           let n = need script ts (answer-tokens script ts k) in
           let room = L .room in
-          let sized : Sized script block = record { sixteen = L .sixteen; short = L .short } in
+          let sized : Sized script block = record { sixteen = L .sixteen; in-limit = L .in-limit } in
           let clean : Clean script block = record { sized = sized; utf8 = L .utf8 } in
           sees-only (Sees.accepted (record { clean = clean; tokensOf = k }) (omega arith))
 
@@ -159,6 +159,6 @@ module _ (script buffer block : List ℕ) where
         unchanged = unchanged-by sees-host;
         numbers = number-by sees-host;
         script-theorems = theorems script;
-        accepts = accepts;
+        lent-enough = lent-enough;
         examples = examples;
       }

@@ -25,7 +25,7 @@ bufferSeen (seen j buffer block) = buffer
 -- neither 20 nor 17
 pub record Sized (script block : List ℕ) : Type 0 where
   pub sixteen : length block ≡ 16
-  pub short : length script ≤ mostBytes
+  pub in-limit : length script ≤ mostBytes
 
 -- nor 18
 pub record Clean (script block : List ℕ) : Type 0 where

@@ -19,6 +19,7 @@ use Rattle.chars.specs.promises.Codes.{CodeLaws}
 use Rattle.chars.specs.promises.Classes.{ClassLaws}
 use Rattle.chars.specs.promises.Texts.{TextLaws}
 use Rattle.chars.proofs.theorems.Promises.{code-laws, text-laws, class-laws}
+use Rattle.token.proofs.Classes.{start-not, slash-no-start}
 use Rattle.token.specs.paper.Tests.{isAny, begins, quote, freeSign, opensComment}
 use Rattle.token.specs.paper.Kinds.{Token, kindNumber, wordOf, runOf}
 use Rattle.token.specs.paper.Records.{values, headLength, recordLength, fieldsOf, headOf, recordOf}
@@ -45,7 +46,7 @@ use Rattle.token.proofs.lexer.Turns.{Turn, turn-token, turn-line}
 
 open CodeLaws code-laws using (carry, carry-not)
 open TextLaws text-laws using (run-stays, ascii-next, place-from, run-next)
-open ClassLaws class-laws using (start-not, sign-no-start, slash-no-start, ascii-whole)
+open ClassLaws class-laws using (sign-no-start, ascii-whole)
 
 -- ---- bytes
 

@@ -13,8 +13,8 @@ use Rattle.chars.specs.paper.Text.{Char, Text, from, place}
 use Rattle.chars.specs.computed.Runs.{afterRun}
 use Rattle.chars.proofs.Bools.{and-both}
 use Rattle.chars.specs.promises.Texts.{TextLaws, ScriptText}
-use Rattle.chars.specs.promises.Classes.{ClassLaws}
-use Rattle.chars.proofs.theorems.Promises.{text-laws, class-laws}
+use Rattle.chars.proofs.theorems.Promises.{text-laws}
+use Rattle.token.proofs.Classes.{sign-no-semi}
 use Rattle.token.specs.paper.Tests.{begins, backslash, apostrophe, opSign, freeSign, opensComment, plainChar}
 use Rattle.token.specs.computed.Answer.{Found, Esc, unbroken, broken, afterSlash, afterIdent, tickNext, escapedOf, scanCharSym}
 use Rattle.token.specs.code.Cursor.{cursorAt}
@@ -30,7 +30,6 @@ use Rattle.token.proofs.cursor.Bytes.{any-byte, inside, past}
 use Rattle.token.proofs.cursor.Laws.{Here}
 
 open TextLaws text-laws using (text-drop, text-place, at-end, place-from)
-open ClassLaws class-laws using (sign-no-semi)
 
 -- ---- pieces
 

@@ -8,17 +8,18 @@ use borrow.Author.Tests.{eqb-true}
 use lib.Dec.{eqb, leb, ltb}
 use lib.ListN.{length, getD}
 use Rattle.chars.specs.paper.Quoted.{between, oneOf}
-use Rattle.chars.specs.paper.Classes.{isOpSign}
+use Rattle.chars.specs.paper.Classes.{isOpSign, opSigns}
 use Rattle.chars.proofs.Bools.{and-both}
 use Rattle.chars.specs.promises.Codes.{CodeLaws, alike}
-use Rattle.chars.specs.promises.Classes.{ClassLaws, signs, lowId, lowStart}
+use Rattle.chars.specs.promises.Classes.{ClassLaws, lowId, lowStart}
 use Rattle.chars.proofs.theorems.Promises.{code-laws, class-laws}
+use Rattle.token.proofs.Classes.{byte-sign}
 use Rattle.token.specs.paper.Tests.{isDigit, isHexDigit, digitValue}
 use Rattle.token.specs.code.ClassTable.{ByteClasses}
 use Rattle.token.specs.code.Digits.{digitIn, digitOf}
 
 open CodeLaws code-laws using (agree)
-open ClassLaws class-laws using (byte-sign, byte-id, byte-start)
+open ClassLaws class-laws using (byte-id, byte-start)
 
 -- ---- two tests that agree at each entry x and its code b, from the code a on
 
@@ -48,7 +49,7 @@ abbrev wordStart : ℕ → Bool
 wordStart b = ltb b 0x80 && lowStart b
 
 abbrev runSign : ℕ → Bool
-runSign b = (ltb b 0x80 && oneOf signs b) && not (eqb b 0x2F)
+runSign b = (ltb b 0x80 && oneOf opSigns b) && not (eqb b 0x2F)
 
 run-sign : (b : ℕ) → runSign b ≡ (ltb b 0x80 && isOpSign b) && not (eqb b 0x2F)
 run-sign b = ap (λ x. x && not (eqb b 0x2F)) (sym (byte-sign b))

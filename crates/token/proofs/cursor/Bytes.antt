@@ -13,7 +13,7 @@ use Rattle.chars.specs.paper.Text.{from}
 use Rattle.chars.specs.code.Text.{charEnd, codeAt}
 use Rattle.chars.proofs.Bools.{and-both}
 use Rattle.chars.specs.promises.Codes.{every}
-use Rattle.chars.specs.promises.Texts.{TextLaws, Ascii}
+use Rattle.chars.specs.promises.Texts.{TextLaws, AsciiClass}
 use Rattle.chars.proofs.theorems.Promises.{text-laws}
 use Rattle.token.specs.paper.Tests.{isAny, startsWith}
 
@@ -23,7 +23,7 @@ open TextLaws text-laws using (head-byte, at-ascii, at-end, at-char, wide-code)
 abbrev pub plain : List ℕ → Bool
 plain l = every (λ x. leb 1 x && ltb x 0x80) l
 
-pub ascii-list : (l : List ℕ) → plain l ≡ true → Ascii (member l)
+pub ascii-list : (l : List ℕ) → plain l ≡ true → AsciiClass (member l)
 ascii-list l h = record { nul = go l h; wide = λ c w. far l c h w }
   where
     go : (l : List ℕ) → plain l ≡ true → member l 0 ≡ false

@@ -13,7 +13,7 @@ use Rattle.chars.specs.paper.Quoted.{between, codes, oneOf}
 use Rattle.chars.specs.paper.Text.{Text, from, place, headIs}
 use Rattle.chars.specs.computed.Runs.{afterRun}
 use Rattle.chars.proofs.Bools.{clash, and-both}
-use Rattle.chars.specs.promises.Texts.{TextLaws, Ascii}
+use Rattle.chars.specs.promises.Texts.{TextLaws, AsciiClass}
 use Rattle.chars.specs.promises.Codes.{CodeLaws}
 use Rattle.chars.proofs.theorems.Promises.{code-laws, text-laws}
 use Rattle.token.specs.paper.Tests.{isDigit, isHexDigit, digitValue, begins, hexDigit, hexAhead, longSuffix}
@@ -66,7 +66,7 @@ module _ (base b : ℕ) where
       go true = refl
       go false = refl
 
-pub digits-ascii : (base : ℕ) → Ascii (digitIn base)
+pub digits-ascii : (base : ℕ) → AsciiClass (digitIn base)
 digits-ascii base = record {
   nul = no-digit base 0 (λ l. omega arith) (λ l. omega arith) (λ l. omega arith);
   wide = λ c w. no-digit base c (λ l. omega arith) (λ l. omega arith) (λ l. omega arith);
@@ -164,7 +164,7 @@ module _ (p : ℕ → Bool) where
   read-none base v (c ∷ t) e = rw (e, readDigits)
 
 -- a class of ASCII characters, at a place of a script
-module _ (p : ℕ → Bool) (a : Ascii p) where
+module _ (p : ℕ → Bool) (a : AsciiClass p) where
   low : (b : ℕ) → p b ≡ true → (1 ≤ b) × (b < 0x80)
   low zero e = clash (sym (a .nul) ∙ e)
   low (suc b) e = (omega arith, go (ltb (suc b) 0x80) refl)

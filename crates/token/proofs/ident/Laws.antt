@@ -16,8 +16,8 @@ use Rattle.chars.specs.code.Runs.{AllIn, Within}
 use Rattle.chars.specs.paper.Classes.{isIdStart, isIdChar}
 use Rattle.chars.proofs.Bools.{clash}
 use Rattle.chars.specs.promises.Texts.{TextLaws, Suffix}
-use Rattle.chars.specs.promises.Classes.{ClassLaws}
-use Rattle.chars.proofs.theorems.Promises.{text-laws, class-laws}
+use Rattle.chars.proofs.theorems.Promises.{text-laws}
+use Rattle.token.proofs.Classes.{under-no-id}
 use Rattle.token.proofs.cursor.Wide.{byte-by-byte}
 use Rattle.token.specs.paper.Tests.{isAny, begins, quote, opSign, freeSign, opensComment, notBacktick}
 use Rattle.token.specs.paper.Kinds.{wordOf, runOf}
@@ -36,7 +36,6 @@ use Rattle.token.proofs.cursor.Laws.{all-past}
 use Rattle.token.proofs.theorems.Idents.{ident-finds, start-rest, rest-suffix}
 
 open TextLaws text-laws using (run-stays, run-done, run-place, suffix-trans, drop-suffix, at-char, at-ascii, at-end, next-on, place-from)
-open ClassLaws class-laws using (under-no-id)
 
 -- ---- places
 
@@ -63,7 +62,7 @@ drop-later s (suc k) i h = go (ltb i (length s)) refl (drop-later s k (charEnd s
     go false e ih = rw (at-end s i (ltb-false i (length s) e)) h
 
 pub suffix-later : (s : List ℕ) (i : ℕ) (r : Text) → i ≤ length s → Suffix r (from s i) → i ≤ place (length s) r
-suffix-later s i r h v = rw (v .tail) (drop-later s (length (from s i) - length r) i h)
+suffix-later s i r h v = rw (v .rest-is) (drop-later s (length (from s i) - length r) i h)
 
 -- two places in a text, the second past some of its characters
 pub left-to : (s : List ℕ) (i j : ℕ) (r : Text) → i ≤ length s → j ≤ length s → from s j ≡ r → Suffix r (from s i)
@@ -73,7 +72,7 @@ left-to s i j r h k e v =
     let b = place-from s j k in
     let d = ap (place (length s)) e in
     let w : Suffix (from s j) (from s i) = rw e v in
-    (omega arith, k, w .tail)
+    (omega arith, k, w .rest-is)
 
 pub run-left : (p : Text → Bool) (t : Text) → Suffix (afterRun p t) t
 run-left p t = run-suffix p (run-after p t)

@@ -30,7 +30,7 @@ open TextLaws text-laws using (suffix-refl, suffix-same, at-char, place-from, as
 -- ---- codes between two places
 
 pub left-suffix : (r s : Text) → LeftOf s r → Suffix r s
-left-suffix r s e = record { within = let h = ap length e in let k = length-drop (length s - length r) s in omega arith; tail = e }
+left-suffix r s e = record { within = let h = ap length e in let k = length-drop (length s - length r) s in omega arith; rest-is = e }
 
 codes-none : (s : Text) → codesTo s s ≡ []
 unfolding codesTo
@@ -43,7 +43,7 @@ codes-more c s r h = runs.codes-more c s r h
 suffix-tail : (c : Char) (r s : Text) → Suffix r (c ∷ s) → length r ≤ length s → Suffix r s
 suffix-tail c r s h k =
     let e : suc (length s) - length r ≡ suc (length s - length r) = omega arith in
-    record { within = k; tail = h .tail ∙ ap (λ n. drop n (c ∷ s)) e }
+    record { within = k; rest-is = h .rest-is ∙ ap (λ n. drop n (c ∷ s)) e }
 
 -- what is left from a later place on is left past the first character too
 suffix-next : (s : List ℕ) (a b : ℕ) → a < b → b ≤ length s → Suffix (from s b) (from s a) → Suffix (from s b) (from s (charEnd s a))

@@ -15,7 +15,7 @@ use Rattle.chars.specs.code.Text.{charEnd}
 use Rattle.chars.specs.computed.Runs.{afterRun}
 use Rattle.chars.proofs.Bools.{clash, and-both}
 use Rattle.chars.specs.promises.Codes.{CodeLaws, every}
-use Rattle.chars.specs.promises.Texts.{TextLaws, Ascii}
+use Rattle.chars.specs.promises.Texts.{TextLaws, AsciiClass}
 use Rattle.chars.proofs.theorems.Promises.{code-laws, text-laws}
 use Rattle.token.specs.paper.Tests.{isAny, begins, digit, isDigit, quote, apostrophe, opSign, opensLine, opensBlock, opensComment, isHexDigit, hexAhead, longSuffix, notBacktick, freeSign, backslash, plainChar, endOfLine}
 use Rattle.token.specs.code.Lexer.{wordless, seek, nextOf, passedOf}
@@ -48,7 +48,7 @@ open TextLaws text-laws using (head-byte, at-char, at-end, at-ascii, place-from,
 
 -- ---- digits
 
-pub ascii-digit : Ascii isDigit
+pub ascii-digit : AsciiClass isDigit
 unfolding isDigit
 ascii-digit = record { nul = refl; wide = λ c h. rw (lt-leb c 0x39 (omega arith)) (last (leb 0x30 c)) }
   where
@@ -303,7 +303,7 @@ later-place s i r h (f, l) =
     let n = next-on s i h in
     let a = ap length t in
     let k : length (from s i) - length r ≡ suc (length (from s (charEnd s i)) - length r) = omega arith in
-    let q : r ≡ drop (length (from s (charEnd s i)) - length r) (from s (charEnd s i)) = f .tail ∙ ap (λ j. drop j (from s i)) k ∙ ap (drop (suc (length (from s (charEnd s i)) - length r))) t in
+    let q : r ≡ drop (length (from s (charEnd s i)) - length r) (from s (charEnd s i)) = f .rest-is ∙ ap (λ j. drop j (from s i)) k ∙ ap (drop (suc (length (from s (charEnd s i)) - length r))) t in
     let w = drop-place (length (from s (charEnd s i)) - length r) s (charEnd s i) (n .1) in
     let e = ap (place (length s)) q in
     (omega arith, omega arith)

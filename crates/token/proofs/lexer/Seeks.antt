@@ -65,7 +65,7 @@ seek-skip n (suc k) g (c ∷ s) = seek-skip n k g s
 seek-rest : (n : ℕ) (g : Gap) (c : Char) (s r : Text) → Strict r (c ∷ s) → seek n (length s - length r) g s ≡ seek n 0 g r
 seek-rest n g c s r (h, l) =
     let e : suc (length s) - length r ≡ suc (length s - length r) = omega arith in
-    let q : r ≡ drop (length s - length r) s = h .tail ∙ ap (λ k. drop k (c ∷ s)) e in
+    let q : r ≡ drop (length s - length r) s = h .rest-is ∙ ap (λ k. drop k (c ∷ s)) e in
     seek-skip n (length s - length r) g s ∙ ap (seek n 0 g) (sym q)
 
 module _ (n : ℕ) (g : Gap) (c : Char) (s r : Text) where

@@ -86,7 +86,7 @@ measured-stop v j a c b e = sym (ap (measuredOf c b) e)
 pub writing-room : (v u : Answer) (t : Token) (all out : List ℕ) (w : ℕ) → v ≡ prepend t u → Writing v all out w → w + recordLength (t .kind) ≤ length out
 unfolding recordBytes
 writing-room v (accepted ts) t all out w e h = let a = h .room in let b = ap (λ x. recordBytes (tokensIn x)) e in omega arith
-writing-room v (refused j a) t all out w e h = clash (sym (ap isAccepted e) ∙ h .accepts)
+writing-room v (refused j a) t all out w e h = clash (sym (ap isAccepted e) ∙ h .is-accepted)
 
 pub writing-turn : (v u : Answer) (t : Token) (all out next : List ℕ) (w l : ℕ) → v ≡ prepend t u → Writing v all out w → next ≡ sets out w (recordOf t) → l ≡ recordLength (t .kind)
     → Writing u all next (w + l)
@@ -97,7 +97,7 @@ writing-turn v (accepted ts) t all out next w l e h q p =
     let d = ap length q ∙ length-sets out w (recordOf t) in
     let m : w + length (recordOf t) ≡ w + l = ap (λ x. w + x) (length-record t ∙ sym p) in
     record {
-      accepts = refl;
+      is-accepted = refl;
       room = omega arith;
       brings =
           ap (λ x. sets x (w + l) (records ts)) q
@@ -106,7 +106,7 @@ writing-turn v (accepted ts) t all out next w l e h q p =
           ∙ sym (ap (λ x. sets out w (records (tokensIn x))) e)
           ∙ h .brings;
     }
-writing-turn v (refused j a) t all out next w l e h q p = clash (sym (ap isAccepted e) ∙ h .accepts)
+writing-turn v (refused j a) t all out next w l e h q p = clash (sym (ap isAccepted e) ∙ h .is-accepted)
 
 pub writing-end : (v : Answer) (t : Token) (all out next : List ℕ) (w : ℕ) → v ≡ accepted (t ∷ []) → Writing v all out w → next ≡ sets out w (recordOf t) → next ≡ all
 unfolding records
@@ -118,7 +118,7 @@ unfolding recordBytes
 writing-last v t all out w e h = let a = h .room in let b = ap (λ x. recordBytes (tokensIn x)) e in omega arith
 
 pub writing-stop : (v : Answer) (j a : ℕ) (all out : List ℕ) (w : ℕ) → v ≡ refused j a → Writing v all out w → ⊥
-writing-stop v j a all out w e h = clash (sym (ap isAccepted e) ∙ h .accepts)
+writing-stop v j a all out w e h = clash (sym (ap isAccepted e) ∙ h .is-accepted)
 
 -- ---- the start
 
@@ -127,7 +127,7 @@ unfolding answer
 starts-answer s g i e f = ap (λ h. walk (length s) 0 h (from s i)) e ∙ ap (λ j. walk (length s) 0 fresh (from s j)) f
 
 pub writing-start : (v w : Answer) (out : List ℕ) → v ≡ w → Fits w (length out) → Writing v (sets out 0 (records (tokensIn v))) out 0
-writing-start v w out e h = record { accepts = ap isAccepted e ∙ h .accepts; room = let a = ap (λ x. recordBytes (tokensIn x)) e in let b = h .fits in omega arith; brings = refl }
+writing-start v w out e h = record { is-accepted = ap isAccepted e ∙ h .is-accepted; room = let a = ap (λ x. recordBytes (tokensIn x)) e in let b = h .fits in omega arith; brings = refl }
 
 pub turn-room : {s : List ℕ} {i : ℕ} {g : Gap} {t : Token} {e : ℕ} {h : Gap} {all out : List ℕ} {w : ℕ} → Turn s i g t e h → Writing (walk (length s) 0 g (from s i)) all out w
     → w + recordLength (t .kind) ≤ length out

@@ -13,7 +13,7 @@ use Rattle.chars.specs.paper.Quoted.{oneOf}
 use Rattle.chars.specs.paper.Text.{Char, Text, from, place, headIs}
 use Rattle.chars.specs.code.Text.{charEnd, codeAt}
 use Rattle.chars.proofs.Bools.{clash}
-use Rattle.chars.specs.promises.Texts.{TextLaws, Ascii}
+use Rattle.chars.specs.promises.Texts.{TextLaws, AsciiClass}
 use Rattle.chars.proofs.theorems.Promises.{text-laws}
 use Rattle.token.specs.paper.Tests.{isDigit, isHexDigit, isAny, digit}
 use Rattle.token.specs.computed.Answer.{unbroken, broken, exactHexes, digitsUpTo, afterSlash}
@@ -29,11 +29,11 @@ open TextLaws text-laws using (head-byte, at-ascii, at-end, at-char, place-from)
 
 -- ---- digits at a place
 
-digit-ascii : Ascii isDigit
+digit-ascii : AsciiClass isDigit
 unfolding isDigit
 digit-ascii = record { nul = refl; wide = λ c h. rw (le-leb 0x30 c (omega arith), lt-leb c 0x39 (omega arith)) }
 
-hex-ascii : Ascii isHexDigit
+hex-ascii : AsciiClass isHexDigit
 unfolding isHexDigit isDigit
 hex-ascii =
     record {
@@ -41,7 +41,7 @@ hex-ascii =
       wide = λ c h. rw (le-leb 0x30 c (omega arith), lt-leb c 0x39 (omega arith), le-leb 0x41 c (omega arith), lt-leb c 0x46 (omega arith), le-leb 0x61 c (omega arith), lt-leb c 0x66 (omega arith));
     }
 
-module _ (p : ℕ → Bool) (a : Ascii p) where
+module _ (p : ℕ → Bool) (a : AsciiClass p) where
   ascii-in : (b : ℕ) → p b ≡ true → (1 ≤ b) × (b < 0x80)
   ascii-in b e = (low (ltb 0 b) refl, high (ltb b 0x80) refl)
     where

@@ -7,13 +7,13 @@ use mathlib.Core.List.{List, [], _∷_}
 use lib.ListN.{length, drop, getD}
 use lib.Dec.{eqb, ltb}
 use native.Mathlib.Omega.{arith}
-use borrow.Author.Tests.{ltb-true, ltb-false, ne-eqb, eq-eqb, eqb-true}
+use borrow.Author.Tests.{ltb-true, ltb-false, ne-eqb, eq-eqb, eqb-true, not-true}
 use Rattle.chars.specs.paper.Quoted.{oneOf}
 use Rattle.chars.specs.paper.Text.{Char, Text, from, place, headIs}
 use Rattle.chars.specs.code.Text.{charEnd, codeAt}
 use Rattle.chars.specs.computed.Runs.{afterRun}
 use Rattle.chars.specs.code.Runs.{Within, AllIn, Other, NoneOf}
-use Rattle.chars.proofs.Bools.{clash, and-both, or-neither, not-true}
+use Rattle.chars.proofs.Bools.{clash, and-both, or-neither}
 use Rattle.chars.specs.promises.Texts.{TextLaws, Suffix}
 use Rattle.chars.proofs.theorems.Promises.{text-laws}
 use Rattle.token.proofs.cursor.Wide.{byte-by-byte}
@@ -504,7 +504,7 @@ plain-end s i e h q a = go (closeString false (from s i)) refl a
         → (i ≤ e .at) × (e .at ≤ length s) × (quote (from s i) ≡ true) × (closeString false (from s i) ≡ closed (from s (e .at)))
     go (closed r) c b =
         let x = plain-suffix (from s i) r q c in
-        let k = reached s i r (rw (x .tail) (reach s (length (from s i) - length r) i h)) in
+        let k = reached s i r (rw (x .rest-is) (reach s (length (from s i) - length r) i h)) in
         let y : e ≡ cursorAt (place (length s) r) = cc in
         rw y (k .0, k .1, q, c ∙ ap closed (sym (k .2)))
     go (wrong j x) c b = no-at e j _ (sym b)

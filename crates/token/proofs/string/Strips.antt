@@ -336,7 +336,7 @@ left-single s start end a b h k byte n = go (ltb (a + 1) (lastOff s (a + 1) b)) 
 -- a plain string, by its first byte and its ends
 module _ (s : List ℕ) (start end : ℕ) (q : quote (from s start) ≡ true) (c : closeString false (from s start) ≡ closed (from s end)) where
   pub string-tail : LeftOf (from s start) (from s end)
-  string-tail = plain-strict (from s start) (from s end) q c .0 .tail
+  string-tail = plain-strict (from s start) (from s end) q c .0 .rest-is
 
   pub string-byte : getD s start 0 ≡ 0x22
   string-byte = eqb-true (getD s start 0) 0x22 (sym (quote-byte s start) ∙ q)

@@ -1,16 +1,19 @@
 -- The numbers of a reading's tokens: places lie within the script, values keep their limits, a string's content lies within its token. So every
--- record holds its token's numbers, and they are read back (`token-back`). A refusal's place lies within the script too. For whoever reads
--- stored records: there to be read and cited.
-use Prim.Native.Nat.{ℕ, zero, suc, _+_, _-_, _^_, _≤_, _<_}
+-- record holds its token's numbers, and they are read back (`token-back`). The tokens stand in order (`in-order`), and Eof is the last and no
+-- other (`last-eof`). A refusal's place lies within the script too. `listing_text` cites `all-bounded`, `storable`, `token-back` and
+-- `refused-within`, for the lines of records and of refusals. A reader of stored rolls relies on the order and the last Eof too.
+use Prim.Native.Nat.{ℕ, zero, suc, _-_, _^_, _≤_, _<_}
 use mathlib.Core.Path.{_≡_, refl, sym, _∙_, ap}
 use mathlib.Core.Bool.{Bool, true, false}
 use mathlib.Core.Logic.{inl, inr}
 use mathlib.Core.List.{List, [], _∷_, _++_}
 use mathlib.Core.Option.{Option, none, some}
 use lib.ListN.{length, take-append-drop}
+use lib.Dec.{ltb}
 use native.Mathlib.Omega.{arith}
-use Rattle.chars.specs.paper.Utf8.{width}
-use Rattle.chars.specs.paper.Text.{Text, charsAt, from, place}
+use borrow.Author.Tests.{ltb-true, ltb-false}
+use Rattle.chars.specs.paper.Text.{Text, from, place}
+use Rattle.chars.specs.code.Text.{charEnd}
 use Rattle.chars.specs.promises.Texts.{TextLaws, Suffix, ScriptText}
 use Rattle.chars.proofs.theorems.Promises.{text-laws}
 use Rattle.words.specs.Words.{le4, le8}
@@ -31,7 +34,7 @@ use Rattle.token.proofs.theorems.Numbers.{one-value}
 use Rattle.token.proofs.theorems.Shorter.{one-strict, times-suffix, escape-suffix, prefix-strict, stands-strict}
 use Rattle.token.proofs.theorems.Mets.{within-suffix}
 
-open TextLaws text-laws using (suffix-refl, suffix-trans, text-suffix, text-place)
+open TextLaws text-laws using (at-char, at-end, next-on, place-from, suffix-refl, suffix-trans, text-suffix, text-place)
 
 -- ---- places
 
@@ -40,24 +43,23 @@ abbrev Rising : ℕ → Text → Type 0
 Rising e [] = Unit {0}
 Rising e (c ∷ t) = (c .at ≤ place e t) × Rising e t
 
-chars-past : (n i k : ℕ) (t : List ℕ) → i + length t ≤ n → i ≤ place n (charsAt i k t)
-unfolding charsAt
-chars-past n i k [] h = omega arith
-chars-past n i (suc k) (a ∷ t) h = let l = chars-past n (suc i) k t (omega arith) in omega arith
-chars-past n i zero (a ∷ t) h = omega arith
-
-chars-rising : (n i k : ℕ) (t : List ℕ) → i + length t ≤ n → Rising n (charsAt i k t)
-unfolding charsAt
-chars-rising n i k [] h = tt
-chars-rising n i (suc k) (a ∷ t) h = chars-rising n (suc i) k t (omega arith)
-chars-rising n i zero (a ∷ t) h =
-    let w = width (a ∷ t) - 1 in
-    let l = chars-past n (suc i) w t (omega arith) in
-    (omega arith, chars-rising n (suc i) w t (omega arith))
+-- the text from a place on is rising: a character ends further on, and there the next one starts
+from-rising : (script : List ℕ) (n i : ℕ) → length script - i ≤ n → Rising (length script) (from script i)
+from-rising script zero i h = rw (at-end script i (omega arith)) tt
+from-rising script (suc n) i h = go (ltb i (length script)) refl (from-rising script n (charEnd script i))
+  where
+    go : (b : Bool) → ltb i (length script) ≡ b → (length script - charEnd script i ≤ n → Rising (length script) (from script (charEnd script i)))
+        → Rising (length script) (from script i)
+    go true e onward =
+        let l = ltb-true i (length script) e in
+        let o = next-on script i l in
+        let p = place-from script (charEnd script i) (o .1) in
+        let a = o .0 in
+        rw (at-char script i l) (omega arith, onward (omega arith))
+    go false e onward = rw (at-end script i (ltb-false i (length script) e)) tt
 
 script-rising : (script : List ℕ) → Rising (length script) (from script 0)
-unfolding from
-script-rising script = chars-rising (length script) 0 0 script (omega arith)
+script-rising script = from-rising script (length script) 0 (omega arith)
 
 place-front : (n : ℕ) (u r : Text) → place n (u ++ r) ≡ place (place n r) u
 place-front n [] r = refl
@@ -77,7 +79,7 @@ rising-most n (c ∷ s) h = let a = h .0 in let b = rising-most n s (h .1) in om
 
 -- a text is the text up to a suffix, and the suffix
 split : {r s : Text} → Suffix r s → textOf s r ++ r ≡ s
-split {r} {s} k = ap (λ t. textOf s r ++ t) (k .tail) ∙ take-append-drop (length s - length r) s
+split {r} {s} k = ap (λ t. textOf s r ++ t) (k .rest-is) ∙ take-append-drop (length s - length r) s
 
 module _ (n : ℕ) (s r : Text) (h : Rising n s) (k : Suffix r s) where
   both-rise : Rising n (textOf s r ++ r)
@@ -151,6 +153,16 @@ abbrev pub AllBounded : ℕ → List Token → Type 0
 AllBounded n [] = Unit {0}
 AllBounded n (t ∷ ts) = Bounded n t × AllBounded n ts
 
+-- each token starts not before the end of the one before it, the first not before p
+abbrev pub InOrder : ℕ → List Token → Type 0
+InOrder p [] = Unit {0}
+InOrder p (t ∷ ts) = (p ≤ t .start) × InOrder (t .end) ts
+
+-- the last token is Eof, and no other is
+pub data LastEof : List Token → Type 0 where
+  eof : {t : Token} → t .kind ≡ tk.Eof → LastEof (t ∷ [])
+  other : {t : Token} {ts : List Token} → (t .kind ≡ tk.Eof → ⊥) → LastEof ts → LastEof (t ∷ ts)
+
 -- a kind that carries nothing
 abbrev WithinIf : ℕ → ℕ → Option TokenKind → Type 0
 WithinIf a e none = Unit {0}
@@ -191,6 +203,59 @@ valued-within {n} {s} {r} h w (Valued.plain q c) =
     (omega arith, o .1, o .2)
 valued-within {n} {s} {r} h w (Valued.bare {t} e) = rw e at (bare-within (place n s) (place n r) t)
 
+-- keywords are numbered past the other kinds, in two bytes
+kw-number : (k : Kw) → (kindNumber tk.Eof < kwNumber k) × (kwNumber k < 65536)
+kw-number kw.Case = (omega arith, omega arith)
+kw-number kw.Else = (omega arith, omega arith)
+kw-number kw.False = (omega arith, omega arith)
+kw-number kw.Function = (omega arith, omega arith)
+kw-number kw.If = (omega arith, omega arith)
+kw-number kw.Match = (omega arith, omega arith)
+kw-number kw.Return = (omega arith, omega arith)
+kw-number kw.Then = (omega arith, omega arith)
+kw-number kw.True = (omega arith, omega arith)
+kw-number kw.Colon = (omega arith, omega arith)
+kw-number kw.FatArrow = (omega arith, omega arith)
+kw-number kw.Assign = (omega arith, omega arith)
+kw-number kw.Hash = (omega arith, omega arith)
+kw-number kw.At = (omega arith, omega arith)
+
+-- a kind that carries nothing is not Eof, by its number
+abbrev numberIf : Option TokenKind → ℕ
+numberIf none = 0
+numberIf (some k) = kindNumber k
+
+bare-number : (y : TokenType) → numberIf (withoutValues y) ≡ kindNumber tk.Eof → ⊥
+bare-number TokenType.ident e = omega arith
+bare-number TokenType.opId e = omega arith
+bare-number TokenType.backtickId e = omega arith
+bare-number TokenType.intLit e = omega arith
+bare-number TokenType.longLit e = omega arith
+bare-number TokenType.str e = omega arith
+bare-number TokenType.charSym e = omega arith
+bare-number TokenType.lParen e = omega arith
+bare-number TokenType.rParen e = omega arith
+bare-number TokenType.lBracket e = omega arith
+bare-number TokenType.rBracket e = omega arith
+bare-number TokenType.lBrace e = omega arith
+bare-number TokenType.rBrace e = omega arith
+bare-number TokenType.comma e = omega arith
+bare-number TokenType.semi e = omega arith
+bare-number TokenType.dot e = omega arith
+bare-number (TokenType.key k) e = let l = kw-number k .0 in omega arith
+
+-- no token of a piece is Eof
+valued-other : {n : ℕ} {s r : Text} {y : TokenType} {k : TokenKind} → Valued n s r y k → k ≡ tk.Eof → ⊥
+valued-other (Valued.bare {t} w) e = bare-number t (ap numberIf w ∙ ap kindNumber e)
+valued-other (Valued.intLit x) e = let z = ap kindNumber e in omega arith
+valued-other (Valued.longLit x) e = let z = ap kindNumber e in omega arith
+valued-other (Valued.prefixed q) e = let z = ap kindNumber e in omega arith
+valued-other (Valued.plain q c) e = let z = ap kindNumber e in omega arith
+
+-- nor is one of a line end
+newline-other : (mark : Bool) → tk.Newline mark ≡ tk.Eof → ⊥
+newline-other mark e = let z = ap kindNumber e in omega arith
+
 module _ (script : List ℕ) where
   tokens-bounded : {gap ps : List Piece} {ts : List Token} {s r : Text} → ScriptText script s → Rising (length script) s
       → Pieces (length script) s ps r → Tokens script gap ps ts → AllBounded (length script) ts
@@ -213,23 +278,33 @@ module _ (script : List ℕ) where
   pub all-bounded : (ts : List Token) → TokensOf script ts → AllBounded (length script) ts
   all-bounded ts h = tokens-bounded (0, refl) (script-rising script) (h .reading) (h .tokens)
 
--- ---- records
+  -- a text from p or past it has its tokens in order, from p on
+  tokens-in-order : {gap ps : List Piece} {ts : List Token} {s r : Text} (p : ℕ) → p ≤ place (length script) s → Rising (length script) s
+      → Pieces (length script) s ps r → Tokens script gap ps ts → InOrder p ts
+  tokens-in-order {s = s} p l h Pieces.done (Tokens.eof c) = let a = rising-most (length script) s h in (omega arith, tt)
+  tokens-in-order p l h (Pieces.piece {k} {s} {m} w v) (Tokens.skip o x) =
+      let z = stands-strict k s m w .0 in
+      let a = order (length script) s m h z .0 in
+      tokens-in-order p (omega arith) (behind (length script) s m h z) v x
+  tokens-in-order p l h (Pieces.piece {k} {s} {m} w v) (Tokens.lineEnd q o x) =
+      (l, tokens-in-order (place (length script) m) (omega arith) (behind (length script) s m h (stands-strict k s m w .0)) v x)
+  tokens-in-order p l h (Pieces.piece {k} {s} {m} w v) (Tokens.token q u c x) =
+      (l, tokens-in-order (place (length script) m) (omega arith) (behind (length script) s m h (stands-strict k s m w .0)) v x)
 
-kw-number : (k : Kw) → kwNumber k < 65536
-kw-number kw.Case = omega arith
-kw-number kw.Else = omega arith
-kw-number kw.False = omega arith
-kw-number kw.Function = omega arith
-kw-number kw.If = omega arith
-kw-number kw.Match = omega arith
-kw-number kw.Return = omega arith
-kw-number kw.Then = omega arith
-kw-number kw.True = omega arith
-kw-number kw.Colon = omega arith
-kw-number kw.FatArrow = omega arith
-kw-number kw.Assign = omega arith
-kw-number kw.Hash = omega arith
-kw-number kw.At = omega arith
+  pub in-order : (ts : List Token) → TokensOf script ts → InOrder 0 ts
+  in-order ts h = tokens-in-order 0 (omega arith) (script-rising script) (h .reading) (h .tokens)
+
+  -- whatever the gap, the tokens end with their one Eof
+  tokens-last : {gap ps : List Piece} {ts : List Token} → Tokens script gap ps ts → LastEof ts
+  tokens-last (Tokens.eof c) = LastEof.eof refl
+  tokens-last (Tokens.skip o x) = tokens-last x
+  tokens-last (Tokens.lineEnd q o x) = LastEof.other (newline-other _) (tokens-last x)
+  tokens-last (Tokens.token q u c x) = LastEof.other (valued-other u) (tokens-last x)
+
+  pub last-eof : (ts : List Token) → TokensOf script ts → LastEof ts
+  last-eof ts h = tokens-last (h .tokens)
+
+-- ---- records
 
 bit-byte : (b : Bool) → bit b < 256
 bit-byte true = omega arith
@@ -256,7 +331,7 @@ kind-fits a e tk.Semi h = (omega arith, omega arith)
 kind-fits a e tk.Dot h = (omega arith, omega arith)
 kind-fits a e (tk.Newline mark) h = (omega arith, bit-byte mark)
 kind-fits a e tk.Eof h = (omega arith, omega arith)
-kind-fits a e (tk.Kw k) h = (kw-number k, omega arith)
+kind-fits a e (tk.Kw k) h = (kw-number k .1, omega arith)
 
 module _ (n : ℕ) (short : n ≤ mostBytes) (t : Token) (h : Bounded n t) where
   pub storable : Storable (formOf (t .kind)) (t .start) (t .end)

@@ -9,14 +9,15 @@ use mathlib.Core.Option.{some}
 use lib.ListN.{drop}
 use lib.Dec.{eqb, leb}
 use native.Mathlib.Omega.{arith}
-use borrow.Author.Tests.{eqb-true, leb-true}
+use borrow.Author.Tests.{eqb-true, leb-true, not-true}
 use Rattle.chars.specs.paper.Quoted.{codes, oneOf}
-use Rattle.chars.specs.paper.Classes.{isIdStart, isOpSign}
+use Rattle.chars.specs.paper.Classes.{isIdStart, isOpSign, opSigns}
 use Rattle.chars.specs.paper.Text.{Char, Text, headIs}
-use Rattle.chars.proofs.Bools.{clash, and-both, not-true}
-use Rattle.chars.specs.promises.Classes.{ClassLaws, signs}
+use Rattle.chars.proofs.Bools.{clash, and-both}
+use Rattle.chars.specs.promises.Classes.{ClassLaws}
 use Rattle.chars.specs.promises.Codes.{CodeLaws, every}
 use Rattle.chars.proofs.theorems.Promises.{code-laws, class-laws}
+use Rattle.token.proofs.Classes.{sign-not, start-not}
 use Rattle.token.specs.paper.Tests.{isDigit, isAny, begins, startsWith, opensLine, opensBlock, opensComment, endsLine, quote, digit, opSign, freeSign, apostrophe}
 use Rattle.token.specs.paper.Kinds.{Kind, TokenType, withoutValues}
 use Rattle.token.specs.paper.Shapes.{One, both, Block, TokenShape, HasShape, Stands}
@@ -36,7 +37,7 @@ use Rattle.token.proofs.theorems.Gaps.{two-codes, line-stands, block-st
 use Rattle.token.proofs.theorems.Heads.{no-start-met}
 
 open CodeLaws code-laws using (carry)
-open ClassLaws class-laws using (sign-is, sign-not, start-not, sign-no-start)
+open ClassLaws class-laws using (sign-is, sign-no-start)
 
 -- no comment opens
 pub record Clear (s : Text) : Type 0 where
@@ -131,7 +132,7 @@ digit-no-start (c ∷ s) e = go (isDigit (c .code)) refl
 digit-no-sign : (s : Text) → opSign s ≡ true → digit s ≡ false
 digit-no-sign [] e = clash e
 digit-no-sign (c ∷ s) e =
-    not-true (isDigit (c .code)) (carry (λ x. not (isDigit x)) (codes signs) (c .code) (unfold isDigit in refl) (sign-is (c .code) e))
+    not-true (isDigit (c .code)) (carry (λ x. not (isDigit x)) (codes opSigns) (c .code) (unfold isDigit in refl) (sym (sign-is (c .code)) ∙ e))
 
 start-no-sign : (s : Text) → opSign s ≡ true → headIs isIdStart s ≡ false
 start-no-sign [] e = clash e

@@ -1,5 +1,6 @@
 -- Escapes: the function on what follows the backslash, and the declared shape with refusals 12 to 14.
 use Prim.Native.Nat.{ℕ, zero, suc, _<_, _+_, _-_}
+use borrow.Author.Tests.{not-true}
 use mathlib.Core.Path.{_≡_, refl, sym, _∙_, ap}
 use mathlib.Core.Bool.{Bool, true, false, not}
 use mathlib.Core.Logic.{_⊎_, inl, inr}
@@ -8,7 +9,7 @@ use lib.ListN.{drop}
 use native.Mathlib.Omega.{arith}
 use Rattle.chars.specs.paper.Quoted.{codes, oneOf}
 use Rattle.chars.specs.paper.Text.{Char, Text}
-use Rattle.chars.proofs.Bools.{clash, not-true}
+use Rattle.chars.proofs.Bools.{clash}
 use Rattle.chars.specs.promises.Codes.{CodeLaws}
 use Rattle.chars.proofs.theorems.Promises.{code-laws}
 use Rattle.token.specs.paper.Tests.{isDigit, isHexDigit, begins, backslash, digit, hexDigit}
@@ -27,17 +28,17 @@ hexes-found (suc n) k (Times.more {c} {s} e w) =
     (rw e (h .0 ∙ ap unbroken (omega arith)), h .1)
 
 pub record Lacks (n k : ℕ) (s : Text) : Type 0 where
-  pub stood : ℕ
+  pub count : ℕ
   pub rest : Text
-  pub fewer : stood < n
+  pub fewer : count < n
   pub found : exactHexes n k s ≡ broken 13 rest
-  pub times : Times hexDigit stood s rest
+  pub times : Times hexDigit count s rest
   pub lacks : hexDigit rest ≡ false
 
 hexes-finds : (n k : ℕ) (s : Text) → ((exactHexes n k s ≡ unbroken (k + n)) × Times hexDigit n s (drop n s)) ⊎ Lacks n k s
 unfolding exactHexes
 hexes-finds zero k s = inl (ap unbroken (omega arith), Times.done)
-hexes-finds (suc n) k [] = inr (record { stood = 0; rest = []; fewer = omega arith; found = refl; times = Times.done; lacks = refl })
+hexes-finds (suc n) k [] = inr (record { count = 0; rest = []; fewer = omega arith; found = refl; times = Times.done; lacks = refl })
 hexes-finds (suc n) k (c ∷ s) = go (isHexDigit (c .code)) refl (hexes-finds n (suc k) s)
   where
     go : (b : Bool) → isHexDigit (c .code) ≡ b → ((exactHexes n (suc k) s ≡ unbroken (suc k + n)) × Times hexDigit n s (drop n s)) ⊎ Lacks n (suc k) s
@@ -45,14 +46,14 @@ hexes-finds (suc n) k (c ∷ s) = go (isHexDigit (c .code)) refl (hexes-finds n 
     go true e (inl h) = inl (rw e (h .0 ∙ ap unbroken (omega arith)), Times.more e (h .1))
     go true e (inr l) =
         inr (record {
-          stood = suc (l .stood);
+          count = suc (l .count);
           rest = l .rest;
           fewer = omega (arith, l .fewer);
           found = rw e (l .found);
           times = Times.more e (l .times);
           lacks = l .lacks;
         })
-    go false e h = inr (record { stood = 0; rest = c ∷ s; fewer = omega arith; found = rw e; times = Times.done; lacks = e })
+    go false e h = inr (record { count = 0; rest = c ∷ s; fewer = omega arith; found = rw e; times = Times.done; lacks = e })
 
 -- at most n digits
 upto-found : (n k : ℕ) {s r : Text} → UpTo digit n s r → (m : ℕ) × (digitsUpTo n k s ≡ k + m) × (r ≡ drop m s)
@@ -139,7 +140,7 @@ slash-finds (b ∷ c ∷ t) e = go (simple (c .code)) (isDigit (c .code)) (oneOf
           number = 13;
           rest = l .rest;
           found = rw (x, y, z) (l .found);
-          wrong = BadEscape.e13 (l .stood) (l .fewer) (both (One.one e) (both (One.one z) (l .times))) (l .lacks);
+          wrong = BadEscape.e13 (l .count) (l .fewer) (both (One.one e) (both (One.one z) (l .times))) (l .lacks);
         })
 
     number : simple (c .code) ≡ false → isDigit (c .code) ≡ true → (m : ℕ) × (digitsUpTo 2 1 t ≡ 1 + m) × UpTo digit 2 t (drop m t) → Good (b ∷ c ∷ t)

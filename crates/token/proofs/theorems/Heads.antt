@@ -12,8 +12,8 @@ use Rattle.chars.specs.paper.Classes.{isIdStart}
 use Rattle.chars.specs.paper.Text.{Char, Text, headIs}
 use Rattle.chars.proofs.Bools.{clash, and-both}
 use Rattle.chars.specs.promises.Codes.{CodeLaws, every}
-use Rattle.chars.specs.promises.Classes.{ClassLaws}
-use Rattle.chars.proofs.theorems.Promises.{code-laws, class-laws}
+use Rattle.chars.proofs.theorems.Promises.{code-laws}
+use Rattle.token.proofs.Classes.{slash-sign}
 use Rattle.token.specs.paper.Tests.{isAny, begins, startsWith, opensComment, quote, digit, opSign, freeSign, apostrophe}
 use Rattle.token.specs.paper.Kinds.{Kind, TokenType}
 use Rattle.token.specs.paper.Shapes.{One, both, Ident, Operator, Backtick, Prefix, Str, TokenShape, HasShape}
@@ -28,7 +28,6 @@ use Rattle.token.proofs.theorems.Prefixed.{backtick-found}
 use Rattle.token.proofs.theorems.Ticks.{char-sym-found}
 
 open CodeLaws code-laws using (carry)
-open ClassLaws class-laws using (slash-sign)
 
 -- one of the ten tests is enough
 module _ (s : Text) where

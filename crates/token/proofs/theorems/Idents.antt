@@ -15,6 +15,7 @@ use Rattle.chars.proofs.Bools.{clash}
 use Rattle.chars.specs.promises.Texts.{TextLaws, Suffix}
 use Rattle.chars.specs.promises.Classes.{ClassLaws}
 use Rattle.chars.proofs.theorems.Promises.{text-laws, class-laws}
+use Rattle.token.proofs.Classes.{under-no-id, sign-no-under}
 use Rattle.token.specs.paper.Tests.{isAny, opSign, quote}
 use Rattle.token.specs.paper.Kinds.{TokenType, wordOf}
 use Rattle.token.specs.paper.Shapes.{One, Run, Run1, _then_, both, Chunks, Tail, Ident, codesOf, TokenShape}
@@ -27,7 +28,7 @@ use Rattle.token.proofs.theorems.Runs.{run-after, run-suffix, after-lea
 use Rattle.token.proofs.theorems.Operators.{Stood}
 
 open TextLaws text-laws using (suffix-refl, suffix-trans, suffix-same)
-open ClassLaws class-laws using (under-no-id, sign-no-id, sign-no-under)
+open ClassLaws class-laws using (sign-no-id)
 
 abbrev isUnder : ℕ → Bool
 isUnder c = oneOf "_" c

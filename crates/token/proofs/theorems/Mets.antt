@@ -7,15 +7,15 @@ use mathlib.Core.List.{[], _∷_}
 use lib.ListN.{length, drop}
 use lib.Dec.{eqb, leb, ltb}
 use native.Mathlib.Omega.{arith}
-use borrow.Author.Tests.{eqb-true, leb-true, ltb-true, ltb-false}
+use borrow.Author.Tests.{eqb-true, leb-true, ltb-true, ltb-false, not-true}
 use Rattle.chars.specs.paper.Quoted.{between, oneOf}
 use Rattle.chars.specs.paper.Classes.{isIdStart, isOpSign}
 use Rattle.chars.specs.paper.Text.{Char, Text, headIs}
 use Rattle.chars.specs.computed.Runs.{afterRun}
-use Rattle.chars.proofs.Bools.{clash, and-both, not-true}
+use Rattle.chars.proofs.Bools.{clash, and-both}
 use Rattle.chars.specs.promises.Texts.{TextLaws, Suffix}
-use Rattle.chars.specs.promises.Classes.{ClassLaws}
-use Rattle.chars.proofs.theorems.Promises.{text-laws, class-laws}
+use Rattle.chars.proofs.theorems.Promises.{text-laws}
+use Rattle.token.proofs.Classes.{slash-sign, slash-no-start}
 use Rattle.token.specs.paper.Tests.{isDigit, isHexDigit, isAny, begins, quote, threeQuotes, backslash, dollarBrace, digit, hexDigit, opSign, freeSign, notBacktick, apostrophe}
 use Rattle.token.specs.paper.Shapes.{One, Run, Times, both, Single, singleChar, tripleChar, Block, Name}
 use Rattle.token.specs.paper.Refusals.{BadEscape, Opens, InSingle, InTriple, WithinSingle, Met, GivesWay, First}
@@ -35,7 +35,6 @@ use Rattle.token.proofs.theorems.Starts.{starts-declared}
 use Rattle.token.proofs.theorems.Dispatch.{clear-head, Clear, or-false, quote-any, scan-by, starts-block, starts-cr, starts-number, starts-word, starts-backtick, starts-string, starts-tick}
 
 open TextLaws text-laws using (suffix-refl, suffix-cons, suffix-trans, suffix-same)
-open ClassLaws class-laws using (slash-sign, slash-no-start)
 
 -- a class without `/` opens no comment
 clear-digit : (s : Text) → digit s ≡ true → Clear s

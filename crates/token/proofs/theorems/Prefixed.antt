@@ -8,13 +8,12 @@ use mathlib.Core.Option.{Option, none, some}
 use lib.ListN.{length, drop}
 use lib.Dec.{eqb}
 use native.Mathlib.Omega.{arith}
-use borrow.Author.Tests.{eqb-true}
+use borrow.Author.Tests.{eqb-true, not-true}
 use Rattle.chars.specs.paper.Classes.{isIdStart}
 use Rattle.chars.specs.paper.Text.{Char, Text, place, headIs}
 use Rattle.chars.specs.computed.Runs.{afterRun}
-use Rattle.chars.proofs.Bools.{clash, not-true}
-use Rattle.chars.specs.promises.Classes.{ClassLaws}
-use Rattle.chars.proofs.theorems.Promises.{class-laws}
+use Rattle.chars.proofs.Bools.{clash}
+use Rattle.token.proofs.Classes.{no-start}
 use Rattle.token.specs.paper.Tests.{isAny, begins, quote, notBacktick}
 use Rattle.token.specs.paper.Kinds.{TokenType, wordOf}
 use Rattle.token.specs.paper.Shapes.{One, Run, Run1, Times, both, PlainIdent, Backtick, Body, Prefix, codesOf, TokenShape}
@@ -30,7 +29,6 @@ use Rattle.token.proofs.theorems.Ticks.{Fell}
 use Rattle.token.proofs.theorems.Idents.{ident-finds, ident-found, ident-stands, scan-ident}
 use Rattle.token.proofs.theorems.Strings.{body-found, body-finds, Closed, Wrong}
 
-open ClassLaws class-laws using (no-start)
 
 -- neither begins with a quote
 pub start-no-quote : (s : Text) → headIs isIdStart s ≡ true → quote s ≡ false

@@ -11,8 +11,8 @@ use Rattle.chars.specs.paper.Classes.{isIdStart}
 use Rattle.chars.specs.paper.Text.{Char, Text}
 use Rattle.chars.proofs.Bools.{clash, and-both}
 use Rattle.chars.specs.promises.Codes.{CodeLaws, every}
-use Rattle.chars.specs.promises.Classes.{ClassLaws}
-use Rattle.chars.proofs.theorems.Promises.{code-laws, class-laws}
+use Rattle.chars.proofs.theorems.Promises.{code-laws}
+use Rattle.token.proofs.Classes.{slash-sign}
 use Rattle.token.specs.paper.Tests.{isDigit, isHexDigit, begins, startsWith}
 use Rattle.token.specs.paper.Kinds.{Kind, TokenType}
 use Rattle.token.specs.paper.Shapes.{One, Run, Run1, both, Escape, Single, Body, TokenShape, HasShape}
@@ -27,7 +27,6 @@ use Rattle.token.proofs.theorems.Dispatch.{Fact, start-fact, sign-of, d
 use Rattle.token.proofs.theorems.Complete.{code-is}
 
 open CodeLaws code-laws using (carry)
-open ClassLaws class-laws using (slash-sign)
 
 -- ---- texts that begin with a given start
 

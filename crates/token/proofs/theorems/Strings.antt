@@ -7,11 +7,11 @@ use mathlib.Core.List.{[], _∷_}
 use lib.ListN.{length, drop, length-drop}
 use lib.Dec.{eqb}
 use native.Mathlib.Omega.{arith}
-use borrow.Author.Tests.{eqb-true}
+use borrow.Author.Tests.{eqb-true, not-true}
 use Rattle.chars.specs.paper.Quoted.{codes}
 use Rattle.chars.specs.paper.Text.{Char, Text}
 use Rattle.chars.specs.computed.Runs.{afterRun}
-use Rattle.chars.proofs.Bools.{clash, and-both, not-true}
+use Rattle.chars.proofs.Bools.{clash, and-both}
 use Rattle.chars.specs.promises.Texts.{TextLaws}
 use Rattle.chars.proofs.theorems.Promises.{text-laws}
 use Rattle.token.specs.paper.Tests.{isAny, begins, startsWith, quote, threeQuotes, backslash, dollarBrace}

@@ -93,17 +93,17 @@ module _ (script : List ℕ) where
       there e (Walked.stops ps c t z f x y) =
           let k : z .number ≡ j = ap numberIn (sym f ∙ e) in
           let p : place (length script) (z .rest) ≡ a = ap placeIn (sym f ∙ e) in
-          record { pieces = ps; at = c ∷ t; up = x; no-piece = y; rest = z .rest; first = rw (← k) (first-of (length script) (c ∷ t) z); place-is = p }
+          record { pieces = ps; text = c ∷ t; up = x; no-piece = y; rest = z .rest; first = rw (← k) (first-of (length script) (c ∷ t) z); place-is = p }
 
       back : Refused script j a → Walked script [] (from script 0) (answer script) → answer script ≡ refused j a
-      back h (Walked.reads ps ts f x y b) = go (h .at) (h .up) (h .no-piece) (h .first .met)
+      back h (Walked.reads ps ts f x y b) = go (h .text) (h .up) (h .no-piece) (h .first .met)
         where
           go : (r : Text) → Pieces (length script) (from script 0) (h .pieces) r → ((k : Kind) (o : Text) → Stands k r o → ⊥) → Met r j (h .rest)
               → answer script ≡ refused j a
           go [] u n m = absurd (met-end j (h .rest) m)
           go (c ∷ t) u n m = absurd (no-both c t x refl u refl n)
       back h (Walked.stops ps c t z f x y) =
-          let s : c ∷ t ≡ h .at = stop-same x y (h .up) (h .no-piece) in
+          let s : c ∷ t ≡ h .text = stop-same x y (h .up) (h .no-piece) in
           let m : First (c ∷ t) j (h .rest) = rw s (h .first) in
           let o = first-only (length script) (c ∷ t) z j (h .rest) m in
           f ∙ ap (λ k. refused k (place (length script) (z .rest))) (o .0) ∙ ap (λ u. refused j (place (length script) u)) (o .1)
@@ -147,7 +147,7 @@ module _ (script : List ℕ) where
   theorems =
       record {
         longest-valid = valid script;
-        accepts = ((λ h. let c = complete (h .0) (h .1) in (c .0, c .1)), λ h. let c = sound (h .0) (h .1) in (c .0, c .1));
+        read-exactly = ((λ h. let c = complete (h .0) (h .1) in (c .0, c .1)), λ h. let c = sound (h .0) (h .1) in (c .0, c .1));
         one-reading = one-reading script;
         tokens = tokens;
         one-tokens = λ ps ts us h k. tokens-one h k;

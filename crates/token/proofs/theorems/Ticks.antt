@@ -1,5 +1,6 @@
 -- Characters and symbols: what the scanner finds stands, what stands is what it finds, and refusals 12 to 16.
 use Prim.Native.Nat.{ℕ, _-_}
+use borrow.Author.Tests.{not-true}
 use mathlib.Core.Path.{_≡_, refl, sym, _∙_}
 use mathlib.Core.Bool.{Bool, true, false, cond, not, _&&_}
 use mathlib.Core.Logic.{_⊎_, inl, inr}
@@ -9,9 +10,10 @@ use Rattle.chars.specs.paper.Quoted.{oneOf}
 use Rattle.chars.specs.paper.Text.{Char, Text, headIs}
 use Rattle.chars.specs.computed.Runs.{afterRun}
 use Rattle.chars.specs.paper.Classes.{isIdStart, isOpSign, isPrintable}
-use Rattle.chars.proofs.Bools.{clash, and-both, not-true}
+use Rattle.chars.proofs.Bools.{clash, and-both}
 use Rattle.chars.specs.promises.Classes.{ClassLaws}
 use Rattle.chars.proofs.theorems.Promises.{class-laws}
+use Rattle.token.proofs.Classes.{no-start, no-sign}
 use Rattle.token.specs.paper.Tests.{isAny, backslash, opSign, opensComment, freeSign, apostrophe, plainChar}
 use Rattle.token.specs.paper.Kinds.{TokenType}
 use Rattle.token.specs.paper.Shapes.{One, _then_, both, Character, Name, Symbol, TokenShape}
@@ -25,7 +27,7 @@ use Rattle.token.proofs.theorems.Operators.{Stood}
 use Rattle.token.proofs.theorems.Idents.{ident-finds, ident-found}
 use Rattle.token.proofs.theorems.Escapes.{slash-found, slash-finds, Good, Bad}
 
-open ClassLaws class-laws using (sign-no-start, no-start, no-sign)
+open ClassLaws class-laws using (sign-no-start)
 
 -- a refusal that is found and met
 pub record Fell (s : Text) (f : Found) : Type 0 where

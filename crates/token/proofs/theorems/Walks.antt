@@ -38,7 +38,7 @@ walk-skip n (suc k) f (c ∷ s) = walk-skip n k f s
 walk-rest : (n : ℕ) (f : Gap) (c : Char) (s r : Text) → Strict r (c ∷ s) → walk n (length s - length r) f s ≡ walk n 0 f r
 walk-rest n f c s r (h, l) =
     let e : suc (length s) - length r ≡ suc (length s - length r) = omega arith in
-    let q : r ≡ drop (length s - length r) s = h .tail ∙ ap (λ k. drop k (c ∷ s)) e in
+    let q : r ≡ drop (length s - length r) s = h .rest-is ∙ ap (λ k. drop k (c ∷ s)) e in
     walk-skip n (length s - length r) f s ∙ ap (walk n 0 f) (sym q)
 
 pub walk-gap : (n : ℕ) (f : Gap) (c : Char) (s r : Text) (g : GapKind) → scan n (c ∷ s) ≡ Found.gap g r → Strict r (c ∷ s)

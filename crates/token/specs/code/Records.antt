@@ -52,12 +52,12 @@ tokensIn (refused j a) = []
 
 -- the script is accepted, and its records fit into so many bytes
 pub record Fits (w : Answer) (room : ℕ) : Type 0 where
-  pub accepts : isAccepted w ≡ true
+  pub is-accepted : isAccepted w ≡ true
   pub fits : recordBytes (tokensIn w) ≤ room
 
 -- what is still to be written fits, and brings the buffer to `all`
 pub record Writing (v : Answer) (all out : List ℕ) (w : ℕ) : Type 0 where
-  pub accepts : isAccepted v ≡ true
+  pub is-accepted : isAccepted v ≡ true
   pub room : w + recordBytes (tokensIn v) ≤ length out
   pub brings : sets out w (records (tokensIn v)) ≡ all
 

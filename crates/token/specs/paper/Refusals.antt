@@ -100,9 +100,9 @@ pub record First (s : Text) (j : ℕ) (q : Text) : Type 0 where
 -- A character inside a piece that stands meets none of 1 to 16.
 pub record Refused (script : List ℕ) (j a : ℕ) : Type 0 where
   pub pieces : List Piece
-  pub at : Text
-  pub up : Pieces (length script) (from script 0) pieces at
-  pub no-piece : (k : Kind) (r : Text) → Stands k at r → ⊥
+  pub text : Text
+  pub up : Pieces (length script) (from script 0) pieces text
+  pub no-piece : (k : Kind) (r : Text) → Stands k text r → ⊥
   pub rest : Text
-  pub first : First at j rest
+  pub first : First text j rest
   pub place-is : place (length script) rest ≡ a

@@ -100,9 +100,9 @@ pub data Digits : ℕ → Text → Text → Type 0 where
   dec : {s r : Text} → hexAhead s ≡ false → Longest (Run1 digit) s r → Digits (valueOfDigits 10 (codesOf s r)) s r
 
 -- then `L` or `l` if it stands there (true), else nothing
-abbrev pub Suffix : Bool → Shape
-Suffix true s r = One longSuffix s r
-Suffix false s r = (s ≡ r) × (longSuffix s ≡ false)
+abbrev pub LongSuffix : Bool → Shape
+LongSuffix true s r = One longSuffix s r
+LongSuffix false s r = (s ≡ r) × (longSuffix s ≡ false)
 
 -- LongLit, at most 9223372036854775807; else IntLit, at most 2147483647
 abbrev pub limit : Bool → ℕ
@@ -111,7 +111,7 @@ limit false = 2147483647
 
 -- the text of a number of the value v, however large
 abbrev pub NumberText : Bool → ℕ → Shape
-NumberText long v s r = (Digits v then Suffix long) s r
+NumberText long v s r = (Digits v then LongSuffix long) s r
 
 abbrev pub Number : Bool → Shape
 Number long s r = (v : ℕ) × NumberText long v s r × (v ≤ limit long)

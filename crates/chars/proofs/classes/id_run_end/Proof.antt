@@ -1,5 +1,5 @@
 use Prim.Native.Nat.{_-_}
-use mathlib.Core.Path.{_≡_, refl, ap, _∙_}
+use mathlib.Core.Path.{_≡_, refl, sym, ap, _∙_}
 use native.Mathlib.Omega.{arith}
 use borrow.Author.Needs.{needs}
 use borrow.Author.Tests.{not-false}
@@ -67,21 +67,21 @@ add-i-2 : tie.Need-add-i-2 Inv-loop μ-loop
 add-i-2 c =
     let s = c .before .before .before .before .before .before .before .before .before .args .s .now in
     let loop = c .before .before .before .before .before .before .before .loop in
-    let w = russian s (loop .i) (c .before .is-cyrillic-at .ensures) (not-false _ (c .if3 .left)) .within in
+    let w = russian s (loop .i) (sym (c .before .is-cyrillic-at .ensures) ∙ not-false _ (c .if3 .left)) .within in
     omega arith
 
 loop-less-2 : tie.Need-loop-less-2 Inv-loop μ-loop
 loop-less-2 c =
     let s = c .before .before .before .before .before .before .before .before .before .args .s .now in
     let loop = c .before .before .before .before .before .before .before .loop in
-    let w = russian s (loop .i) (c .before .is-cyrillic-at .ensures) (not-false _ (c .if3 .left)) .within in
+    let w = russian s (loop .i) (sym (c .before .is-cyrillic-at .ensures) ∙ not-false _ (c .if3 .left)) .within in
     omega arith
 
 loop-again-2 : tie.Need-loop-again-2 Inv-loop μ-loop
 loop-again-2 c =
     let s = c .before .before .before .before .before .before .before .before .before .args .s .now in
     let loop = c .before .before .before .before .before .before .before .loop in
-    russian-on s (loop .i) _ (russian s (loop .i) (c .before .is-cyrillic-at .ensures) (not-false _ (c .if3 .left))) (loop .inv)
+    russian-on s (loop .i) _ (russian s (loop .i) (sym (c .before .is-cyrillic-at .ensures) ∙ not-false _ (c .if3 .left))) (loop .inv)
 
 returns-3 : tie.Need-returns-3 Inv-loop μ-loop
 returns-3 c =

@@ -5,7 +5,7 @@ use native.Mathlib.Omega.{arith}
 use lib.Dec.{leb, ltb, eqb}
 use Rattle.chars.specs.promises.Classes.{lowStart}
 use Rattle.chars.proofs.classes.Laws.{byte-start}
-use Rattle.chars.proofs.Carry.{each, each-same}
+use Rattle.chars.proofs.Carry.{carry-span, each-same}
 use Rattle.chars.proofs.classes.is_ascii_start.Statement.{statement}
 use Rattle.chars.proofs.classes.is_ascii_start.Tie as tie
 
@@ -17,7 +17,7 @@ returns c =
 returns-2 : tie.Need-returns-2
 returns-2 c =
     let b = c .before .before .before .args .b in
-    sym (byte-start b ∙ each (λ x. ltb x 0x80 && lowStart x) 0x41 26 b refl (omega arith) (omega arith))
+    sym (byte-start b ∙ carry-span (λ x. ltb x 0x80 && lowStart x) 0x41 26 b refl (omega arith) (omega arith))
 
 returns-3 : tie.Need-returns-3
 returns-3 c =

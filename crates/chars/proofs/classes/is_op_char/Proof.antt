@@ -8,7 +8,7 @@ use borrow.Author.Tests.{le-leb}
 use lib.Dec.{leb}
 use Rattle.chars.specs.paper.Quoted.{codes, member}
 use Rattle.chars.specs.paper.Classes.{isOpSign}
-use Rattle.chars.proofs.Carry.{carry, no-member, each, each-but, hits, misses}
+use Rattle.chars.proofs.Carry.{carry, no-member, carry-span, each-but, hits, misses}
 use Rattle.chars.proofs.classes.is_op_char.Statement.{statement}
 use Rattle.chars.proofs.classes.is_op_char.Tie as tie
 
@@ -55,15 +55,15 @@ returns-5 c =
 
 returns-6 : tie.Need-returns-6
 unfolding isOpSign
-returns-6 c = sym (each isOpSign 0x25 2 (c .before .before .before .args .c) refl (omega arith) (omega arith))
+returns-6 c = sym (carry-span isOpSign 0x25 2 (c .before .before .before .args .c) refl (omega arith) (omega arith))
 
 returns-7 : tie.Need-returns-7
 unfolding isOpSign
-returns-7 c = sym (each isOpSign 0x2A 2 (c .before .before .before .before .before .args .c) refl (omega arith) (omega arith))
+returns-7 c = sym (carry-span isOpSign 0x2A 2 (c .before .before .before .before .before .args .c) refl (omega arith) (omega arith))
 
 returns-8 : tie.Need-returns-8
 unfolding isOpSign
-returns-8 c = sym (each isOpSign 0x3C 5 (c .before .before .before .before .before .before .before .args .c) refl (omega arith) (omega arith))
+returns-8 c = sym (carry-span isOpSign 0x3C 5 (c .before .before .before .before .before .before .before .args .c) refl (omega arith) (omega arith))
 
 pub is-op-char-spec : {M : Type 1} → statement M
 is-op-char-spec =

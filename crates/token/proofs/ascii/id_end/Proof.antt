@@ -8,12 +8,10 @@ use lib.ListN.{length}
 use Rattle.chars.specs.paper.Text.{from}
 use Rattle.chars.specs.computed.Runs.{afterRun}
 use Rattle.chars.specs.code.Classes.{asciiIdChar}
-use Rattle.chars.specs.promises.Classes.{ClassLaws}
-use Rattle.chars.proofs.theorems.Promises.{class-laws}
+use Rattle.token.proofs.ascii.IdRuns.{ascii-on, ascii-out, ascii-stop}
 use Rattle.token.proofs.ascii.id_end.Statement.{statement}
 use Rattle.token.proofs.ascii.id_end.Tie as tie
 
-open ClassLaws class-laws using (ascii-on, ascii-out, ascii-end)
 
 abbrev Inv-loop : tie.InvT-loop
 Inv-loop s t at i₀ i = afterRun asciiIdChar (from s i) ≡ afterRun asciiIdChar (from s at)
@@ -51,7 +49,7 @@ loop-again c =
     ascii-on s (loop .i) _ h (sym (c .before .continues-word .ensures) ∙ not-false _ (c .if1 .left)) (loop .inv)
 
 returns-2 : tie.Need-returns-2 Inv-loop μ-loop
-returns-2 c = ascii-end (c .before .before .before .args .s .now) (c .before .loop .i) _ (c .loop-test .left) (c .before .loop .inv)
+returns-2 c = ascii-stop (c .before .before .before .args .s .now) (c .before .loop .i) _ (c .loop-test .left) (c .before .loop .inv)
 
 pub id-end-spec : {M : Type 1} → statement M
 id-end-spec =

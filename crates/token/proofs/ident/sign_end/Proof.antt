@@ -4,15 +4,14 @@ use mathlib.Core.Path.{sym, ap, _∙_}
 use native.Mathlib.Omega.{arith}
 use Rattle.chars.specs.paper.Classes.{isOpSign}
 use Rattle.chars.specs.promises.Texts.{TextLaws}
-use Rattle.chars.specs.promises.Classes.{ClassLaws}
-use Rattle.chars.proofs.theorems.Promises.{text-laws, class-laws}
+use Rattle.chars.proofs.theorems.Promises.{text-laws}
+use Rattle.token.proofs.Classes.{nul-no-sign, sign-byte}
 use Rattle.token.proofs.ident.Laws.{head-inside, head-low, past-on, past-off}
 use borrow.Author.Needs.{needs}
 use Rattle.token.proofs.ident.sign_end.Statement.{statement}
 use Rattle.token.proofs.ident.sign_end.Tie as tie
 
 open TextLaws text-laws using (ascii-next)
-open ClassLaws class-laws using (nul-no-sign, sign-byte)
 
 byte-at-requires : tie.Need-byte-at-requires
 byte-at-requires c κs = search needs

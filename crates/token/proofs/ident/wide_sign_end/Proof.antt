@@ -9,7 +9,7 @@ use borrow.Author.Needs.{needs}
 use Rattle.token.proofs.ident.wide_sign_end.Statement.{statement}
 use Rattle.token.proofs.ident.wide_sign_end.Tie as tie
 
-open TextLaws text-laws using (at-end, head-at, step-text, step-none)
+open TextLaws text-laws using (at-end, at-char, step-text, step-none)
 
 char-at-requires : tie.Need-char-at-requires
 char-at-requires c κs = search needs
@@ -34,14 +34,14 @@ returns-2 c =
     let s = c .before .before .before .before .before .before .before .args .s .now in
     let i = c .before .before .before .before .before .before .before .args .at in
     let t = step-text s i _ _ (sym (c .before .before .before .here .given .1) ∙ c .before .before .before .before .before .char-at .ensures .0) in
-    past-on isOpSign s i _ (head-at isOpSign s i (t .0) ∙ ap isOpSign (t .1) ∙ sym (c .before .is-op-char .ensures) ∙ c .if1 .taken) (sym (t .2))
+    past-on isOpSign s i _ (ap (headIs isOpSign) (at-char s i (t .0)) ∙ ap isOpSign (t .1) ∙ sym (c .before .is-op-char .ensures) ∙ c .if1 .taken) (sym (t .2))
 
 returns-3 : tie.Need-returns-3
 returns-3 c =
     let s = c .before .before .before .before .before .before .before .args .s .now in
     let i = c .before .before .before .before .before .before .before .args .at in
     let t = step-text s i _ _ (sym (c .before .before .before .here .given .1) ∙ c .before .before .before .before .before .char-at .ensures .0) in
-    past-off isOpSign s i (head-at isOpSign s i (t .0) ∙ ap isOpSign (t .1) ∙ sym (c .before .is-op-char .ensures) ∙ c .if1 .left)
+    past-off isOpSign s i (ap (headIs isOpSign) (at-char s i (t .0)) ∙ ap isOpSign (t .1) ∙ sym (c .before .is-op-char .ensures) ∙ c .if1 .left)
 
 pub wide-sign-end-spec : {M : Type 1} → statement M
 wide-sign-end-spec =

@@ -23,20 +23,20 @@ is-cyrillic-at-requires c κs = search needs
 add-t6 : tie.Need-add-t6
 add-t6 c =
     let a = c .before .before .before .before .args in
-    let w = russian (a .s .now) (a .c .at) (c .before .before .is-cyrillic-at .ensures) (c .before .if1 .taken) .within in
+    let w = russian (a .s .now) (a .c .at) (sym (c .before .before .is-cyrillic-at .ensures) ∙ c .before .if1 .taken) .within in
     omega arith
 
 lex-ident-requires : tie.Need-lex-ident-requires
 lex-ident-requires c κs =
     let a = c .before .before .before .before .args in
-    let r = russian (a .s .now) (a .c .at) (c .before .before .is-cyrillic-at .ensures) (c .before .if1 .taken) in
+    let r = russian (a .s .now) (a .c .at) (sym (c .before .before .is-cyrillic-at .ensures) ∙ c .before .if1 .taken) in
     (omega arith, r .start, r .within, r .after)
 
 returns : tie.Need-returns
 returns c =
     let a = c .before .before .before .before .before .args in
     let pre = c .before .before .before .before .before .pre in
-    let r = russian (a .s .now) (a .c .at) (c .before .before .before .is-cyrillic-at .ensures) (c .before .before .if1 .taken) in
+    let r = russian (a .s .now) (a .c .at) (sym (c .before .before .before .is-cyrillic-at .ensures) ∙ c .before .before .if1 .taken) in
     c .lex-ident .ensures ∙ ap (pieceOf (length (a .s .now))) (sym (word-at (a .s .now) (a .c .at) (pre .0) (pre .2) (r .start)))
 
 peek-requires : tie.Need-peek-requires

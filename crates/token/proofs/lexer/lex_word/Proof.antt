@@ -4,9 +4,9 @@ use native.Mathlib.Omega.{arith}
 use lib.ListN.{length}
 use Rattle.chars.specs.paper.Classes.{isOpSign}
 use Rattle.chars.specs.paper.Text.{from}
-use Rattle.chars.specs.promises.Classes.{ClassLaws}
 use Rattle.chars.specs.promises.Texts.{TextLaws}
-use Rattle.chars.proofs.theorems.Promises.{text-laws, class-laws}
+use Rattle.chars.proofs.theorems.Promises.{text-laws}
+use Rattle.token.proofs.Classes.{sign-byte}
 use Rattle.token.specs.code.Piece.{pieceOf}
 use Rattle.token.specs.declared.piece.Piece.the-variants as piece
 use Rattle.token.proofs.lexer.Laws.{word-at, operator-at, other-at, ascii-head, ascii-start, ascii-no-start}
@@ -15,7 +15,6 @@ use Rattle.token.proofs.lexer.lex_word.Statement.{statement}
 use Rattle.token.proofs.lexer.lex_word.Tie as tie
 
 open TextLaws text-laws using (place-from)
-open ClassLaws class-laws using (sign-byte)
 
 shared-slice-read-b : tie.Need-shared-slice-read-b
 shared-slice-read-b c = search needs

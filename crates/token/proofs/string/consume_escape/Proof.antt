@@ -16,7 +16,7 @@ use borrow.Author.Needs.{needs}
 use Rattle.token.proofs.string.consume_escape.Statement.{statement}
 use Rattle.token.proofs.string.consume_escape.Tie as tie
 
-open CodeLaws code-laws using (carry, no-member, each, hits, misses)
+open CodeLaws code-laws using (carry, no-member, carry-span, hits, misses)
 
 -- the keys of the single cases
 abbrev keys : List ℕ
@@ -55,7 +55,7 @@ unfolding isDigit
 returns-4 c =
     let s = c .before .before .before .before .before .before .before .args .s .now in
     let x = getD s (c .before .before .before .before .before .before .before .args .c .at) 0 in
-    escape-digits s _ (c .before .before .before .before .before .if1 .left) _ (c .consume-digits .ensures .0) (c .consume-digits .ensures .2) (each isDigit 0x30 10 x refl (omega arith) (omega arith))
+    escape-digits s _ (c .before .before .before .before .before .if1 .left) _ (c .consume-digits .ensures .0) (c .consume-digits .ensures .2) (carry-span isDigit 0x30 10 x refl (omega arith) (omega arith))
 
 returns-5 : tie.Need-returns-5
 unfolding isDigit

@@ -8,11 +8,11 @@ use Rattle.token.specs.code.String.{isOrdinary}
 use Rattle.token.proofs.string.is_ordinary.Statement.{statement}
 use Rattle.token.proofs.string.is_ordinary.Tie as tie
 
-open CodeLaws code-laws using (each, hits, misses)
+open CodeLaws code-laws using (carry-span, hits, misses)
 
 returns : tie.Need-returns
 unfolding isOrdinary
-returns c = sym (each isOrdinary 0x5D 163 (c .before .args .b) refl (omega arith) (omega arith))
+returns c = sym (carry-span isOrdinary 0x5D 163 (c .before .args .b) refl (omega arith) (omega arith))
 
 returns-2 : tie.Need-returns-2
 unfolding isOrdinary
