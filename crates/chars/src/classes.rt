@@ -89,6 +89,7 @@ pub fn is_op_char(c: u32) -> bool
 }
 
 // Whether the byte's bit is set in one of two masks, for the codes up to 0x3F and from 0x40 to 0x7F: two tests where a `match` takes a dozen.
+// The second clause: what is computed at a few codes is carried to a code that is one of them.
 pub fn has_bit(b: u8, low: u64, high: u64) -> bool
     ensures { λ r. ⌜ r ≡ bitIn low high b ⌝ }
     ensures { λ r. ⌜ CodeLaws ⌝ }
@@ -123,7 +124,7 @@ pub fn is_printable_char(c: u32) -> bool
 }
 
 // Whether c may start an identifier. A table is written to the stack where a function that lends it begins, so that ASCII and the Russian
-// letters are answered before such a function is called.
+// letters are answered before such a function is called. The second clause: what the classes exclude of each other, and that the tables ascend.
 pub fn is_id_start(c: u32) -> bool
     ensures { λ r. ⌜ r ≡ isIdStart c ⌝ }
     ensures { λ r. ⌜ ClassLaws ⌝ }

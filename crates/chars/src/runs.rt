@@ -20,7 +20,7 @@ fn four_in(s: &[u8], at: usize, low: u8, high: u8) -> bool
     two_in(s, at, low, high) & two_in(s, at + 2, low, high)
 }
 
-// Whether eight bytes stand at a place, all of them in the range.
+// Whether eight bytes stand at a place, all of them in the range. The second clause: then each of them is.
 pub fn eight_in(s: &[u8], at: usize, low: u8, high: u8) -> bool
     ensures { λ r. ⌜ r ≡ eightIn low high (now (s .entry)) at ⌝ }
     ensures { λ r. ⌜ RunLaws ⌝ }

@@ -10,8 +10,8 @@ pub enum Step {
     End,
 }
 
-// A byte with which no well-formed character begins counts as a character of its own value. The second clause says how the text from there on is
-// read by such steps.
+// A byte with which no well-formed character begins counts as a character of its own value. The second clause: how a text is read by such
+// steps, and what is left of it.
 pub fn char_at(s: &[u8], at: usize) -> Step
     ensures { λ r. ⌜ r ≡ stepAt (now (s .entry)) at ⌝ }
     ensures { λ r. ⌜ TextLaws ⌝ }

@@ -121,7 +121,8 @@ fn code_at(s: &[u8], at: usize, w: usize) -> u32
     a % 8 * 262144 + six_bits(s, at + 1) * 4096 + six_bits(s, at + 2) * 64 + six_bits(s, at + 3)
 }
 
-// The character that stands at a byte offset. Past the end none does. The second clause says what follows of it.
+// The character that stands at a byte offset. Past the end none does. The second clause says what follows of it, the
+// third what is decoded from the bytes that are written for a code.
 pub fn decode(s: &[u8], at: usize) -> Decoded
     ensures { λ r. ⌜ r ≡ decodeAt (now (s .entry)) at ⌝ }
     ensures { λ r. ⌜ Decoding (now (s .entry)) at ⌝ }
@@ -137,7 +138,8 @@ pub fn decode(s: &[u8], at: usize) -> Decoded
     }
 }
 
-// The length of the longest prefix that is a sequence of well-formed characters. Characters of two bytes are tested before the others.
+// The length of the longest prefix that is a sequence of well-formed characters. Characters of two bytes are tested before the others. The second
+// clause: there is one such prefix, and a text is well-formed where it is all of it.
 pub fn valid_prefix(s: &[u8]) -> usize
     ensures { λ r. ⌜ (r ≡ validPrefix (now (s .entry))) × LongestValid (now (s .entry)) r ⌝ }
     ensures { λ r. ⌜ ValidLaws ⌝ }

@@ -48,7 +48,8 @@ fn judge(scratch: &mut [u8], script: &[u8], room: usize) -> Judged
 }
 
 // The number is 0 where the script is accepted: then the records stand at the buffer's start. Every refusal leaves the buffer as it was.
-// The first clause gives the number and every lent byte for all lengths; the second says what follows: the three demands.
+// The first clause gives the number and every lent byte for all lengths; the second says what follows: the three demands, and
+// document 01's examples.
 pub fn tokenize(script: &[u8], records: &mut [u8], answer: &mut [u8]) -> u32
     ensures { λ r. ⌜ seen r (now (records .exit)) (now (answer .exit)) ≡ hostOf (now (script .entry)) (now (records .entry)) (now (answer .entry)) ⌝ }
     ensures { λ r. ⌜ HostTheorems (now (script .entry)) (now (records .entry)) (now (answer .entry)) ⌝ }

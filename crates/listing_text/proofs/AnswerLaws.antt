@@ -27,7 +27,6 @@ use Rattle.entry.specs.computed.Listing.{listingOf}
 use Rattle.entry.proofs.theorems.Hosts.{met-range, sees-host}
 use Rattle.listing_text.specs.Lines.{recordLines, answerText, zeros, mostScript, recordsRoom, printed}
 use Rattle.listing_text.proofs.TokenLines.{records-shown}
-
 open ValidLaws valid-laws using (valid, longest-one, valid-all)
 
 -- no more of a list than it has

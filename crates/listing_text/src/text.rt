@@ -70,7 +70,8 @@ fn put_listing(out: &mut [u8], at: usize, script: &[u8]) -> usize
     put_answer(out, at, number, &records, &block)
 }
 
-// The listing of a script stands at the start of out, and every other byte is as it was. The answer is the listing's length.
+// The listing of a script stands at the start of out, and every other byte is as it was. The answer is the listing's length. The last clause: document
+// 01's listing and marked scripts come out as it says.
 pub fn listing(script: &[u8], out: &mut [u8; TEXT_BYTES]) -> usize
     ensures { λ r. ⌜ r ≡ length (printed (now (script .entry))) ⌝ }
     ensures { λ r. ⌜ now (out .exit) ≡ sets (now (out .entry)) 0 (printed (now (script .entry))) ⌝ }

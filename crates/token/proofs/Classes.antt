@@ -3,7 +3,6 @@ use Prim.Native.Nat.{ℕ, _<_}
 use Prim.Native.String.{String}
 use mathlib.Core.Path.{_≡_, refl, sym, _∙_, ap}
 use mathlib.Core.Bool.{Bool, true, false, not, _&&_, _||_}
-use mathlib.Core.List.{List, [], _∷_}
 use native.Mathlib.Omega.{arith}
 use lib.Dec.{ltb}
 use borrow.Author.Tests.{lt-ltb, ltb-true}
@@ -13,7 +12,6 @@ use Rattle.chars.specs.promises.Codes.{CodeLaws, every}
 use Rattle.chars.specs.promises.Classes.{ClassLaws, lowStart, lowId}
 use Rattle.chars.proofs.Bools.{and-both}
 use Rattle.chars.proofs.theorems.Promises.{code-laws, class-laws}
-
 open CodeLaws code-laws using (carry, carry-not, every-sub)
 open ClassLaws class-laws using (sign-is, sign-no-start, byte-start, byte-id)
 

@@ -21,7 +21,8 @@ ghost use Rattle.token.specs.paper.Tests.{isAny, opSign, freeSign, opens
 ghost use Rattle.token.specs.paper.Kinds.{wordOf, runOf, wordKeywords, symbolKeywords};
 ghost use Rattle.token.specs.computed.Answer.{afterIdent, codesTo, orPrefixed, scanIdent, scanOperator, scanBacktick};
 ghost use Rattle.token.specs.code.Piece.{pieceOf};
-ghost use Rattle.token.specs.code.Ident.{keywordOf, LeftOf, standsAt, keywordAt};
+ghost use Rattle.token.specs.code.Ident.{keywordOf, standsAt, keywordAt};
+ghost use Rattle.chars.specs.promises.Texts.{Suffix};
 
 // A keyword, or that a text is none.
 pub enum Keyword {
@@ -164,7 +165,7 @@ fn keyword_if(found: bool, k: Kw) -> Keyword
 
 // The keyword among the nine words that stands from `start` to `end`. Most identifiers differ from all nine in their length.
 pub fn word_keyword(s: &[u8], start: usize, end: usize) -> Keyword
-    requires { ⌜ (start ≤ end) × (end ≤ length (now s)) × LeftOf (from (now s) start) (from (now s) end) ⌝ }
+    requires { ⌜ (start ≤ end) × (end ≤ length (now s)) × Suffix (from (now s) end) (from (now s) start) ⌝ }
     ensures { λ r. ⌜ r ≡ keywordOf (wordOf (codesTo (from (now (s .entry)) start) (from (now (s .entry)) end))) ⌝ }
 {
     match end - start {
@@ -230,7 +231,7 @@ fn word_of_eight(s: &[u8], at: usize) -> Keyword
 
 // The keyword among the five runs that stands from `start` to `end`.
 pub fn run_keyword(s: &[u8], start: usize, end: usize) -> Keyword
-    requires { ⌜ (start ≤ end) × (end ≤ length (now s)) × LeftOf (from (now s) start) (from (now s) end) ⌝ }
+    requires { ⌜ (start ≤ end) × (end ≤ length (now s)) × Suffix (from (now s) end) (from (now s) start) ⌝ }
     ensures { λ r. ⌜ r ≡ keywordOf (runOf (codesTo (from (now (s .entry)) start) (from (now (s .entry)) end))) ⌝ }
 {
     match end - start {

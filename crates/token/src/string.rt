@@ -16,7 +16,7 @@ ghost use Rattle.token.specs.paper.Tests.{isAny, quote, threeQuotes};
 ghost use Rattle.token.specs.computed.Answer.{closed, closeTriple, closeString, prefixedOf, scanString, plainContent};
 ghost use Rattle.token.specs.code.Piece.{pieceOf};
 ghost use Rattle.token.specs.code.String.{endedOf, escapeOf, hexesOf, isOrdinary, dollarOf, closeSingle, Onward, lastOff, spanKind, eightsOff, SameContent};
-ghost use Rattle.token.specs.code.Ident.{LeftOf};
+ghost use Rattle.chars.specs.promises.Texts.{Suffix};
 
 // A string's content: where it starts and ends.
 pub struct Span {
@@ -247,7 +247,7 @@ fn eights_off(s: &[u8], start: usize, end: usize) -> bool
 
 // The quotes at both ends of a string taken off by eights: what is left has the same content.
 fn strip_eights(s: &[u8], start: usize, end: usize) -> Span
-    requires { ⌜ (start ≤ end) × (end ≤ length (now s)) × LeftOf (from (now s) start) (from (now s) end) ⌝ }
+    requires { ⌜ (start ≤ end) × (end ≤ length (now s)) × Suffix (from (now s) end) (from (now s) start) ⌝ }
     ensures { λ r. ⌜ SameContent (now (s .entry)) start end (r .start) (r .end) ⌝ }
 {
     let mut a = start;
@@ -261,7 +261,7 @@ fn strip_eights(s: &[u8], start: usize, end: usize) -> Span
 
 // The content of the text from `start` to `end`.
 fn strip_many(s: &[u8], start: usize, end: usize) -> Span
-    requires { ⌜ (start ≤ end) × (end ≤ length (now s)) × LeftOf (from (now s) start) (from (now s) end) ⌝ }
+    requires { ⌜ (start ≤ end) × (end ≤ length (now s)) × Suffix (from (now s) end) (from (now s) start) ⌝ }
     ensures { λ r. ⌜ spanKind r ≡ plainContent (length (now (s .entry))) (from (now (s .entry)) start) (from (now (s .entry)) end) ⌝ }
 {
     let left = strip_eights(s, start, end);

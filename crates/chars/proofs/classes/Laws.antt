@@ -4,7 +4,7 @@ use Prim.Native.String.{String}
 use mathlib.Core.Path.{_≡_, refl, sym, ap, _∙_}
 use mathlib.Core.Bool.{Bool, true, false, cond, not, _&&_, _||_, and-true, and-false, or-true, or-false}
 use native.Mathlib.Omega.{arith}
-use borrow.Author.Tests.{not-true, eqb-true, ltb-true, ltb-false, le-leb, lt-leb, lt-ltb, le-ltb, ne-eqb}
+use borrow.Author.Tests.{not-true, eqb-true, ltb-true, ltb-false, le-leb, lt-leb, le-ltb, ne-eqb}
 use lib.Dec.{eqb, ltb}
 use Rattle.chars.specs.paper.Quoted.{between, codes, oneOf}
 use Rattle.chars.specs.paper.Tables.{alphabeticTable, lowercaseTable, uppercaseTable, ndTable, alphaNotLetterTable}

@@ -10,7 +10,7 @@ use Rattle.chars.specs.paper.Ranges.{Range, Ascending}
 use Rattle.chars.specs.computed.Ascending.{ascendingFrom}
 use Rattle.chars.specs.paper.Utf8.{width, codeOf}
 use Rattle.chars.specs.code.Utf8.{decodeAt}
-use Rattle.chars.specs.code.Text.{codeAt, charEnd}
+use Rattle.chars.specs.code.Text.{charEnd}
 use Rattle.chars.specs.promises.Codes.{CodeLaws}
 use Rattle.chars.specs.promises.Utf8.{Decoding, ValidLaws}
 use Rattle.chars.specs.promises.Texts.{TextLaws}

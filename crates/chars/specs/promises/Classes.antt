@@ -9,7 +9,7 @@ use Rattle.chars.specs.paper.Quoted.{between, oneOf}
 use Rattle.chars.specs.paper.Ranges.{Range, Ascending}
 use Rattle.chars.specs.paper.Tables.{alphabeticTable, lowercaseTable, uppercaseTable, ndTable, alphaNotLetterTable}
 use Rattle.chars.specs.paper.Classes.{isIdStart, isIdChar, opSigns, isOpSign, isPrintable}
-use Rattle.chars.specs.paper.Text.{Text, from, place, headIs, idChar}
+use Rattle.chars.specs.paper.Text.{from, place, headIs, idChar}
 use Rattle.chars.specs.computed.Runs.{afterRun}
 use Rattle.chars.specs.code.Text.{codeAt, charEnd}
 use Rattle.chars.specs.code.Classes.{asciiIdChar, isAsciiId, cyrillicAt}

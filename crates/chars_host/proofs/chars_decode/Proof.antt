@@ -13,13 +13,13 @@ enum-known-here : tie.Need-enum-known-here
 enum-known-here c = search needs
 
 mul-result : tie.Need-mul-result
-mul-result c = let few = c .before .before .before .decode .ensures .1 .0 .widths _ _ (sym (c .before .here .given .1) ∙ c .before .before .before .decode .ensures .0) .1 .0 in search needs
+mul-result c = let few = c .before .before .before .decode .ensures .1 .0 .widths _ _ (sym (c .before .here .given .1) ∙ c .before .before .before .decode .ensures .0) .1 in search needs
 
 cast-result : tie.Need-cast-result
 cast-result c = search needs
 
 add-result : tie.Need-add-result
-add-result c = let few = c .before .before .before .decode .ensures .1 .0 .widths _ _ (sym (c .before .here .given .1) ∙ c .before .before .before .decode .ensures .0) .1 .0 in search needs
+add-result c = let few = c .before .before .before .decode .ensures .1 .0 .widths _ _ (sym (c .before .here .given .1) ∙ c .before .before .before .decode .ensures .0) .1 in search needs
 
 enum-told : tie.Need-enum-told
 enum-told c = search needs

@@ -23,7 +23,6 @@ use Rattle.entry.specs.Theorems.{HostTheorems, Lends, Accepts}
 use Rattle.entry.proofs.host.Verdicts.{verdict-17, verdict-18, verdict-rest, room-granted, room-lacking, room-rejected}
 use Rattle.token.proofs.theorems.Theorems.{complete, refusal, need, answer-tokens, tokens-answer, theorems}
 use Rattle.entry.proofs.theorems.Examples.{examples}
-
 open ValidLaws valid-laws using (valid, longest-one, valid-all, all-valid)
 
 -- ---- the order, computed

@@ -1,4 +1,4 @@
--- Document 01's examples, as the host sees them. `HostTheorems` asks for them.
+-- Document 01's examples: by the listing of a script, by what the host sees, and of token text. `HostTheorems` asks for them.
 use Prim.Native.Nat.{ℕ}
 use mathlib.Core.Path.{_≡_}
 use mathlib.Core.Bool.{true}
@@ -13,7 +13,7 @@ use Rattle.token.specs.computed.Listing.{holdBy}
 use Rattle.token.specs.computed.Examples.{marked, listingExample, refusalExamples, tieExamples, traps}
 use Rattle.entry.specs.paper.Host.{seen}
 use Rattle.entry.specs.computed.Host.{rejected, verdict}
-use Rattle.entry.specs.paper.TokenText.{hasText, tokenText, textNumber}
+use Rattle.entry.specs.paper.TokenText.{tokenText, textNumber}
 use Rattle.entry.specs.computed.Listing.{entered, hosted}
 
 -- 18: 61 C0 80 hex: 1. Surrogates, what is over U+10FFFF, and a character cut short are no UTF-8 either.

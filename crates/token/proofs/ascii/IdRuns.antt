@@ -15,7 +15,6 @@ use Rattle.chars.specs.promises.Texts.{TextLaws}
 use Rattle.chars.specs.promises.Classes.{ClassLaws}
 use Rattle.chars.proofs.Bools.{and-both}
 use Rattle.chars.proofs.theorems.Promises.{text-laws, class-laws}
-
 open TextLaws text-laws using (at-end, place-from, ascii-next, head-byte, run-next, run-stays)
 open ClassLaws class-laws using (ascii-id)
 

@@ -17,7 +17,7 @@ use Rattle.chars.specs.code.Classes.{asciiIdChar}
 use Rattle.chars.proofs.Bools.{clash, and-both, or-neither}
 use Rattle.chars.specs.promises.Codes.{CodeLaws}
 use Rattle.chars.specs.promises.Classes.{ClassLaws}
-use Rattle.chars.specs.promises.Texts.{TextLaws}
+use Rattle.chars.specs.promises.Texts.{TextLaws, Suffix}
 use Rattle.chars.proofs.theorems.Promises.{code-laws, text-laws, class-laws}
 use Rattle.token.proofs.Classes.{start-not, slash-no-start}
 use Rattle.token.specs.paper.Tests.{isAny, begins, quote, freeSign, opensComment}
@@ -30,7 +30,6 @@ use Rattle.token.specs.code.Lexer.{seek, nextOf}
 use Rattle.token.specs.code.Records.{lineEndAt}
 use Rattle.token.specs.code.Cursor.{cursorAt}
 use Rattle.token.specs.code.Ascii.{AsciiToken, AsciiTokenOr, signNumber}
-use Rattle.token.specs.code.Ident.{LeftOf}
 use Rattle.token.specs.code.Piece.{pieceOf, pieceNumber}
 use Rattle.token.specs.declared.gap.Gap.{Gap}
 use Rattle.token.specs.declared.kinds.Kw.{Kw}
@@ -43,7 +42,6 @@ use Rattle.token.proofs.ident.Laws.{left-to, run-left, ident-left, pass
 use Rattle.token.proofs.lexer.Laws.{sign-at, word-at, operator-at, ascii-head, ascii-start, next-token, next-lf}
 use Rattle.token.proofs.lexer.Seeks.{seek-blanks}
 use Rattle.token.proofs.lexer.Turns.{Turn, turn-token, turn-line}
-
 open CodeLaws code-laws using (carry, carry-not)
 open TextLaws text-laws using (run-stays, ascii-next, place-from, run-next)
 open ClassLaws class-laws using (sign-no-start, ascii-whole)
@@ -124,7 +122,7 @@ module _ (s : List ℕ) (i e : ℕ) (h : i < length s) where
     word-rest : from s e ≡ afterIdent false (drop 1 (from s i))
     word-rest = r ∙ ap (afterIdent false) (ascii-start s i h a .2)
 
-    pub word-left : (i ≤ e) × (e ≤ n) × LeftOf (from s i) (from s e)
+    pub word-left : (i ≤ e) × (e ≤ n) × Suffix (from s e) (from s i)
     word-left = left-to s i e _ (omega arith) l word-rest (ident-left (from s i) (ascii-start s i h a .0))
 
     pub word-found : quote (from s e) ≡ false → (o : Option Kw) → wordOf (codesTo (from s i) (from s e)) ≡ o → piece.Token (wordKind o) (cursorAt e) ≡ here
@@ -138,7 +136,7 @@ module _ (s : List ℕ) (i e : ℕ) (h : i < length s) where
 
   -- a run of operator signs
   module _ (a : ltb (getD s i 0) 0x80 && isOpSign (getD s i 0) ≡ true) (l : e ≤ n) (r : from s e ≡ afterRun freeSign (from s i)) where
-    pub run-to : (i ≤ e) × (e ≤ n) × LeftOf (from s i) (from s e)
+    pub run-to : (i ≤ e) × (e ≤ n) × Suffix (from s e) (from s i)
     run-to = left-to s i e _ (omega arith) l r (run-left freeSign (from s i))
 
     pub run-found : opensComment (from s i) ≡ false → opensComment (from s e) ≡ false → (o : Option Kw) → runOf (codesTo (from s i) (from s e)) ≡ o

@@ -28,7 +28,6 @@ use Rattle.token.specs.declared.piece.Ended.the-variants as ended
 use Rattle.token.proofs.Base.{zero-one}
 use Rattle.token.proofs.cursor.Bytes.{any-byte, inside, past}
 use Rattle.token.proofs.cursor.Laws.{Here}
-
 open TextLaws text-laws using (text-drop, text-place, at-end, place-from)
 
 -- ---- pieces

@@ -17,7 +17,6 @@ use Rattle.token.proofs.Classes.{byte-sign}
 use Rattle.token.specs.paper.Tests.{isDigit, isHexDigit, digitValue}
 use Rattle.token.specs.code.ClassTable.{ByteClasses}
 use Rattle.token.specs.code.Digits.{digitIn, digitOf}
-
 open CodeLaws code-laws using (agree)
 open ClassLaws class-laws using (byte-id, byte-start)
 

@@ -17,7 +17,6 @@ use Rattle.chars.proofs.theorems.Promises.{code-laws, text-laws}
 use Rattle.token.specs.paper.Tests.{isAny}
 use Rattle.token.proofs.cursor.Bytes.{any-byte, inside}
 use Rattle.token.proofs.cursor.Laws.{run-past, run-none, all-past}
-
 open CodeLaws code-laws using (carry)
 open TextLaws text-laws using (at-ascii, run-stays)
 

@@ -16,7 +16,6 @@ use Rattle.chars.specs.promises.Codes.{every}
 use Rattle.chars.specs.promises.Texts.{TextLaws, AsciiClass}
 use Rattle.chars.proofs.theorems.Promises.{text-laws}
 use Rattle.token.specs.paper.Tests.{isAny, startsWith}
-
 open TextLaws text-laws using (head-byte, at-ascii, at-end, at-char, wide-code)
 
 -- a list of ASCII codes but NUL: one computed test

@@ -18,7 +18,6 @@ use Rattle.token.specs.code.Cursor.{cursorAt, peekedOf, peekAt}
 use Rattle.token.specs.declared.cursor.Cursor.{Cursor}
 use Rattle.token.specs.declared.cursor.Peeked.the-variants as peeked
 use Rattle.token.proofs.Base.{zero-one}
-
 open TextLaws text-laws using (at-char, at-end, place-from, next-on, step-text, step-none)
 
 -- the character at i, as the code has it

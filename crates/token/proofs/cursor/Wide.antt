@@ -6,7 +6,6 @@ use lib.ListN.{length, getD}
 use Rattle.chars.specs.paper.Text.{Char, Text, from}
 use Rattle.chars.specs.promises.Texts.{TextLaws, PastWide}
 use Rattle.chars.proofs.theorems.Promises.{text-laws}
-
 open TextLaws text-laws using (wide-past)
 
 module _ {A : Type 0} (s : List ℕ) (f : Text → A) (pass : (c : Char) (u : Text) → 0x80 ≤ c .code → f (c ∷ u) ≡ f u) where

@@ -27,7 +27,6 @@ use Rattle.token.specs.declared.digits.Value.the-variants as value
 use Rattle.token.proofs.Base.{zero-one}
 use Rattle.token.proofs.cursor.Bytes.{any-byte, ascii-list, inside, past, two-bytes}
 use Rattle.token.proofs.theorems.Numbers.{valueAfter, digitsOf, read-is}
-
 open CodeLaws code-laws using (between-in, between-out, in-between, not-between)
 open TextLaws text-laws using (head-byte, at-ascii, at-end, place-from)
 

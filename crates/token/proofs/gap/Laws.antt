@@ -22,7 +22,6 @@ use Rattle.token.specs.code.Gap.{closedOf, opensAt, fourOpen}
 use Rattle.token.specs.declared.gap.Closed.the-variants as closed
 use Rattle.token.proofs.cursor.Bytes.{two-bytes, one-byte, inside}
 use Rattle.token.proofs.cursor.Laws.{run-past, run-here, run-none, all-past}
-
 open TextLaws text-laws using (at-char, at-ascii, at-end, place-from)
 
 -- ---- two ASCII characters at a place

@@ -24,7 +24,6 @@ use Rattle.token.specs.paper.Kinds.{wordOf, runOf}
 use Rattle.token.specs.computed.Answer.{Found, afterIdent, orPrefixed, prefixedOf, closeString, codesTo, wordOr, scanIdent, runOr, scanOperator, backtickOr, scanBacktick}
 use Rattle.token.specs.code.Cursor.{cursorAt}
 use Rattle.token.specs.code.Piece.{pieceOf}
-use Rattle.token.specs.code.Ident.{LeftOf}
 use Rattle.token.specs.declared.cursor.Cursor.{Cursor}
 use Rattle.token.specs.declared.kinds.Kw.{Kw}
 use Rattle.token.specs.declared.kinds.TokenKind.{TokenKind}
@@ -34,7 +33,6 @@ use Rattle.token.proofs.cursor.Bytes.{any-byte, inside, one-byte}
 use Rattle.token.proofs.theorems.Runs.{after-next, after-stop, run-after, run-suffix}
 use Rattle.token.proofs.cursor.Laws.{all-past}
 use Rattle.token.proofs.theorems.Idents.{ident-finds, start-rest, rest-suffix}
-
 open TextLaws text-laws using (run-stays, run-done, run-place, suffix-trans, drop-suffix, at-char, at-ascii, at-end, next-on, place-from)
 
 -- ---- places
@@ -66,13 +64,12 @@ suffix-later s i r h v = rw (v .rest-is) (drop-later s (length (from s i) - leng
 
 -- two places in a text, the second past some of its characters
 pub left-to : (s : List ℕ) (i j : ℕ) (r : Text) → i ≤ length s → j ≤ length s → from s j ≡ r → Suffix r (from s i)
-    → (i ≤ j) × (j ≤ length s) × LeftOf (from s i) (from s j)
+    → (i ≤ j) × (j ≤ length s) × Suffix (from s j) (from s i)
 left-to s i j r h k e v =
     let a = suffix-later s i r h v in
     let b = place-from s j k in
     let d = ap (place (length s)) e in
-    let w : Suffix (from s j) (from s i) = rw e v in
-    (omega arith, k, w .rest-is)
+    (omega arith, k, rw e v)
 
 pub run-left : (p : Text → Bool) (t : Text) → Suffix (afterRun p t) t
 run-left p t = run-suffix p (run-after p t)

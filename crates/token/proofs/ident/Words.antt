@@ -4,7 +4,7 @@ use mathlib.Core.Path.{_≡_, refl, sym, _∙_, ap}
 use mathlib.Core.Bool.{Bool, true, false, cond, _&&_, _||_, and-true, and-false, and-assoc}
 use mathlib.Core.List.{List, [], _∷_, _++_}
 use mathlib.Core.Option.{Option, none, some}
-use lib.ListN.{length, drop, getD, length-drop}
+use lib.ListN.{length, drop, getD}
 use lib.Dec.{eqb, leb, ltb}
 use native.Mathlib.Omega.{arith}
 use borrow.Author.Tests.{ltb-true, ltb-false, eqb-true, eqb-false, eq-eqb, ne-eqb}
@@ -17,20 +17,16 @@ use Rattle.chars.proofs.theorems.Promises.{text-laws}
 use Rattle.token.specs.paper.Tests.{same}
 use Rattle.token.specs.paper.Kinds.{Word, word, keyword, wordOf, runOf, wordKeywords, symbolKeywords}
 use Rattle.token.specs.computed.Answer.{codesTo}
-use Rattle.token.specs.code.Ident.{LeftOf, standsAt, keywordAt, keywordOf}
+use Rattle.token.specs.code.Ident.{standsAt, keywordAt, keywordOf}
 use Rattle.token.specs.declared.kinds.Kw.{Kw}
 use Rattle.token.specs.declared.kinds.Kw.the-variants as kw
 use Rattle.token.specs.declared.ident.Keyword.the-variants as key
 use Rattle.token.proofs.Base.{zero-one}
 use Rattle.token.proofs.cursor.Bytes.{plain}
 use Rattle.token.proofs.theorems.Runs as runs
-
 open TextLaws text-laws using (suffix-refl, suffix-same, at-char, place-from, ascii-code, ascii-next, wide-code)
 
 -- ---- codes between two places
-
-pub left-suffix : (r s : Text) → LeftOf s r → Suffix r s
-left-suffix r s e = record { within = let h = ap length e in let k = length-drop (length s - length r) s in omega arith; rest-is = e }
 
 codes-none : (s : Text) → codesTo s s ≡ []
 unfolding codesTo
@@ -150,14 +146,14 @@ keyword-at (word w j ∷ ws) p s a b h k v =
     ap (λ z. cond z (some j) (keyword ws (codesTo (from s a) (from s b)))) (same-stands (codes w) (q .0) s a b h k v)
     ∙ ap (λ z. cond (eqb (b - a) (length (codes w)) && standsAt (codes w) s a) (some j) z) (keyword-at ws (q .1) s a b h k v)
 
-module _ (s : List ℕ) (a b : ℕ) (h : a ≤ b) (k : b ≤ length s) (l : LeftOf (from s a) (from s b)) where
+module _ (s : List ℕ) (a b : ℕ) (h : a ≤ b) (k : b ≤ length s) (l : Suffix (from s b) (from s a)) where
   pub word-at : wordOf (codesTo (from s a) (from s b)) ≡ keywordAt wordKeywords (b - a) s a
   unfolding wordOf
-  word-at = keyword-at wordKeywords refl s a b h k (left-suffix (from s b) (from s a) l)
+  word-at = keyword-at wordKeywords refl s a b h k l
 
   pub run-at : runOf (codesTo (from s a) (from s b)) ≡ keywordAt symbolKeywords (b - a) s a
   unfolding runOf
-  run-at = keyword-at symbolKeywords refl s a b h k (left-suffix (from s b) (from s a) l)
+  run-at = keyword-at symbolKeywords refl s a b h k l
 
 -- ---- what the code compares
 

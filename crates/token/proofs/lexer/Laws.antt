@@ -42,7 +42,6 @@ use Rattle.token.proofs.theorems.Dispatch.{Fact, start-fact, clear, cle
 use Rattle.token.proofs.cursor.Bytes.{any-byte}
 use Rattle.token.proofs.lexer.Seeks.{gap-strict, seek-line, seek-block, seek-end, seek-token, seek-stuck, left-at}
 use Rattle.token.proofs.theorems.Shorter.{Strict}
-
 open CodeLaws code-laws using (carry, no-member, between-in, between-out)
 open TextLaws text-laws using (head-byte, at-char, at-end, at-ascii, place-from, next-on)
 

@@ -20,7 +20,6 @@ use Rattle.token.specs.declared.kinds.TokenKind.{TokenKind}
 use Rattle.token.proofs.Base.{zero-one}
 use Rattle.token.proofs.theorems.Dispatch.{Hit, Scanned, scan-stands, scan-by, starts-blank, clear-head}
 use Rattle.token.proofs.theorems.Shorter.{Strict, stands-strict}
-
 open TextLaws text-laws using (text-suffix, text-place, at-end)
 
 -- ---- what is found leaves less of the text

@@ -25,7 +25,6 @@ use Rattle.token.proofs.theorems.Shorter.{Strict}
 use Rattle.token.proofs.theorems.Walks.{walk-gap, walk-token, walk-stuck, walk-end}
 use Rattle.token.proofs.lexer.Seeks.{gap-strict, token-strict, seek-blank, seek-line, seek-block, seek-end, seek-token, seek-stuck, left-at}
 use Rattle.token.proofs.lexer.Laws.{later-place}
-
 open TextLaws text-laws using (suffix-refl, suffix-trans, at-end)
 
 -- ---- on texts

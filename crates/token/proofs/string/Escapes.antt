@@ -24,7 +24,6 @@ use Rattle.token.specs.declared.piece.Ended.{Ended}
 use Rattle.token.specs.declared.piece.Ended.the-variants as ended
 use Rattle.token.proofs.cursor.Bytes.{inside, any-byte, past}
 use Rattle.token.proofs.theorems.Escapes.{digit-no-simple, u-other}
-
 open TextLaws text-laws using (head-byte, at-ascii, at-end, at-char, place-from)
 
 -- ---- digits at a place

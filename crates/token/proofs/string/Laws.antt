@@ -37,7 +37,6 @@ use Rattle.token.proofs.cursor.Laws.{all-past}
 use Rattle.token.proofs.theorems.Escapes.{slash-finds, Good, Bad}
 use Rattle.token.proofs.theorems.Shorter.{Strict, stands-strict}
 use Rattle.token.proofs.theorems.Strings as strings
-
 open TextLaws text-laws using (at-ascii, at-end, at-char, place-from, next-on, wide-code)
 
 -- ---- places
@@ -288,7 +287,7 @@ module _ (s : List ℕ) (f : Text → Closing) (i : ℕ) where
 
 -- ---- single strings
 
-pub single-same : (p : Bool) (t : Text) → closeSingle p t ≡ strings.closeSingle p t
+pub single-same : (p : Bool) (t : Text) → closeSingle p t ≡ strings.closeOne p t
 unfolding closeSingle
 single-same true t = refl
 single-same false t = refl

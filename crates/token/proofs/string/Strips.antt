@@ -16,16 +16,14 @@ use Rattle.token.specs.paper.Tests.{begins, quote}
 use Rattle.token.specs.paper.Shapes.{textOf}
 use Rattle.token.specs.computed.Answer.{closed, closeString, strip, plainContent}
 use Rattle.token.specs.code.String.{lastOff, eightsOff, SameContent}
-use Rattle.token.specs.code.Ident.{LeftOf}
 use Rattle.chars.specs.code.Runs.{eightIn}
-use Rattle.chars.specs.promises.Texts.{TextLaws, ScriptText}
+use Rattle.chars.specs.promises.Texts.{TextLaws, Suffix, ScriptText}
 use Rattle.chars.specs.promises.Runs.{RunLaws}
 use Rattle.chars.proofs.theorems.Promises.{text-laws, run-laws}
 use Rattle.token.specs.declared.kinds.TokenKind.the-variants as tk
 use Rattle.token.proofs.cursor.Bytes.{past}
 use Rattle.token.proofs.string.Escapes.{same-place}
 use Rattle.token.proofs.string.Laws.{quote-byte, plain-strict}
-
 open TextLaws text-laws using (text-at, text-drop, at-char, at-end, next-on, place-from, ascii-next, wide-tail)
 open RunLaws run-laws using (eight-all)
 
@@ -132,7 +130,7 @@ left-from s start end a b h =
       ordered = h .0;
       within = h .1;
       text = t;
-      split = sym (ap (λ r. t ++ r) (h .2) ∙ take-append-drop (length (from s a) - length (from s b)) (from s a));
+      split = sym (ap (λ r. t ++ r) (h .2 .rest-is) ∙ take-append-drop (length (from s a) - length (from s b)) (from s a));
       behind = [];
       ahead = [];
       same = ap (λ r. strip (length t) r (reverse t) b) (append-nil t) ∙ ap (strip (length t) t (reverse t)) (sym (place-from s b (h .1))) ∙ h .3;
@@ -147,7 +145,7 @@ left-same s start end a b h =
     let e : textOf (from s a) (from s b) ≡ t = ap (λ m. take m (from s a)) n ∙ ap (take (length t)) (h .split) ∙ take-append-seam t (from s b) in (
       h .ordered,
       h .within,
-      sym (ap (λ m. drop m (from s a)) n ∙ ap (drop (length t)) (h .split) ∙ drop-append-seam t (from s b)),
+      record { within = omega arith; rest-is = sym (ap (λ m. drop m (from s a)) n ∙ ap (drop (length t)) (h .split) ∙ drop-append-seam t (from s b)) },
       ap (λ r. strip (length r) r (reverse r) (place (length s) (from s b))) e
           ∙ ap (strip (length t) t (reverse t)) (place-from s b (h .within))
           ∙ sym (strip-only t (reverse t) (h .behind) (h .ahead) (length t) b (omega arith) (omega (arith, length-reverse t)))
@@ -335,8 +333,8 @@ left-single s start end a b h k byte n = go (ltb (a + 1) (lastOff s (a + 1) b)) 
 
 -- a plain string, by its first byte and its ends
 module _ (s : List ℕ) (start end : ℕ) (q : quote (from s start) ≡ true) (c : closeString false (from s start) ≡ closed (from s end)) where
-  pub string-tail : LeftOf (from s start) (from s end)
-  string-tail = plain-strict (from s start) (from s end) q c .0 .rest-is
+  pub string-tail : Suffix (from s end) (from s start)
+  string-tail = plain-strict (from s start) (from s end) q c .0
 
   pub string-byte : getD s start 0 ≡ 0x22
   string-byte = eqb-true (getD s start 0) 0x22 (sym (quote-byte s start) ∙ q)

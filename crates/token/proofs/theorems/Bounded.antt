@@ -33,7 +33,6 @@ use Rattle.token.proofs.theorems.Runs.{run-suffix}
 use Rattle.token.proofs.theorems.Numbers.{one-value}
 use Rattle.token.proofs.theorems.Shorter.{one-strict, times-suffix, escape-suffix, prefix-strict, stands-strict}
 use Rattle.token.proofs.theorems.Mets.{within-suffix}
-
 open TextLaws text-laws using (at-char, at-end, next-on, place-from, suffix-refl, suffix-trans, text-suffix, text-place)
 
 -- ---- places

@@ -35,7 +35,6 @@ use Rattle.token.proofs.theorems.Prefixed.{word-stands, backtick-stands
 use Rattle.token.proofs.theorems.Contents.{content-is}
 use Rattle.token.proofs.theorems.Gaps.{two-codes, line-stands, block-stands}
 use Rattle.token.proofs.theorems.Heads.{no-start-met}
-
 open CodeLaws code-laws using (carry)
 open ClassLaws class-laws using (sign-is, sign-no-start)
 

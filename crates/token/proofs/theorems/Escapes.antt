@@ -16,7 +16,6 @@ use Rattle.token.specs.paper.Tests.{isDigit, isHexDigit, begins, backsla
 use Rattle.token.specs.paper.Shapes.{One, Times, UpTo, both, Escape}
 use Rattle.token.specs.paper.Refusals.{BadEscape}
 use Rattle.token.specs.computed.Answer.{unbroken, broken, exactHexes, digitsUpTo, afterSlash}
-
 open CodeLaws code-laws using (carry)
 
 -- n hex digits

@@ -24,7 +24,6 @@ use Rattle.token.proofs.Base.{zero-one}
 use Rattle.token.proofs.theorems.Runs.{after-next, after-stop, run-after, run-suffix, after-least}
 use Rattle.token.proofs.theorems.Dispatch.{apart, clear-head, scan-by, starts-blank, starts-lf, starts-cr}
 use Rattle.token.proofs.theorems.Complete.{code-is}
-
 open TextLaws text-laws using (suffix-same)
 
 -- ---- lists that end in p

@@ -22,7 +22,6 @@ use Rattle.token.specs.computed.Answer.{Found, scanLine, close, blockOr,
 use Rattle.token.proofs.Base.{no-some}
 use Rattle.token.proofs.theorems.Runs.{after-next, run-after}
 use Rattle.token.proofs.theorems.Prefixed.{after-fails}
-
 open TextLaws text-laws using (run-stays)
 
 -- ---- runs that stop

@@ -26,7 +26,6 @@ use Rattle.token.proofs.theorems.Idents.{ident-found}
 use Rattle.token.proofs.theorems.Strings.{body-found}
 use Rattle.token.proofs.theorems.Prefixed.{backtick-found}
 use Rattle.token.proofs.theorems.Ticks.{char-sym-found}
-
 open CodeLaws code-laws using (carry)
 
 -- one of the ten tests is enough

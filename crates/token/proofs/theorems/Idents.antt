@@ -26,7 +26,6 @@ use Rattle.token.specs.declared.kinds.TokenKind.the-variants as tk
 use Rattle.token.proofs.Base.{no-some}
 use Rattle.token.proofs.theorems.Runs.{run-after, run-suffix, after-least, run1-run}
 use Rattle.token.proofs.theorems.Operators.{Stood}
-
 open TextLaws text-laws using (suffix-refl, suffix-trans, suffix-same)
 open ClassLaws class-laws using (sign-no-id)
 

@@ -33,7 +33,6 @@ use Rattle.token.proofs.theorems.Shorter.{one-strict, times-suffix, esc
 use Rattle.token.proofs.theorems.Gaps.{pass-run, block-stands}
 use Rattle.token.proofs.theorems.Starts.{starts-declared}
 use Rattle.token.proofs.theorems.Dispatch.{clear-head, Clear, or-false, quote-any, scan-by, starts-block, starts-cr, starts-number, starts-word, starts-backtick, starts-string, starts-tick}
-
 open TextLaws text-laws using (suffix-refl, suffix-cons, suffix-trans, suffix-same)
 
 -- a class without `/` opens no comment

@@ -29,7 +29,6 @@ use Rattle.token.proofs.theorems.Ticks.{Fell}
 use Rattle.token.proofs.theorems.Idents.{ident-finds, ident-found, ident-stands, scan-ident}
 use Rattle.token.proofs.theorems.Strings.{body-found, body-finds, Closed, Wrong}
 
-
 -- neither begins with a quote
 pub start-no-quote : (s : Text) → headIs isIdStart s ≡ true → quote s ≡ false
 unfolding begins

@@ -12,7 +12,6 @@ use Rattle.chars.proofs.Bools.{clash}
 use Rattle.chars.specs.promises.Texts.{TextLaws, Suffix}
 use Rattle.chars.proofs.theorems.Promises.{text-laws}
 use Rattle.token.specs.paper.Shapes.{Run, Run1, Longest, codesOf}
-
 open TextLaws text-laws using (suffix-refl, suffix-cons, suffix-same)
 
 pub codes-none : (s : Text) → codesOf s s ≡ []

@@ -13,7 +13,6 @@ use Rattle.token.specs.paper.Kinds.{Kind, TokenType}
 use Rattle.token.specs.paper.Shapes.{One, Run, Run1, Times, UpTo, _then_, both, Block, Item, Items, LineEnd, LineComment, Digits, NumberText, Chunks, Tail, Ident, Operator, Backtick, Escape, Single, Body, Prefix, Str, Character, Name, Symbol, TokenShape, HasShape, Stands}
 use Rattle.token.proofs.theorems.Runs.{run-suffix}
 use Rattle.token.proofs.theorems.Idents.{rest-suffix}
-
 open TextLaws text-laws using (drop-suffix, suffix-refl, suffix-cons, suffix-trans)
 
 -- a proper suffix

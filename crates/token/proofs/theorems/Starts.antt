@@ -25,7 +25,6 @@ use Rattle.token.proofs.theorems.Idents.{ident-stands}
 use Rattle.token.proofs.theorems.Heads.{declared-starts}
 use Rattle.token.proofs.theorems.Dispatch.{Fact, start-fact, sign-of, digit-one}
 use Rattle.token.proofs.theorems.Complete.{code-is}
-
 open CodeLaws code-laws using (carry)
 
 -- ---- texts that begin with a given start

@@ -21,7 +21,6 @@ use Rattle.token.specs.computed.Answer.{unbroken, broken, afterSlash, Cl
 use Rattle.token.proofs.theorems.Runs.{after-next, run-after, after-least, run-suffix}
 use Rattle.token.proofs.theorems.Numbers.{one-drop, one-found}
 use Rattle.token.proofs.theorems.Escapes.{slash-found, slash-finds, Good, Bad}
-
 open TextLaws text-laws using (suffix-same)
 
 -- ---- the tests of a first character exclude one another
@@ -59,11 +58,11 @@ plain-skip zero s = refl
 plain-skip (suc k) [] = refl
 plain-skip (suc k) (c ∷ s) = plain-skip k s
 
-abbrev pub closeSingle : Bool → Text → Closing
-closeSingle true s = closePrefixed s
-closeSingle false s = closePlain 0 s
+abbrev pub closeOne : Bool → Text → Closing
+closeOne true s = closePrefixed s
+closeOne false s = closePlain 0 s
 
-pub single-char : (p : Bool) (c : Char) (s : Text) → singleChar p (c ∷ s) ≡ true → closeSingle p (c ∷ s) ≡ closeSingle p s
+pub single-char : (p : Bool) (c : Char) (s : Text) → singleChar p (c ∷ s) ≡ true → closeOne p (c ∷ s) ≡ closeOne p s
 unfolding closePlain closePrefixed
 single-char true c s e =
     let a = and-both (not (quote (c ∷ s)) && not (isAny "\n" (c ∷ s))) (not (dollarBrace (c ∷ s))) e in
@@ -79,7 +78,7 @@ unfolding closePlain begins
 plain-slash [] e = clash e
 plain-slash (c ∷ s) e = let h = slash-code (c ∷ s) e in rw (h .0, h .2, e)
 
-pub single-pass : (p : Bool) {s m : Text} → Single p s m → closeSingle p s ≡ closeSingle p m
+pub single-pass : (p : Bool) {s m : Text} → Single p s m → closeOne p s ≡ closeOne p m
 single-pass p Single.done = refl
 single-pass p (Single.char {c} {s} e w) = single-char p c s e ∙ single-pass p w
 single-pass false (Single.escape {s} {m} e w) =
@@ -138,18 +137,18 @@ single-ends p (suc f) (c ∷ s) l = go (single-step p c s) (λ t h. single-ends 
         by false m z e w = Single.escape e w
 
 -- what the function says at such an end
-pub single-close : (p : Bool) (m : Text) → quote m ≡ true → closeSingle p m ≡ closed (drop 1 m)
+pub single-close : (p : Bool) (m : Text) → quote m ≡ true → closeOne p m ≡ closed (drop 1 m)
 unfolding closePlain closePrefixed begins
 single-close p [] e = clash e
 single-close true (c ∷ s) e = rw e
 single-close false (c ∷ s) e = rw e
 
-pub single-empty : (p : Bool) → closeSingle p [] ≡ wrong 7 []
+pub single-empty : (p : Bool) → closeOne p [] ≡ wrong 7 []
 unfolding closePlain closePrefixed
 single-empty true = refl
 single-empty false = refl
 
-pub single-newline : (p : Bool) (m : Text) → isAny "\n" m ≡ true → closeSingle p m ≡ wrong 8 m
+pub single-newline : (p : Bool) (m : Text) → isAny "\n" m ≡ true → closeOne p m ≡ wrong 8 m
 unfolding closePlain closePrefixed
 single-newline p [] e = clash e
 single-newline true (c ∷ s) e = rw (lf-code (c ∷ s) e .0, e)
@@ -244,7 +243,7 @@ times-after (suc n) (Times.more {c} {s} e w) = after-next quote c s e ∙ times-
 
 -- ---- from the opening on
 
-pub in-single : (p : Bool) (o : Text) → threeQuotes o ≡ false → closeString p o ≡ closeSingle p (drop 1 o)
+pub in-single : (p : Bool) (o : Text) → threeQuotes o ≡ false → closeString p o ≡ closeOne p (drop 1 o)
 unfolding closeString
 in-single true o e = rw e
 in-single false o e = rw e
@@ -302,7 +301,7 @@ pub record Wrong (p : Bool) (o : Text) : Type 0 where
 single-body : (p : Bool) (c : Char) (t : Text) → quote (c ∷ t) ≡ true → threeQuotes (c ∷ t) ≡ false → Closed p (c ∷ t) ⊎ Wrong p (c ∷ t)
 single-body p c t q e = let h = single-ends p (length t) t (omega arith) in go p (h .0) e (in-single p (c ∷ t) e ∙ single-pass p (h .1)) (h .1) (h .2)
   where
-    go : (p : Bool) (m : Text) → threeQuotes (c ∷ t) ≡ false → closeString p (c ∷ t) ≡ closeSingle p m → Single p t m → SingleEnd p m
+    go : (p : Bool) (m : Text) → threeQuotes (c ∷ t) ≡ false → closeString p (c ∷ t) ≡ closeOne p m → Single p t m → SingleEnd p m
         → Closed p (c ∷ t) ⊎ Wrong p (c ∷ t)
     go p m e i w (SingleEnd.closes _ x) =
         inl (record {

@@ -22,7 +22,6 @@ use Rattle.token.proofs.theorems.Unique.{one-kind, none-end, one-readin
 use Rattle.token.proofs.theorems.Alone.{tokens-one, records-length}
 use Rattle.token.proofs.theorems.Mets.{met-end, first-of, first-only}
 use Rattle.token.proofs.theorems.Walks.{Walked, answer-finds}
-
 open ValidLaws valid-laws using (valid)
 open TextLaws text-laws using (from-length)
 

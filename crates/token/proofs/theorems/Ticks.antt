@@ -26,7 +26,6 @@ use Rattle.token.proofs.theorems.Numbers.{one-drop, one-found}
 use Rattle.token.proofs.theorems.Operators.{Stood}
 use Rattle.token.proofs.theorems.Idents.{ident-finds, ident-found}
 use Rattle.token.proofs.theorems.Escapes.{slash-found, slash-finds, Good, Bad}
-
 open ClassLaws class-laws using (sign-no-start)
 
 -- a refusal that is found and met

@@ -24,7 +24,6 @@ use Rattle.token.proofs.theorems.Dispatch.{Hit, Scanned, scan-stands}
 use Rattle.token.proofs.theorems.Unique.{bare-kind, fell-none}
 use Rattle.token.proofs.theorems.Shorter.{Strict, stands-strict, two-str, two-long}
 use Rattle.token.proofs.theorems.Flags.{Knows, cut-here, knows-fresh, knows-blank, knows-end, knows-line, knows-block, spaces, end-ends, blank-same, line-end-ends, other-ends}
-
 open TextLaws text-laws using (text-suffix, text-place)
 
 -- ---- one step of the walk

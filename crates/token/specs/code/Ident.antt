@@ -1,13 +1,11 @@
 -- What `ident` answers.
 use Prim.Native.Nat.{ℕ, _+_, _-_}
-use mathlib.Core.Path.{_≡_}
 use mathlib.Core.Bool.{Bool, true, cond, _&&_}
 use mathlib.Core.List.{List, [], _∷_}
 use mathlib.Core.Option.{Option, none, some}
-use lib.ListN.{length, drop, getD}
+use lib.ListN.{length, getD}
 use lib.Dec.{eqb}
 use Rattle.chars.specs.paper.Quoted.{codes}
-use Rattle.chars.specs.paper.Text.{Text}
 use Rattle.token.specs.paper.Kinds.{Word, word}
 use Rattle.token.specs.declared.kinds.Kw.{Kw}
 use Rattle.token.specs.declared.ident.Keyword.{Keyword}
@@ -17,10 +15,6 @@ use Rattle.token.specs.declared.ident.Keyword.the-variants as keyword
 unfoldable pub keywordOf : Option Kw → Keyword
 keywordOf none = keyword.Not
 keywordOf (some k) = keyword.Is k
-
--- r is what is left of s past some of its characters
-abbrev pub LeftOf : Text → Text → Type 0
-LeftOf s r = r ≡ drop (length s - length r) s
 
 -- these bytes stand at the place i
 unfoldable pub standsAt : List ℕ → List ℕ → ℕ → Bool

@@ -16,7 +16,7 @@ use Rattle.token.specs.declared.piece.Ended.{Ended}
 use Rattle.token.specs.declared.piece.Ended.the-variants as ended
 use Rattle.token.specs.declared.string.Span.{Span}
 use Rattle.token.specs.code.Cursor.{cursorAt}
-use Rattle.token.specs.code.Ident.{LeftOf}
+use Rattle.chars.specs.promises.Texts.{Suffix}
 
 -- a string's end
 unfoldable pub endedOf : ℕ → Closing → Ended
@@ -69,5 +69,5 @@ eightsOff s a b = leb (a + 16) b && (eightIn 0x22 0x22 s a && eightIn 0x22 0x22 
 -- the text from a to b has the content of the text from start to end
 abbrev pub SameContent : List ℕ → ℕ → ℕ → ℕ → ℕ → Type 0
 SameContent s start end a b =
-    (a ≤ b) × (b ≤ length s) × LeftOf (from s a) (from s b)
+    (a ≤ b) × (b ≤ length s) × Suffix (from s b) (from s a)
     × (plainContent (length s) (from s a) (from s b) ≡ plainContent (length s) (from s start) (from s end))

@@ -1,5 +1,5 @@
 -- Document 01, "Twelve marked scripts", as one computed check over their list; the listing's example and the refusal table's
--- examples. `Examples` in `entry` asks for all of them.
+-- examples. `Examples` in `entry` asks for all of them; here they give a wrong definition its first error.
 use mathlib.Core.Path.{_≡_, refl}
 use mathlib.Core.Bool.{true}
 use mathlib.Core.List.{List, [], _∷_, _++_}

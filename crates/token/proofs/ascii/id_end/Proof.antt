@@ -12,7 +12,6 @@ use Rattle.token.proofs.ascii.IdRuns.{ascii-on, ascii-out, ascii-stop}
 use Rattle.token.proofs.ascii.id_end.Statement.{statement}
 use Rattle.token.proofs.ascii.id_end.Tie as tie
 
-
 abbrev Inv-loop : tie.InvT-loop
 Inv-loop s t at i₀ i = afterRun asciiIdChar (from s i) ≡ afterRun asciiIdChar (from s at)
 

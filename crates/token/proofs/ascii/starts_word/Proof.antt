@@ -8,7 +8,6 @@ use Rattle.token.proofs.cursor.Bytes.{ascii-list}
 use borrow.Author.Needs.{needs}
 use Rattle.token.proofs.ascii.starts_word.Statement.{statement}
 use Rattle.token.proofs.ascii.starts_word.Tie as tie
-
 open CodeLaws code-laws using (mask-set)
 
 has-bit-requires : tie.Need-has-bit-requires

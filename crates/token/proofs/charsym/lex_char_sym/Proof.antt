@@ -13,7 +13,6 @@ use borrow.Author.Needs.{needs}
 use Rattle.token.proofs.cursor.Laws.{peeked-char, peeked-end}
 use Rattle.token.proofs.charsym.lex_char_sym.Statement.{statement}
 use Rattle.token.proofs.charsym.lex_char_sym.Tie as tie
-
 open TextLaws text-laws using (at-end)
 
 add-t7 : tie.Need-add-t7

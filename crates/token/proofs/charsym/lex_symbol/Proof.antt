@@ -8,7 +8,6 @@ use Rattle.token.proofs.charsym.lex_symbol.Statement.{statement}
 use Rattle.token.proofs.charsym.lex_symbol.Tie as tie
 use Rattle.chars.specs.promises.Texts.{TextLaws}
 use Rattle.chars.proofs.theorems.Promises.{text-laws}
-
 open TextLaws text-laws using (at-end)
 
 peek-requires : tie.Need-peek-requires

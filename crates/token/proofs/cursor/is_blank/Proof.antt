@@ -5,7 +5,6 @@ use Rattle.token.proofs.cursor.is_blank.Statement.{statement}
 use Rattle.token.proofs.cursor.is_blank.Tie as tie
 use Rattle.chars.specs.promises.Codes.{CodeLaws}
 use Rattle.chars.proofs.theorems.Promises.{code-laws}
-
 open CodeLaws code-laws using (hits, misses)
 
 returns : tie.Need-returns

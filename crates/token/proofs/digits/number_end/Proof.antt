@@ -9,7 +9,6 @@ use Rattle.token.proofs.digits.Laws.{long-piece, int-piece}
 use borrow.Author.Needs.{needs}
 use Rattle.token.proofs.digits.number_end.Statement.{statement}
 use Rattle.token.proofs.digits.number_end.Tie as tie
-
 open CodeLaws code-laws using (hits, misses)
 
 byte-at-requires : tie.Need-byte-at-requires

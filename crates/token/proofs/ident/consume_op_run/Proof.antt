@@ -14,7 +14,6 @@ use Rattle.token.specs.paper.Tests.{opSign, freeSign, opensComment}
 use Rattle.token.proofs.ident.Laws.{past-same, past-other}
 use Rattle.token.proofs.ident.consume_op_run.Statement.{statement}
 use Rattle.token.proofs.ident.consume_op_run.Tie as tie
-
 open TextLaws text-laws using (next-on, run-next, run-stays)
 
 abbrev Inv-loop : tie.InvT-loop

@@ -13,7 +13,6 @@ use Rattle.token.specs.paper.Tests.{opSign}
 use Rattle.token.proofs.ident.Laws.{past-same, past-other}
 use Rattle.token.proofs.ident.consume_signs.Statement.{statement}
 use Rattle.token.proofs.ident.consume_signs.Tie as tie
-
 open TextLaws text-laws using (next-on, run-next, run-stays)
 
 abbrev Inv-loop : tie.InvT-loop

@@ -10,7 +10,6 @@ use Rattle.token.proofs.ident.Laws.{head-inside, head-low, past-on, pas
 use borrow.Author.Needs.{needs}
 use Rattle.token.proofs.ident.sign_end.Statement.{statement}
 use Rattle.token.proofs.ident.sign_end.Tie as tie
-
 open TextLaws text-laws using (ascii-next)
 
 byte-at-requires : tie.Need-byte-at-requires

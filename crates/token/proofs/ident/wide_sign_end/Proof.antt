@@ -8,7 +8,6 @@ use Rattle.token.proofs.ident.Laws.{past-on, past-off}
 use borrow.Author.Needs.{needs}
 use Rattle.token.proofs.ident.wide_sign_end.Statement.{statement}
 use Rattle.token.proofs.ident.wide_sign_end.Tie as tie
-
 open TextLaws text-laws using (at-end, at-char, step-text, step-none)
 
 char-at-requires : tie.Need-char-at-requires

@@ -13,7 +13,6 @@ use Rattle.token.proofs.lexer.Laws.{word-at, operator-at, other-at}
 use borrow.Author.Needs.{needs}
 use Rattle.token.proofs.lexer.lex_wide_word.Statement.{statement}
 use Rattle.token.proofs.lexer.lex_wide_word.Tie as tie
-
 open TextLaws text-laws using (place-from)
 open ClassLaws class-laws using (russian)
 

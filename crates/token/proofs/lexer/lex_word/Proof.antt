@@ -13,7 +13,6 @@ use Rattle.token.proofs.lexer.Laws.{word-at, operator-at, other-at, asc
 use borrow.Author.Needs.{needs}
 use Rattle.token.proofs.lexer.lex_word.Statement.{statement}
 use Rattle.token.proofs.lexer.lex_word.Tie as tie
-
 open TextLaws text-laws using (place-from)
 
 shared-slice-read-b : tie.Need-shared-slice-read-b

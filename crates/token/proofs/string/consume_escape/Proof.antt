@@ -15,7 +15,6 @@ use Rattle.token.proofs.string.Escapes.{escape-end, escape-simple, esca
 use borrow.Author.Needs.{needs}
 use Rattle.token.proofs.string.consume_escape.Statement.{statement}
 use Rattle.token.proofs.string.consume_escape.Tie as tie
-
 open CodeLaws code-laws using (carry, no-member, carry-span, hits, misses)
 
 -- the keys of the single cases

@@ -7,7 +7,6 @@ use Rattle.chars.proofs.theorems.Promises.{code-laws}
 use Rattle.token.specs.code.String.{isOrdinary}
 use Rattle.token.proofs.string.is_ordinary.Statement.{statement}
 use Rattle.token.proofs.string.is_ordinary.Tie as tie
-
 open CodeLaws code-laws using (carry-span, hits, misses)
 
 returns : tie.Need-returns

@@ -7,7 +7,6 @@ use Rattle.token.proofs.string.lex_prefixed_string.Statement.{statement
 use Rattle.token.proofs.string.lex_prefixed_string.Tie as tie
 use Rattle.chars.specs.promises.Texts.{TextLaws}
 use Rattle.chars.proofs.theorems.Promises.{text-laws}
-
 open TextLaws text-laws using (place-from)
 
 lex-string-requires : tie.Need-lex-string-requires

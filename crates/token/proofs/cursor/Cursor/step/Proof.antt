@@ -6,7 +6,6 @@ use Rattle.token.proofs.cursor.Cursor.step.Statement.{statement}
 use Rattle.token.proofs.cursor.Cursor.step.Tie as tie
 use Rattle.chars.specs.promises.Texts.{TextLaws}
 use Rattle.chars.proofs.theorems.Promises.{text-laws}
-
 open TextLaws text-laws using (at-end, step-none)
 
 char-at-requires : tie.Need-char-at-requires

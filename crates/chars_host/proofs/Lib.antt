@@ -1,1 +1,0 @@
--- What the proofs of several functions use.
