@@ -5,6 +5,8 @@ ghost use Rattle.entry.specs.paper.Host.{seen};
 ghost use Rattle.entry.specs.computed.Host.{hostOf};
 ghost use Rattle.entry.specs.paper.TokenText.{textNumber};
 ghost use Rattle.entry.specs.Theorems.{HostTheorems};
+ghost use Rattle.rolls.specs.computed.Host.{rollNumber, rollBlock, recordNumber, recordBlock};
+ghost use Rattle.rolls.specs.Theorems.{RollTheorems};
 
 #[no_mangle]
 pub extern "C" fn ergo_tokenize(script: &[u8], records: &mut [u8], answer: &mut [u8]) -> u32
@@ -19,4 +21,22 @@ pub extern "C" fn ergo_token_text(script: &[u8], start: u32, end: u32) -> u32
     ensures { λ r. ⌜ r ≡ textNumber (now (script .entry)) start end ⌝ }
 {
     entry::text::text_number(script, start, end)
+}
+
+#[no_mangle]
+pub extern "C" fn ergo_read_roll(roll: &[u8], answer: &mut [u8]) -> u32
+    ensures { λ r. ⌜ r ≡ rollNumber (now (roll .entry)) (now (answer .entry)) ⌝ }
+    ensures { λ r. ⌜ now (answer .exit) ≡ rollBlock (now (roll .entry)) (now (answer .entry)) ⌝ }
+    ensures { λ r. ⌜ RollTheorems (now (roll .entry)) ⌝ }
+{
+    rolls::host::roll(roll, answer)
+}
+
+#[no_mangle]
+pub extern "C" fn ergo_read_record(roll: &[u8], at: u32, previous: u32, answer: &mut [u8]) -> u32
+    ensures { λ r. ⌜ r ≡ recordNumber (now (roll .entry)) at previous (now (answer .entry)) ⌝ }
+    ensures { λ r. ⌜ now (answer .exit) ≡ recordBlock (now (roll .entry)) at previous (now (answer .entry)) ⌝ }
+    ensures { λ r. ⌜ RollTheorems (now (roll .entry)) ⌝ }
+{
+    rolls::host::record(roll, at, previous, answer)
 }

@@ -1,0 +1,3 @@
+-- What the code's own functions answer.
+pub mod Record
+pub mod Roll

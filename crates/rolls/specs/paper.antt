@@ -1,0 +1,2 @@
+-- Document 02, request 1, "Records read back".
+pub mod Roll

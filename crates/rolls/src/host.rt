@@ -1,0 +1,94 @@
+// What hosts call: a number and an answer block. Document 02, request 1.
+use crate::record::Roll;
+use crate::record::Yield;
+use crate::record::read_record;
+use crate::roll::Total;
+use crate::roll::read_roll;
+use token::kinds::TokenKind;
+use token::kinds::bit_of;
+use words::write::put_block;
+use words::write::put4;
+use words::write::put8;
+ghost use mathlib.Core.Path.{_≡_};
+ghost use lib.ListN.{length};
+ghost use Rattle.token.specs.paper.Kinds.{Token};
+ghost use Rattle.rolls.specs.computed.Host.{rollNumber, rollBlock, recordNumber, recordBlock, tokenBlock, stopBlock};
+ghost use Rattle.rolls.specs.Theorems.{RollTheorems};
+
+// 16 bytes: refusal, place, token count, bytes of the roll; unused ones 0. The last clause says what follows of every roll.
+pub fn roll(roll: &[u8], answer: &mut [u8]) -> u32
+    ensures { λ r. ⌜ r ≡ rollNumber (now (roll .entry)) (now (answer .entry)) ⌝ }
+    ensures { λ r. ⌜ now (answer .exit) ≡ rollBlock (now (roll .entry)) (now (answer .entry)) ⌝ }
+    ensures { λ r. ⌜ RollTheorems (now (roll .entry)) ⌝ }
+{
+    if answer.len() != 16 {
+        return 20;
+    }
+    let total = read_roll(roll);
+    match total {
+        Total::Refused(number, place) => {
+            put_block(answer, number as usize, place, 0, 0);
+            return number;
+        }
+        Total::Tokens(count) => {
+            put_block(answer, 0, 0, count, roll.len());
+            return 0;
+        }
+    }
+}
+
+fn put_token(answer: &mut [u8], kind: TokenKind, start: usize, end: usize, cut: bool, next: usize)
+    requires { ⌜ length (now answer) ≡ 40 ⌝ }
+    ensures { λ r. ⌜ now (answer .exit) ≡ tokenBlock (record { kind = kind; start = start; end = end; cut = cut }) next ⌝ }
+{
+    let form = kind.form();
+    put4(answer, 0, 0);
+    put4(answer, 4, 0);
+    put4(answer, 8, form.number as usize);
+    put4(answer, 12, start);
+    put4(answer, 16, end);
+    put4(answer, 20, bit_of(cut) as usize);
+    put4(answer, 24, 0);
+    put4(answer, 28, next);
+    put8(answer, 32, form.values);
+}
+
+fn put_stop(answer: &mut [u8], number: usize, place: usize)
+    requires { ⌜ length (now answer) ≡ 40 ⌝ }
+    ensures { λ r. ⌜ now (answer .exit) ≡ stopBlock number place ⌝ }
+{
+    put4(answer, 0, number);
+    put4(answer, 4, place);
+    put8(answer, 8, 0);
+    put8(answer, 16, 0);
+    put8(answer, 24, 0);
+    put8(answer, 32, 0);
+}
+
+// 40 bytes: refusal, place, kind, start, end, cut, 0, offset of the next record, and the values in 8 bytes.
+pub fn record(roll: &[u8], at: u32, previous: u32, answer: &mut [u8]) -> u32
+    ensures { λ r. ⌜ r ≡ recordNumber (now (roll .entry)) at previous (now (answer .entry)) ⌝ }
+    ensures { λ r. ⌜ now (answer .exit) ≡ recordBlock (now (roll .entry)) at previous (now (answer .entry)) ⌝ }
+    ensures { λ r. ⌜ RollTheorems (now (roll .entry)) ⌝ }
+{
+    if answer.len() != 40 {
+        return 20;
+    }
+    let found = read_record(
+        roll,
+        Roll {
+            at: at as usize,
+            previous: previous as usize,
+        },
+    );
+    match found {
+        Yield::Refused(number, place) => {
+            put_stop(answer, number as usize, place);
+            return number;
+        }
+        Yield::Token(kind, start, end, cut, next) => {
+            put_token(answer, kind, start, end, cut, next.at);
+            return 0;
+        }
+    }
+}
