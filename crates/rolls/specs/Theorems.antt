@@ -5,9 +5,9 @@ use mathlib.Core.Logic.{_↔_}
 use mathlib.Core.List.{List}
 use lib.ListN.{length}
 use Rattle.token.specs.paper.Kinds.{Token}
-use Rattle.token.specs.paper.Reading.{TokensOf}
+use Rattle.token.specs.paper.Reading.{TokensOf, OnlyLastEof}
 use Rattle.token.specs.paper.Records.{mostBytes, records}
-use Rattle.rolls.specs.paper.Roll.{Stepped, Steps, Outcome, tokens, Reads, OnlyLastEof}
+use Rattle.rolls.specs.paper.Roll.{Stepped, Steps, Outcome, tokens, Reads}
 use Rattle.rolls.specs.computed.Roll.{stepAt, readRoll}
 
 pub record RollTheorems (roll : List ℕ) : Type 0 where

@@ -126,8 +126,3 @@ pub data Reads (roll : List ℕ) : ℕ → ℕ → Outcome → Type 0 where
   last : {at previous next : ℕ} {t : Token} → Steps roll at previous (yielded t next) → t .kind ≡ tk.Eof → Reads roll at previous (tokens (t ∷ []))
   more : {at previous next : ℕ} {t : Token} {x : Outcome} → Steps roll at previous (yielded t next) → (t .kind ≡ tk.Eof → ⊥)
       → Reads roll next (t .end) x → Reads roll at previous (behind t x)
-
--- the last token is Eof, and no other is
-pub data OnlyLastEof : List Token → Type 0 where
-  eof : {t : Token} → t .kind ≡ tk.Eof → OnlyLastEof (t ∷ [])
-  other : {t : Token} {ts : List Token} → (t .kind ≡ tk.Eof → ⊥) → OnlyLastEof ts → OnlyLastEof (t ∷ ts)

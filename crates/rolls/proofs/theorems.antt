@@ -1,0 +1,9 @@
+pub mod Kinds
+pub mod Values
+pub mod Rules
+pub mod Eofs
+pub mod Steps
+pub mod Reading
+pub mod Back
+pub mod Written
+pub mod Rolls

@@ -1,0 +1,21 @@
+-- What is proved of every roll: specs/Theorems.RollTheorems.
+use Prim.Native.Nat.{ℕ}
+use mathlib.Core.List.{List}
+use lib.ListN.{length}
+use Rattle.words.specs.Joins.{Bytes}
+use Rattle.token.proofs.theorems.Bounded.{all-bounded, in-order, last-eof}
+use Rattle.rolls.specs.Theorems.{RollTheorems}
+use Rattle.rolls.proofs.theorems.Steps.{steps}
+use Rattle.rolls.proofs.theorems.Reading.{reads, one-eof}
+use Rattle.rolls.proofs.theorems.Back.{back}
+use Rattle.rolls.proofs.theorems.Written.{read-written}
+
+pub roll-theorems : (roll : List ℕ) → Bytes roll → RollTheorems roll
+roll-theorems roll b =
+    record {
+      steps = λ at previous x. steps roll b at previous x;
+      reads = λ x. reads roll b x;
+      written = λ script ts short h. read-written (length script) ts short (all-bounded script ts h) (in-order script ts h) (last-eof script ts h);
+      back = λ ts e. back roll b ts e;
+      one-eof = λ ts e. one-eof roll b ts e;
+    }

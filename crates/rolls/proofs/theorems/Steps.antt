@@ -1,0 +1,220 @@
+-- One record, computed, is what is declared of it: field `steps` of specs/Theorems.RollTheorems.
+use Prim.Native.Nat.{ℕ, _+_, _-_, _≤_, _<_}
+use mathlib.Core.Path.{_≡_, refl, sym, _∙_, ap}
+use mathlib.Core.Bool.{Bool, true, false, cond, _&&_, or-true}
+use mathlib.Core.Logic.{_⊎_, inl, inr, _↔_}
+use mathlib.Core.List.{List}
+use lib.ListN.{length}
+use lib.Dec.{eqb, leb, ltb}
+use native.Mathlib.Omega.{arith}
+use borrow.Author.Tests.{eqb-true, eq-eqb, ltb-true, ltb-false, lt-ltb, le-ltb, leb-true, leb-false, le-leb, lt-leb}
+use Rattle.words.specs.Joins.{Bytes}
+use Rattle.words.specs.Words.{oneAt}
+use Rattle.token.specs.paper.Kinds.{kindNumber, Token}
+use Rattle.token.specs.paper.Records.{headLength}
+use Rattle.token.specs.code.Form.{heldAt}
+use Rattle.token.specs.declared.kinds.TokenKind.the-variants as tk
+use Rattle.token.specs.declared.form.Held.{Held}
+use Rattle.rolls.specs.paper.Roll.{lengthAt, kindAt, cutAt, Short, KindLength, Wrong, Sound, Stepped, yielded, stopped, Steps}
+use Rattle.rolls.specs.computed.Roll.{isKnown, isWrong, tokenOf, stepHeld, stepAt, isEof}
+use Rattle.rolls.proofs.theorems.Kinds.{is-known, known-kind}
+use Rattle.rolls.proofs.theorems.Values.{token-at, token-is}
+use Rattle.rolls.proofs.theorems.Rules.{clash, wrong-is, is-wrong}
+use Rattle.rolls.proofs.theorems.Eofs.{is-eof, not-eof, number-eof}
+
+-- ---- the computed answer, branch by branch
+
+module _ (h : Held) (at left previous : ℕ) where
+  -- a record that breaks a rule
+  held-wrong : isWrong h previous ≡ true → stepHeld h at left previous ≡ stopped 24 at
+  unfolding stepHeld
+  held-wrong e = rw e
+
+  -- Eof with bytes behind it
+  held-after : isWrong h previous ≡ false → h .number ≡ 18 → h .length < left → stepHeld h at left previous ≡ stopped 24 (at + h .length)
+  unfolding stepHeld
+  held-after e n l = rw (e, eq-eqb (h .number) 18 n, lt-ltb (h .length) left l)
+
+  -- any other is yielded
+  pub held-yields : isWrong h previous ≡ false → (h .number ≡ 18 → left ≤ h .length) → stepHeld h at left previous ≡ yielded (tokenOf h) (at + h .length)
+  unfolding stepHeld
+  held-yields e f = rw e (go (eqb (h .number) 18) refl)
+    where
+      go : (b : Bool) → eqb (h .number) 18 ≡ b
+          → cond (b && ltb (h .length) left) (stopped 24 (at + h .length)) (yielded (tokenOf h) (at + h .length)) ≡ yielded (tokenOf h) (at + h .length)
+      go true q = rw (le-ltb (h .length) left (f (eqb-true (h .number) 18 q)))
+      go false q = refl
+
+module _ (roll : List ℕ) (at previous : ℕ) where
+  -- no byte is left
+  step-end : length roll ≤ at → stepAt roll at previous ≡ stopped 24 (length roll)
+  unfolding stepAt
+  step-end l = rw (le-leb (length roll) at l)
+
+  -- bytes are left, but too few
+  step-short : Short roll at → stepAt roll at previous ≡ stopped 22 at
+  unfolding stepAt heldAt
+  step-short s = by-fewer (s .fewer)
+    where
+      by-fewer : (length roll < at + 4) ⊎ (length roll < at + lengthAt roll at) → stepAt roll at previous ≡ stopped 22 at
+      by-fewer (inl f) = let l = s .left in rw (lt-leb (length roll) at l, lt-ltb (length roll - at) 4 (omega arith))
+      by-fewer (inr f) =
+          let l = s .left in
+          rw (lt-leb (length roll) at l, lt-ltb (length roll - at) (lengthAt roll at) (omega arith), or-true (ltb (length roll - at) 4))
+
+  -- no record that is short
+  whole : at < length roll → (Short roll at → ⊥) → (at + 4 ≤ length roll) × (at + lengthAt roll at ≤ length roll)
+  whole l s =
+      let a : (length roll < at + 4) → ⊥ = λ h. s (record { left = l; fewer = inl h }) in
+      let b : (length roll < at + lengthAt roll at) → ⊥ = λ h. s (record { left = l; fewer = inr h }) in
+      (omega (arith, a), omega (arith, b))
+
+  module _ (four : at + 4 ≤ length roll) (room : at + lengthAt roll at ≤ length roll) where
+    -- a whole record of no kind
+    step-unknown : isKnown (kindAt roll at) (lengthAt roll at) ≡ false → stepAt roll at previous ≡ stopped 23 at
+    unfolding stepAt heldAt
+    step-unknown e =
+        rw (lt-leb (length roll) at (omega arith), le-ltb (length roll - at) 4 (omega arith), le-ltb (length roll - at) (lengthAt roll at) (omega arith), e)
+
+    -- a whole record of a known kind
+    pub step-known : isKnown (kindAt roll at) (lengthAt roll at) ≡ true
+        → stepAt roll at previous ≡ stepHeld (heldAt roll at) at (length roll - at) previous
+    unfolding stepAt heldAt
+    step-known e =
+        rw (lt-leb (length roll) at (omega arith), le-ltb (length roll - at) 4 (omega arith), le-ltb (length roll - at) (lengthAt roll at) (omega arith), e)
+
+-- ---- what is declared is computed
+
+-- no kind has this number and length: the test fails
+kind-unknown : (n size : ℕ) → (KindLength n size → ⊥) → isKnown n size ≡ false
+kind-unknown n size u = go (isKnown n size) refl
+  where
+    go : (b : Bool) → isKnown n size ≡ b → b ≡ false
+    go true e = absurd (u (known-kind n size e))
+    go false e = refl
+
+-- the test decides, so that a kind is not only not impossible
+kind-known : (n size : ℕ) → ((KindLength n size → ⊥) → ⊥) → KindLength n size
+kind-known n size u = go (isKnown n size) refl
+  where
+    go : (b : Bool) → isKnown n size ≡ b → KindLength n size
+    go true e = known-kind n size e
+    go false e = absurd (u (λ k. clash (sym e ∙ is-known k)))
+
+module _ (roll : List ℕ) (b : Bytes roll) (at previous : ℕ) where
+  -- no rule is broken: the test fails
+  not-wrong : KindLength (kindAt roll at) (lengthAt roll at) → (Wrong roll at previous → ⊥) → isWrong (heldAt roll at) previous ≡ false
+  not-wrong k r = go (isWrong (heldAt roll at) previous) refl
+    where
+      go : (t : Bool) → isWrong (heldAt roll at) previous ≡ t → t ≡ false
+      go true e = absurd (r (is-wrong roll b at k previous e))
+      go false e = refl
+
+  module _ (t : Token) (s : Sound roll at previous t) where
+    -- a sound record is whole and known
+    sound-step : stepAt roll at previous ≡ stepHeld (heldAt roll at) at (length roll - at) previous
+    sound-step = step-known roll at previous (s .whole) (s .room) (is-known (s .known))
+
+    -- and breaks no rule
+    sound-right : isWrong (heldAt roll at) previous ≡ false
+    sound-right = not-wrong (s .known) (s .right)
+
+    -- Eof behind which bytes stand
+    sound-after : t .kind ≡ tk.Eof → at + lengthAt roll at < length roll → stepAt roll at previous ≡ stopped 24 (at + lengthAt roll at)
+    unfolding heldAt
+    sound-after e l =
+        sound-step ∙ held-after (heldAt roll at) at (length roll - at) previous sound-right (sym (s .token .kind-is) ∙ ap kindNumber e) (omega arith)
+
+    -- any other
+    sound-yields : (t .kind ≡ tk.Eof → at + lengthAt roll at ≡ length roll) → stepAt roll at previous ≡ yielded t (at + lengthAt roll at)
+    unfolding heldAt
+    sound-yields f =
+        sound-step
+        ∙ held-yields (heldAt roll at) at (length roll - at) previous sound-right (λ n. let z = f (number-eof (t .kind) (s .token .kind-is ∙ n)) in omega arith)
+        ∙ ap (λ x. yielded x (at + lengthAt roll at)) (token-is roll b at (s .known) t (s .token))
+
+  pub steps-only : {x : Stepped} → Steps roll at previous x → stepAt roll at previous ≡ x
+  steps-only (Steps.no-eof l) = step-end roll at previous l
+  steps-only (Steps.twenty-two s) = step-short roll at previous s
+  steps-only (Steps.twenty-three l s u) =
+      let w = whole roll at previous l s in
+      step-unknown roll at previous (w .0) (w .1) (kind-unknown (kindAt roll at) (lengthAt roll at) u)
+  steps-only (Steps.twenty-four l s u x) =
+      let w = whole roll at previous l s in
+      let k = kind-known (kindAt roll at) (lengthAt roll at) u in
+      step-known roll at previous (w .0) (w .1) (is-known k) ∙ held-wrong (heldAt roll at) at (length roll - at) previous (wrong-is roll b at k previous x)
+  steps-only (Steps.after-eof {t} s e l) = sound-after t s e l
+  steps-only (Steps.yields {t} s f) = sound-yields t s f
+
+  -- ---- and something is declared in every case
+
+  put : {x : Stepped} → Steps roll at previous x → Steps roll at previous (stepAt roll at previous)
+  put h = rw (steps-only h) h
+
+  -- Sound: yielded, if it is no Eof or nothing stands behind it
+  step-sound : (t : Token) → Sound roll at previous t → Steps roll at previous (stepAt roll at previous)
+  step-sound t s = ends (isEof (t .kind)) refl
+    where
+      past : t .kind ≡ tk.Eof → (q : Bool) → ltb (at + lengthAt roll at) (length roll) ≡ q → Steps roll at previous (stepAt roll at previous)
+      past e true f = put (Steps.after-eof s e (ltb-true (at + lengthAt roll at) (length roll) f))
+      past e false f = let r = s .room in let l = ltb-false (at + lengthAt roll at) (length roll) f in put (Steps.yields s (λ z. omega arith))
+
+      ends : (q : Bool) → isEof (t .kind) ≡ q → Steps roll at previous (stepAt roll at previous)
+      ends true e = past (is-eof (t .kind) e) (ltb (at + lengthAt roll at) (length roll)) refl
+      ends false e = put (Steps.yields s (λ z. absurd (not-eof (t .kind) e z)))
+
+  -- whole and of a known kind: 24, or sound
+  module _ (four : at + 4 ≤ length roll) (room : at + lengthAt roll at ≤ length roll) where
+    -- it is not short
+    not-short : Short roll at → ⊥
+    not-short s = by-fewer (s .fewer)
+      where
+        by-fewer : (length roll < at + 4) ⊎ (length roll < at + lengthAt roll at) → ⊥
+        by-fewer (inl f) = omega arith
+        by-fewer (inr f) = omega arith
+
+    -- of a known kind
+    step-kind : KindLength (kindAt roll at) (lengthAt roll at) → Steps roll at previous (stepAt roll at previous)
+    step-kind k = go (isWrong (heldAt roll at) previous) refl
+      where
+        sound : (Wrong roll at previous → ⊥) → Sound roll at previous (tokenOf (heldAt roll at))
+        sound r =
+            let c : (1 < cutAt roll at) → ⊥ = λ l. r (Wrong.cut-byte l) in
+            let mark : kindAt roll at ≡ 17 → (1 < oneAt roll (at + headLength)) → ⊥ = λ e l. r (Wrong.after-comment e l) in
+            record {
+              whole = four;
+              room = room;
+              known = k;
+              right = r;
+              token = token-at roll b at k (omega (arith, c)) (λ e. omega (arith, mark e));
+            }
+
+        go : (t : Bool) → isWrong (heldAt roll at) previous ≡ t → Steps roll at previous (stepAt roll at previous)
+        go true e = put (Steps.twenty-four (omega arith) not-short (λ u. u k) (is-wrong roll b at k previous e))
+        go false e = step-sound (tokenOf (heldAt roll at)) (sound (λ w. clash (sym e ∙ wrong-is roll b at k previous w)))
+
+    -- whole
+    step-whole : Steps roll at previous (stepAt roll at previous)
+    step-whole = go (isKnown (kindAt roll at) (lengthAt roll at)) refl
+      where
+        go : (t : Bool) → isKnown (kindAt roll at) (lengthAt roll at) ≡ t → Steps roll at previous (stepAt roll at previous)
+        go true e = step-kind (known-kind (kindAt roll at) (lengthAt roll at) e)
+        go false e = put (Steps.twenty-three (omega arith) not-short (λ k. clash (sym e ∙ is-known k)))
+
+  pub step-is : Steps roll at previous (stepAt roll at previous)
+  step-is = bytes (leb (length roll) at) refl
+    where
+      room : at < length roll → at + 4 ≤ length roll → (t : Bool) → ltb (length roll) (at + lengthAt roll at) ≡ t → Steps roll at previous (stepAt roll at previous)
+      room l f true e = put (Steps.twenty-two (record { left = l; fewer = inr (ltb-true (length roll) (at + lengthAt roll at) e) }))
+      room l f false e = step-whole f (ltb-false (length roll) (at + lengthAt roll at) e)
+
+      four : at < length roll → (t : Bool) → ltb (length roll) (at + 4) ≡ t → Steps roll at previous (stepAt roll at previous)
+      four l true e = put (Steps.twenty-two (record { left = l; fewer = inl (ltb-true (length roll) (at + 4) e) }))
+      four l false e = room l (ltb-false (length roll) (at + 4) e) (ltb (length roll) (at + lengthAt roll at)) refl
+
+      bytes : (t : Bool) → leb (length roll) at ≡ t → Steps roll at previous (stepAt roll at previous)
+      bytes true e = put (Steps.no-eof (leb-true (length roll) at e))
+      bytes false e = four (leb-false (length roll) at e) (ltb (length roll) (at + 4)) refl
+
+  pub steps : (x : Stepped) → (stepAt roll at previous ≡ x) ↔ Steps roll at previous x
+  steps x = (λ e. rw e at step-is, steps-only)

@@ -1,0 +1,168 @@
+-- What the writer stores is read to the same tokens: field `written` of specs/Theorems.RollTheorems.
+use Prim.Native.Nat.{ℕ, zero, suc, _+_, _*_, _-_, _%_, _≤_, _<_}
+use mathlib.Core.Path.{_≡_, refl, sym, _∙_, ap}
+use mathlib.Core.Bool.{Bool, true, false}
+use mathlib.Core.List.{List, [], _∷_, _++_}
+use lib.ListN.{length, drop, length-append, length-drop}
+use lib.Seq.{drop-drop, drop-at}
+use lib.Dec.{ltb}
+use native.Mathlib.Nat.{mod-eq-of-lt}
+use native.Mathlib.Omega.{arith}
+use borrow.Author.Tests.{le-ltb}
+use Rattle.token.specs.paper.Kinds.{kindNumber, Token}
+use Rattle.token.specs.paper.Reading.{OnlyLastEof}
+use Rattle.token.specs.paper.Records.{bit, valuesOf, recordLength, recordOf, records, mostBytes}
+use Rattle.token.specs.code.Form.{RecordForm, joined, heldAt}
+use Rattle.token.specs.declared.kinds.Kw.the-variants as kw
+use Rattle.token.specs.declared.kinds.TokenKind.{TokenKind}
+use Rattle.token.specs.declared.kinds.TokenKind.the-variants as tk
+use Rattle.token.proofs.form.Stores.{length-record}
+use Rattle.token.proofs.form.ReadBack.{record-form}
+use Rattle.token.proofs.theorems.Bounded.{Within, Bounded, AllBounded, InOrder, token-back}
+use Rattle.rolls.specs.paper.Roll.{lengthAt, kindAt, of-kind, yielded, tokens, behind}
+use Rattle.rolls.specs.computed.Roll.{badValues, isWrong, stepHeld, stepAt, isEof, readIn, readFrom, readRoll}
+use Rattle.rolls.proofs.theorems.Kinds.{known-least, is-known, Fit, lower, upper}
+use Rattle.rolls.proofs.theorems.Values.{heldOf, token-held}
+use Rattle.rolls.proofs.theorems.Eofs.{number-eof, other-kind}
+use Rattle.rolls.proofs.theorems.Steps.{held-yields, step-known}
+use Rattle.rolls.proofs.theorems.Reading.{read-last, read-more}
+open RecordForm record-form using (held-on)
+
+-- ---- values within their limits
+
+bit-byte : (mark : Bool) → bit mark < 256
+bit-byte true = omega arith
+bit-byte false = omega arith
+
+bit-low : (mark : Bool) → ltb 1 (bit mark) ≡ false
+bit-low true = refl
+bit-low false = refl
+
+-- they fit
+within-fit : (a e : ℕ) (k : TokenKind) → e ≤ mostBytes → Within a e k → Fit (valuesOf k)
+within-fit a e tk.Ident s h = tt
+within-fit a e tk.OpId s h = tt
+within-fit a e tk.BacktickId s h = tt
+within-fit a e (tk.IntLit v) s h = (omega arith, tt)
+within-fit a e (tk.LongLit v) s h = (omega arith, tt)
+within-fit a e (tk.Str b c) s h = let x = h .1 in let y = h .2 in (omega arith, (omega arith, tt))
+within-fit a e tk.CharSym s h = tt
+within-fit a e tk.LParen s h = tt
+within-fit a e tk.RParen s h = tt
+within-fit a e tk.LBracket s h = tt
+within-fit a e tk.RBracket s h = tt
+within-fit a e tk.LBrace s h = tt
+within-fit a e tk.RBrace s h = tt
+within-fit a e tk.Comma s h = tt
+within-fit a e tk.Semi s h = tt
+within-fit a e tk.Dot s h = tt
+within-fit a e (tk.Newline mark) s h = (bit-byte mark, tt)
+within-fit a e tk.Eof s h = tt
+within-fit a e (tk.Kw k) s h = tt
+
+-- and break none of 24's rules
+str-good : (a e size c b d : ℕ) → b < 4294967296 → d < 4294967296 → a ≤ b → b ≤ d → d ≤ e
+    → badValues (record { number = 6; length = size; values = b % 4294967296 + d % 4294967296 * 4294967296; start = a; end = e; cut = c }) ≡ false
+unfolding badValues
+str-good a e size c b d p q x y z = rw (mod-eq-of-lt p, mod-eq-of-lt q, lower b d p, upper b d p, le-ltb b a x, le-ltb e d z, le-ltb d b y)
+
+-- the same of any kind
+within-good : (a e c : ℕ) (k : TokenKind) → e ≤ mostBytes → Within a e k → badValues (record { number = kindNumber k; length = recordLength k; values = joined (valuesOf k); start = a; end = e; cut = c }) ≡ false
+unfolding badValues
+within-good a e c tk.Ident s h = refl
+within-good a e c tk.OpId s h = refl
+within-good a e c tk.BacktickId s h = refl
+within-good a e c (tk.IntLit v) s h = le-ltb 2147483647 v h
+within-good a e c (tk.LongLit v) s h = le-ltb 9223372036854775807 v h
+within-good a e c (tk.Str b d) s h = let x = h .0 in let y = h .1 in let z = h .2 in str-good a e (recordLength (tk.Str b d)) c b d (omega arith) (omega arith) x y z
+within-good a e c tk.CharSym s h = refl
+within-good a e c tk.LParen s h = refl
+within-good a e c tk.RParen s h = refl
+within-good a e c tk.LBracket s h = refl
+within-good a e c tk.RBracket s h = refl
+within-good a e c tk.LBrace s h = refl
+within-good a e c tk.RBrace s h = refl
+within-good a e c tk.Comma s h = refl
+within-good a e c tk.Semi s h = refl
+within-good a e c tk.Dot s h = refl
+within-good a e c (tk.Newline mark) s h = bit-low mark
+within-good a e c tk.Eof s h = refl
+within-good a e c (tk.Kw kw.Case) s h = refl
+within-good a e c (tk.Kw kw.Else) s h = refl
+within-good a e c (tk.Kw kw.False) s h = refl
+within-good a e c (tk.Kw kw.Function) s h = refl
+within-good a e c (tk.Kw kw.If) s h = refl
+within-good a e c (tk.Kw kw.Match) s h = refl
+within-good a e c (tk.Kw kw.Return) s h = refl
+within-good a e c (tk.Kw kw.Then) s h = refl
+within-good a e c (tk.Kw kw.True) s h = refl
+within-good a e c (tk.Kw kw.Colon) s h = refl
+within-good a e c (tk.Kw kw.FatArrow) s h = refl
+within-good a e c (tk.Kw kw.Assign) s h = refl
+within-good a e c (tk.Kw kw.Hash) s h = refl
+within-good a e c (tk.Kw kw.At) s h = refl
+
+module _ (n : ℕ) (short : n ≤ mostBytes) (roll : List ℕ) where
+  -- ---- one record
+
+  module _ (at previous : ℕ) (t : Token) (h : Bounded n t) (after : previous ≤ t .start) where
+    -- a token within its limits, not before the one before it, breaks no rule
+    right : isWrong (heldOf t) previous ≡ false
+    unfolding isWrong
+    right =
+        let l = h .start in
+        let m = h .end in
+        rw (bit-low (t .cut), le-ltb (t .end) (t .start) l, le-ltb (t .start) previous after)
+        (within-good (t .start) (t .end) (bit (t .cut)) (t .kind) (omega arith) (h .values))
+
+    -- and its values fit
+    fit : Fit (valuesOf (t .kind))
+    fit = let m = h .end in within-fit (t .start) (t .end) (t .kind) (omega arith) (h .values)
+
+    module _ (rest : List ℕ) (here : drop at roll ≡ recordOf t ++ rest) where
+      -- what stands there is what the token's record has
+      held-there : heldAt roll at ≡ heldOf t
+      held-there = held-on roll at ∙ ap (λ l. heldAt l 0) here ∙ token-back n short t h rest
+
+      -- the bytes left are the record and what follows
+      left-is : length roll - at ≡ recordLength (t .kind) + length rest
+      left-is = sym (length-drop at roll) ∙ ap length here ∙ length-append (recordOf t) rest ∙ ap (λ m. m + length rest) (length-record t)
+
+      -- a token's record is yielded as the token, if it is no Eof or nothing follows
+      step-written : (t .kind ≡ tk.Eof → rest ≡ []) → stepAt roll at previous ≡ yielded t (at + recordLength (t .kind))
+      unfolding heldAt
+      step-written f =
+          let size : lengthAt roll at ≡ recordLength (t .kind) = ap (λ x. x .length) held-there in
+          let number : kindAt roll at ≡ kindNumber (t .kind) = ap (λ x. x .number) held-there in
+          let k = of-kind (t .kind) in
+          let least = known-least k in
+          let left = left-is in
+          step-known roll at previous (omega arith) (omega arith) (rw (number, size) (is-known k))
+          ∙ ap (λ x. stepHeld x at (length roll - at) previous) held-there
+          ∙ held-yields (heldOf t) at (length roll - at) previous right (λ e. let z = ap length (f (number-eof (t .kind) e)) in omega arith)
+          ∙ ap (λ x. yielded x (at + recordLength (t .kind))) (token-held t fit)
+
+      -- and what follows stands behind it
+      rest-there : drop (at + recordLength (t .kind)) roll ≡ rest
+      rest-there = sym (drop-drop (recordLength (t .kind)) at roll) ∙ ap (drop (recordLength (t .kind))) here ∙ drop-at (recordOf t) rest (recordLength (t .kind)) (length-record t)
+
+  -- ---- and all of them
+
+  -- from an offset on, with any bound past the bytes left
+  read-records : {ts : List Token} → OnlyLastEof ts → (most at previous : ℕ) → AllBounded n ts → InOrder previous ts → drop at roll ≡ records ts → length roll - at < most
+      → readIn most roll at previous ≡ tokens ts
+  unfolding records
+  read-records w zero at previous h o e l = absurd (omega arith)
+  read-records (OnlyLastEof.eof {t} q) (suc most) at previous h o e l =
+      read-last most roll at previous t (at + recordLength (t .kind)) (step-written at previous t (h .0) (o .0) [] e (λ z. refl)) (ap isEof q)
+  read-records (OnlyLastEof.other {t} {ts} q w) (suc most) at previous h o e l =
+      let least = known-least (of-kind (t .kind)) in
+      let left = left-is at previous t (h .0) (o .0) (records ts) e in
+      read-more most roll at previous t (at + recordLength (t .kind)) (step-written at previous t (h .0) (o .0) (records ts) e (λ z. absurd (q z))) (other-kind (t .kind) q)
+      ∙ ap (behind t)
+      (read-records w most (at + recordLength (t .kind)) (t .end) (h .1) (o .1) (rest-there at previous t (h .0) (o .0) (records ts) e) (omega arith))
+
+-- from the start
+pub read-written : (n : ℕ) (ts : List Token) → n ≤ mostBytes → AllBounded n ts → InOrder 0 ts → OnlyLastEof ts → readRoll (records ts) ≡ tokens ts
+unfolding readRoll readFrom
+read-written n ts short h o w = read-records n short (records ts) w (suc (length (records ts) - 0)) 0 0 h o refl (omega arith)
