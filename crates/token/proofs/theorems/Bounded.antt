@@ -19,7 +19,7 @@ use Rattle.chars.proofs.theorems.Promises.{text-laws}
 use Rattle.words.specs.Words.{le4, le8}
 use Rattle.token.specs.paper.Kinds.{Kind, TokenType, withoutValues, kwNumber, kindNumber, Token}
 use Rattle.token.specs.paper.Shapes.{both, textOf, limit, TokenShape, HasShape, Stands}
-use Rattle.token.specs.paper.Reading.{Piece, Pieces, LastDropped, Content, Valued, Tokens, TokensOf}
+use Rattle.token.specs.paper.Reading.{Piece, Pieces, LastDropped, Content, Valued, Tokens, TokensOf, OnlyLastEof}
 use Rattle.token.specs.paper.Refusals.{Opens, InSingle, InTriple, BadEscape, Met, Refused}
 use Rattle.token.specs.paper.Records.{bit, valuesOf, values, headLength, mostBytes, recordLength, recordOf}
 use Rattle.token.specs.code.Form.{joined, formOf, heldAt, Storable}
@@ -157,11 +157,6 @@ abbrev pub InOrder : ℕ → List Token → Type 0
 InOrder p [] = Unit {0}
 InOrder p (t ∷ ts) = (p ≤ t .start) × InOrder (t .end) ts
 
--- the last token is Eof, and no other is
-pub data LastEof : List Token → Type 0 where
-  eof : {t : Token} → t .kind ≡ tk.Eof → LastEof (t ∷ [])
-  other : {t : Token} {ts : List Token} → (t .kind ≡ tk.Eof → ⊥) → LastEof ts → LastEof (t ∷ ts)
-
 -- a kind that carries nothing
 abbrev WithinIf : ℕ → ℕ → Option TokenKind → Type 0
 WithinIf a e none = Unit {0}
@@ -294,13 +289,13 @@ module _ (script : List ℕ) where
   in-order ts h = tokens-in-order 0 (omega arith) (script-rising script) (h .reading) (h .tokens)
 
   -- whatever the gap, the tokens end with their one Eof
-  tokens-last : {gap ps : List Piece} {ts : List Token} → Tokens script gap ps ts → LastEof ts
-  tokens-last (Tokens.eof c) = LastEof.eof refl
+  tokens-last : {gap ps : List Piece} {ts : List Token} → Tokens script gap ps ts → OnlyLastEof ts
+  tokens-last (Tokens.eof c) = OnlyLastEof.eof refl
   tokens-last (Tokens.skip o x) = tokens-last x
-  tokens-last (Tokens.lineEnd q o x) = LastEof.other (newline-other _) (tokens-last x)
-  tokens-last (Tokens.token q u c x) = LastEof.other (valued-other u) (tokens-last x)
+  tokens-last (Tokens.lineEnd q o x) = OnlyLastEof.other (newline-other _) (tokens-last x)
+  tokens-last (Tokens.token q u c x) = OnlyLastEof.other (valued-other u) (tokens-last x)
 
-  pub last-eof : (ts : List Token) → TokensOf script ts → LastEof ts
+  pub last-eof : (ts : List Token) → TokensOf script ts → OnlyLastEof ts
   last-eof ts h = tokens-last (h .tokens)
 
 -- ---- records

@@ -115,3 +115,8 @@ pub record TokensOf (script : List ℕ) (ts : List Token) : Type 0 where
   pub pieces : List Piece
   pub reading : Reading script pieces
   pub tokens : Tokens script [] pieces ts
+
+-- "then one Eof": the last token is Eof, and no other is
+pub data OnlyLastEof : List Token → Type 0 where
+  eof : {t : Token} → t .kind ≡ tk.Eof → OnlyLastEof (t ∷ [])
+  other : {t : Token} {ts : List Token} → (t .kind ≡ tk.Eof → ⊥) → OnlyLastEof ts → OnlyLastEof (t ∷ ts)
