@@ -10,8 +10,10 @@ use words::write::put_block;
 use words::write::put4;
 use words::write::put8;
 ghost use mathlib.Core.Path.{_≡_};
+ghost use Prim.Native.Nat.{_+_, _≤_};
 ghost use lib.ListN.{length};
-ghost use Rattle.token.specs.paper.Kinds.{Token};
+ghost use lib.Seq.{sets};
+ghost use Rattle.words.specs.Words.{blockOf};
 ghost use Rattle.rolls.specs.computed.Host.{rollNumber, rollBlock, recordNumber, recordBlock, tokenBlock, stopBlock};
 ghost use Rattle.rolls.specs.Theorems.{RollTheorems};
 
@@ -37,19 +39,24 @@ pub fn roll(roll: &[u8], answer: &mut [u8]) -> u32
     }
 }
 
+// Four numbers of four bytes, from w on.
+fn put_numbers(out: &mut [u8], w: usize, first: usize, second: usize, third: usize, fourth: usize)
+    requires { ⌜ w + 16 ≤ length (now out) ⌝ }
+    ensures { λ r. ⌜ now (out .exit) ≡ sets (now (out .entry)) w (blockOf first second third fourth) ⌝ }
+{
+    put4(out, w, first);
+    put4(out, w + 4, second);
+    put4(out, w + 8, third);
+    put4(out, w + 12, fourth);
+}
+
 fn put_token(answer: &mut [u8], kind: TokenKind, start: usize, end: usize, cut: bool, next: usize)
     requires { ⌜ length (now answer) ≡ 40 ⌝ }
     ensures { λ r. ⌜ now (answer .exit) ≡ tokenBlock (record { kind = kind; start = start; end = end; cut = cut }) next ⌝ }
 {
     let form = kind.form();
-    put4(answer, 0, 0);
-    put4(answer, 4, 0);
-    put4(answer, 8, form.number as usize);
-    put4(answer, 12, start);
-    put4(answer, 16, end);
-    put4(answer, 20, bit_of(cut) as usize);
-    put4(answer, 24, 0);
-    put4(answer, 28, next);
+    put_numbers(answer, 0, 0, 0, form.number as usize, start);
+    put_numbers(answer, 16, end, bit_of(cut) as usize, 0, next);
     put8(answer, 32, form.values);
 }
 
@@ -57,11 +64,8 @@ fn put_stop(answer: &mut [u8], number: usize, place: usize)
     requires { ⌜ length (now answer) ≡ 40 ⌝ }
     ensures { λ r. ⌜ now (answer .exit) ≡ stopBlock number place ⌝ }
 {
-    put4(answer, 0, number);
-    put4(answer, 4, place);
-    put8(answer, 8, 0);
-    put8(answer, 16, 0);
-    put8(answer, 24, 0);
+    put_numbers(answer, 0, number, place, 0, 0);
+    put_numbers(answer, 16, 0, 0, 0, 0);
     put8(answer, 32, 0);
 }
 

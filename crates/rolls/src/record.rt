@@ -3,9 +3,9 @@ use token::form::Held;
 use token::kinds::Kw;
 use token::kinds::TokenKind;
 ghost use mathlib.Core.Path.{_≡_};
-ghost use Rattle.token.specs.paper.Kinds.{Token};
-ghost use Rattle.rolls.specs.computed.Roll.{lengthFor, isKnown, keywordFor, kindFor, badValues, isWrong, stepAt};
-ghost use Rattle.rolls.specs.code.Record.{yieldOf};
+ghost use Prim.Native.Nat.{_+_, _≤_};
+ghost use Rattle.rolls.specs.computed.Roll.{lengthFor, isKnown, keywordFor, kindFor, badValues, isWrong, stepHeld, stepAt};
+ghost use Rattle.rolls.specs.code.Record.{yieldOf, moreAfter};
 
 // A place in a roll: the offset of a record, and where the token before it ends.
 pub struct Roll {
@@ -112,13 +112,20 @@ fn kind_for(number: u64, values: u64) -> TokenKind
 fn bad_values(held: Held) -> bool
     ensures { λ r. ⌜ r ≡ badValues held ⌝ }
 {
-    match held.number {
+    let number = held.number;
+    match number {
         INT_LIT => held.values > 2147483647,
         LONG_LIT => held.values > 9223372036854775807,
         STR => {
             let from = held.values % 4294967296;
             let to = held.values / 4294967296;
-            from < held.start || held.end < to || to < from
+            if from < held.start {
+                return true;
+            }
+            if held.end < to {
+                return true;
+            }
+            to < from
         }
         NEWLINE => held.values > 1,
         _ => false,
@@ -128,29 +135,38 @@ fn bad_values(held: Held) -> bool
 fn is_wrong(held: Held, previous: usize) -> bool
     ensures { λ r. ⌜ r ≡ isWrong held previous ⌝ }
 {
-    held.cut > 1 || held.end < held.start || (held.start as usize) < previous || bad_values(held)
+    if held.cut > 1 {
+        return true;
+    }
+    if held.end < held.start {
+        return true;
+    }
+    if (held.start as usize) < previous {
+        return true;
+    }
+    bad_values(held)
 }
 
-pub fn read_record(roll: &[u8], c: Roll) -> Yield
-    ensures { λ r. ⌜ r ≡ yieldOf (stepAt (now (roll .entry)) (c .at) (c .previous)) ⌝ }
+// Whether the record is Eof, and not the last of the bytes left.
+fn has_more(held: Held, left: usize) -> bool
+    ensures { λ r. ⌜ r ≡ moreAfter held left ⌝ }
 {
-    let at = c.at;
-    if roll.len() <= at {
-        return Yield::Refused(24, roll.len());
+    if held.number != EOF {
+        return false;
     }
-    let left = roll.len() - at;
-    let held = token::form::read_record(&roll[at..], 0);
-    if left < 4 || left < held.length as usize {
-        return Yield::Refused(22, at);
-    }
-    if !is_known(held.number, held.length) {
-        return Yield::Refused(23, at);
-    }
-    if is_wrong(held, c.previous) {
+    (held.length as usize) < left
+}
+
+// A whole record of a known kind.
+fn yield_held(held: Held, at: usize, left: usize, previous: usize) -> Yield
+    requires { ⌜ (held .length ≤ left) × (at + left ≤ 18446744073709551615) ⌝ }
+    ensures { λ r. ⌜ r ≡ yieldOf (stepHeld held at left previous) ⌝ }
+{
+    if is_wrong(held, previous) {
         return Yield::Refused(24, at);
     }
     let next = at + held.length as usize;
-    if held.number == EOF && next < roll.len() {
+    if has_more(held, left) {
         return Yield::Refused(24, next);
     }
     Yield::Token(
@@ -163,4 +179,25 @@ pub fn read_record(roll: &[u8], c: Roll) -> Yield
             previous: held.end as usize,
         },
     )
+}
+
+pub fn read_record(roll: &[u8], c: Roll) -> Yield
+    ensures { λ r. ⌜ r ≡ yieldOf (stepAt (now (roll .entry)) (c .at) (c .previous)) ⌝ }
+{
+    let at = c.at;
+    if roll.len() <= at {
+        return Yield::Refused(24, roll.len());
+    }
+    let left = roll.len() - at;
+    let held = token::form::read_record(&roll[at..], 0);
+    if left < 4 {
+        return Yield::Refused(22, at);
+    }
+    if left < held.length as usize {
+        return Yield::Refused(22, at);
+    }
+    if !is_known(held.number, held.length) {
+        return Yield::Refused(23, at);
+    }
+    yield_held(held, at, left, c.previous)
 }

@@ -15,10 +15,8 @@ pub enum Total {
 fn is_eof(kind: TokenKind) -> bool
     ensures { λ r. ⌜ r ≡ isEof kind ⌝ }
 {
-    match kind {
-        TokenKind::Eof => true,
-        _ => false,
-    }
+    let form = kind.form();
+    form.number == TokenKind::EOF
 }
 
 pub fn read_roll(roll: &[u8]) -> Total
