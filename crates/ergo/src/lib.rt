@@ -29,7 +29,7 @@ pub extern "C" fn ergo_read_roll(roll: &[u8], answer: &mut [u8]) -> u32
     ensures { λ r. ⌜ now (answer .exit) ≡ rollBlock (now (roll .entry)) (now (answer .entry)) ⌝ }
     ensures { λ r. ⌜ RollTheorems (now (roll .entry)) ⌝ }
 {
-    rolls::host::roll(roll, answer)
+    rolls::host::answer_roll(roll, answer)
 }
 
 #[no_mangle]
@@ -38,5 +38,5 @@ pub extern "C" fn ergo_read_record(roll: &[u8], at: u32, previous: u32, answer: 
     ensures { λ r. ⌜ now (answer .exit) ≡ recordBlock (now (roll .entry)) at previous (now (answer .entry)) ⌝ }
     ensures { λ r. ⌜ RollTheorems (now (roll .entry)) ⌝ }
 {
-    rolls::host::record(roll, at, previous, answer)
+    rolls::host::answer_record(roll, at, previous, answer)
 }

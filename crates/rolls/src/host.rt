@@ -18,7 +18,7 @@ ghost use Rattle.rolls.specs.computed.Host.{rollNumber, rollBlock, recor
 ghost use Rattle.rolls.specs.Theorems.{RollTheorems};
 
 // 16 bytes: refusal, place, token count, bytes of the roll; unused ones 0. The last clause says what follows of every roll.
-pub fn roll(roll: &[u8], answer: &mut [u8]) -> u32
+pub fn answer_roll(roll: &[u8], answer: &mut [u8]) -> u32
     ensures { λ r. ⌜ r ≡ rollNumber (now (roll .entry)) (now (answer .entry)) ⌝ }
     ensures { λ r. ⌜ now (answer .exit) ≡ rollBlock (now (roll .entry)) (now (answer .entry)) ⌝ }
     ensures { λ r. ⌜ RollTheorems (now (roll .entry)) ⌝ }
@@ -70,7 +70,7 @@ fn put_stop(answer: &mut [u8], number: usize, place: usize)
 }
 
 // 40 bytes: refusal, place, kind, start, end, cut, 0, offset of the next record, and the values in 8 bytes.
-pub fn record(roll: &[u8], at: u32, previous: u32, answer: &mut [u8]) -> u32
+pub fn answer_record(roll: &[u8], at: u32, previous: u32, answer: &mut [u8]) -> u32
     ensures { λ r. ⌜ r ≡ recordNumber (now (roll .entry)) at previous (now (answer .entry)) ⌝ }
     ensures { λ r. ⌜ now (answer .exit) ≡ recordBlock (now (roll .entry)) at previous (now (answer .entry)) ⌝ }
     ensures { λ r. ⌜ RollTheorems (now (roll .entry)) ⌝ }

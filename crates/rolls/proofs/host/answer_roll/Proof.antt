@@ -4,8 +4,8 @@ use native.Mathlib.Omega.{arith}
 use borrow.Author.Needs.{needs}
 use Rattle.rolls.proofs.host.Laws.{roll-other, roll-refused, roll-tokens}
 use Rattle.rolls.proofs.theorems.Rolls.{roll-theorems}
-use Rattle.rolls.proofs.host.roll.Statement.{statement}
-use Rattle.rolls.proofs.host.roll.Tie as tie
+use Rattle.rolls.proofs.host.answer_roll.Statement.{statement}
+use Rattle.rolls.proofs.host.answer_roll.Tie as tie
 
 returns : tie.Need-returns
 returns c =
@@ -58,8 +58,8 @@ returns-3 c =
     let w = roll-tokens roll (args .answer .now) size _ _ total (c .before .before .put-block2 .ensures) in
     (w .0, (w .1, roll-theorems roll (λ i. omega (arith, bytes i))))
 
-pub roll-spec : {M : Type 1} → statement M
-roll-spec =
+pub answer-roll-spec : {M : Type 1} → statement M
+answer-roll-spec =
     tie.close
     (tie.spec
     returns

@@ -4,8 +4,8 @@ use native.Mathlib.Omega.{arith}
 use borrow.Author.Needs.{needs}
 use Rattle.rolls.proofs.host.Laws.{record-other, record-refused, record-token}
 use Rattle.rolls.proofs.theorems.Rolls.{roll-theorems}
-use Rattle.rolls.proofs.host.record.Statement.{statement}
-use Rattle.rolls.proofs.host.record.Tie as tie
+use Rattle.rolls.proofs.host.answer_record.Statement.{statement}
+use Rattle.rolls.proofs.host.answer_record.Tie as tie
 
 returns : tie.Need-returns
 returns c =
@@ -58,8 +58,8 @@ returns-3 c =
     let w = record-token roll (args .at) (args .previous) (args .answer .now) size _ _ _ _ _ _ found (c .before .before .put-token .ensures) in
     (w .0, (w .1, roll-theorems roll (λ i. omega (arith, bytes i))))
 
-pub record-spec : {M : Type 1} → statement M
-record-spec =
+pub answer-record-spec : {M : Type 1} → statement M
+answer-record-spec =
     tie.close
     (tie.spec
     returns
