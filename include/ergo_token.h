@@ -1,9 +1,10 @@
-/* ErgoScript tokens as records: the two functions of crates/ergo, for C and C++. `rt staticlib ergo` makes the library,
- * target/staticlib/libergo.a, for x86-64 Linux. It takes some 12 kB of stack, allocates nothing, and calls nothing but memcpy and memset,
- * which the compiler puts in; a host without a C library must have these two. It keeps nothing between calls: calls from several threads
- * at once are fine as long as no two of them lend the same bytes for writing.
+/* ErgoScript tokens as records: the four functions of crates/ergo, for C and C++. `rt staticlib ergo` makes the library,
+ * target/staticlib/libergo.a, for x86-64 Linux. Tokenizing takes some 12 kB of stack, reading stored records some hundred bytes. The library
+ * allocates nothing, and calls nothing but memcpy and memset, which the compiler puts in; a host without a C library must have these two. It
+ * keeps nothing between calls: calls from several threads at once are fine as long as no two of them lend the same bytes for writing.
  *
- * All places are byte offsets from 0 into the script. All numbers in records and answer block are unsigned and little-endian. */
+ * All places are byte offsets from 0: those of tokens and of refusals 1 to 18 into the script, those of refusals 22 to 24 into the roll. All
+ * numbers in records and answer blocks are unsigned and little-endian. */
 #ifndef ERGO_TOKEN_H
 #define ERGO_TOKEN_H
 
@@ -39,8 +40,68 @@ uint32_t ergo_tokenize(const uint8_t *script, size_t n, uint8_t *records, size_t
  * 0xBF. The start and end of every record are answered 0. */
 uint32_t ergo_token_text(const uint8_t *script, size_t n, uint32_t start, uint32_t end);
 
+/* Reads a stored roll, without its script: the n bytes at roll are to be the records of one script, as ergo_tokenize writes them. The answer
+ * is 0 where every record can be read and the roll ends with its only Eof; else it is 22, 23 or 24, whichever is met first from the roll's
+ * start on. The k bytes at answer are the answer block; k must be ERGO_ANSWER_BYTES. It gets four numbers of 4 bytes each:
+ *
+ *     at 0   the number that is handed back
+ *     at 4   the place of the refusal: the offset of the record, or as ergo_number says of 24
+ *     at 8   the token count, line ends and Eof included, for 0
+ *     at 12  the bytes of the roll, for 0
+ *
+ * and 0 where nothing is to be said. With any other k the answer is 20 and the block keeps its values. A roll may be longer than numbers of
+ * 4 bytes can say: the block then has place, count and bytes modulo 2^32. */
+uint32_t ergo_read_roll(const uint8_t *roll, size_t n, uint8_t *answer, size_t k);
+
+/* Reads one record of a roll: the one at the offset `at`, where the token before it ends at `previous`. The k bytes at answer are the answer
+ * block; k must be ERGO_RECORD_ANSWER_BYTES. It gets eight numbers of 4 bytes each and 8 bytes of values:
+ *
+ *     at ERGO_ANSWER_AT_NUMBER  the number that is handed back: 0, 22, 23 or 24
+ *     at ERGO_ANSWER_AT_PLACE   the place of the refusal
+ *     at ERGO_ANSWER_AT_KIND    kind
+ *     at ERGO_ANSWER_AT_START   start
+ *     at ERGO_ANSWER_AT_END     end, not included
+ *     at ERGO_ANSWER_AT_CUT     cut
+ *     at ERGO_ANSWER_AT_DEPTH   0: records hold no bracket depth
+ *     at ERGO_ANSWER_AT_NEXT    the offset of the next record
+ *     at ERGO_ANSWER_AT_VALUES  the values as the record has them from ERGO_RECORD_HEAD on, and zeros behind them
+ *
+ * On a refusal everything behind the place is 0. With any other k the answer is 20 and the block keeps its values.
+ *
+ * To read a roll, begin with 0 as `at` and 0 as `previous`; after each token go on with the offset of the next record and the token's end;
+ * stop at kind ERGO_EOF or at a refusal. That gives the tokens that ergo_read_roll counts, or its refusal. A host that steps sees tokens
+ * before a later refusal: call ergo_read_roll first, or discard these tokens on a refusal.
+ *
+ * With `at` at the roll's length or past it the answer is 24, at the roll's length: the roll ends without Eof. An Eof behind which bytes stand
+ * is not given: the answer is 24, at the first of these bytes. Place and next offset are modulo 2^32, so only rolls of less than 2^32 bytes can
+ * be read in steps.
+ *
+ * What ergo_tokenize asks of pointers and lengths, both readers ask: roll and block must be readable, the block also writable, for their
+ * lengths, and must not overlap. An empty roll may have any pointer, NULL included. */
+uint32_t ergo_read_record(const uint8_t *roll, size_t n, uint32_t at, uint32_t previous, uint8_t *answer, size_t k);
+
 #define ERGO_SCRIPT_LIMIT 16777216u /* bytes: a longer script is refused by 17 */
+
+/* The lengths of answer blocks. */
 #define ERGO_ANSWER_BYTES 16u
+#define ERGO_RECORD_ANSWER_BYTES 40u /* of ergo_read_record */
+
+/* What stands where in an answer block. In each: */
+#define ERGO_ANSWER_AT_NUMBER 0u
+#define ERGO_ANSWER_AT_PLACE 4u
+
+/* In a block of ERGO_ANSWER_BYTES: */
+#define ERGO_ANSWER_AT_COUNT 8u
+#define ERGO_ANSWER_AT_RECORD_BYTES 12u
+
+/* In a block of ERGO_RECORD_ANSWER_BYTES: */
+#define ERGO_ANSWER_AT_KIND 8u
+#define ERGO_ANSWER_AT_START 12u
+#define ERGO_ANSWER_AT_END 16u
+#define ERGO_ANSWER_AT_CUT 20u
+#define ERGO_ANSWER_AT_DEPTH 24u
+#define ERGO_ANSWER_AT_NEXT 28u
+#define ERGO_ANSWER_AT_VALUES 32u
 
 /* A record, of a head and its values:
  *
@@ -106,7 +167,8 @@ enum ergo_kind {
     ERGO_KW_AT = 45         /* @ */
 };
 
-/* The numbers handed back, each with the place that the block gives and what the script's author, or for 17 to 21 the host's, should do. */
+/* The numbers handed back, each with the place that the block gives and what to do: for 1 to 16 the script's author, for 17 to 21 the host's,
+ * for 22 to 24, which only ergo_read_roll and ergo_read_record give, whoever keeps the stored roll. */
 enum ergo_number {
     ERGO_ACCEPTED = 0,
     ERGO_LONE_CR = 1,            /* the CR: end lines by LF or CR LF; a CR alone may stand only in strings, comments and backticks */
@@ -128,8 +190,15 @@ enum ergo_number {
     ERGO_TOO_LONG = 17,          /* 0: the script has more than ERGO_SCRIPT_LIMIT bytes; hand over a shorter one */
     ERGO_NOT_UTF8 = 18,          /* the length of the longest valid prefix: hand the script over in UTF-8 */
     ERGO_SHORT_BUFFER = 19,      /* 0: lend as many bytes as the block says at 12 */
-    ERGO_ANSWER_BLOCK = 20,      /* none, and the block is unchanged: lend a block of ERGO_ANSWER_BYTES bytes */
-    ERGO_TOKEN_TEXT = 21         /* of ergo_token_text only: ask for a start and an end as they stand in a record of this script */
+    ERGO_ANSWER_BLOCK = 20,      /* none, and the block is unchanged: lend a block of ERGO_ANSWER_BYTES bytes, or for ergo_read_record of
+                                  * ERGO_RECORD_ANSWER_BYTES */
+    ERGO_TOKEN_TEXT = 21,        /* of ergo_token_text only: ask for a start and an end as they stand in a record of this script */
+    ERGO_SHORT_ROLL = 22,        /* the record: fewer bytes are left than it has. The roll was cut short: fetch it whole */
+    ERGO_UNKNOWN_RECORD = 23,    /* the record: no such kind, or a length that is not the kind's. This is no roll, or one of another version: tokenize
+                                  * the script again */
+    ERGO_DAMAGED_ROLL = 24       /* the record: a field is out of its range, or it starts before the one before it ends; or the first byte after Eof; or
+                                  * the roll's length, where no Eof came. The roll was damaged, cut short between two records, or joined with
+                                  * another: fetch it again and hand it over alone, or tokenize the script again */
 };
 
 #ifdef __cplusplus

@@ -1,9 +1,12 @@
-/* Tokenizes a file and prints its records, one per line: kind, start, end, cut and values; or `refused N at P`. hosts/build builds it. */
+/* Prints the tokens of a script, one per line: kind, start, end, cut and values; or `refused N at P`. With --records it writes the script's
+ * records to standard output instead: a roll. With --roll the file is such a roll, and its tokens are printed without the script. hosts/build
+ * builds it. */
 #include "ergo_token.h"
 
 #include <inttypes.h>
 #include <stdio.h>
 #include <stdlib.h>
+#include <string.h>
 
 static uint64_t number(const uint8_t *at, unsigned bytes)
 {
@@ -13,33 +16,45 @@ static uint64_t number(const uint8_t *at, unsigned bytes)
     return value;
 }
 
-/* Returns the whole file, or NULL if it is empty. A file that is too long is read up to one byte past the limit: enough to be refused. */
-static uint8_t *read_script(const char *path, size_t *n)
+static void fail(const char *what)
 {
-    FILE *file = fopen(path, "rb");
-    uint8_t *script = malloc(ERGO_SCRIPT_LIMIT + 1);
-    if (file == NULL || script == NULL) {
-        perror(path);
-        exit(2);
-    }
-    *n = fread(script, 1, ERGO_SCRIPT_LIMIT + 1, file);
-    if (ferror(file)) {
-        perror(path);
-        exit(2);
-    }
-    fclose(file);
-    if (*n == 0) {
-        free(script);
-        return NULL;
-    }
-    return script;
+    perror(what);
+    exit(2);
 }
 
-static void print_record(const uint8_t *record)
+/* Returns the first bytes of a file, at most so many, or NULL if it is empty. */
+static uint8_t *read_file(const char *path, size_t most, size_t *n)
 {
-    unsigned kind = (unsigned)number(record + ERGO_AT_KIND, 2);
-    const uint8_t *values = record + ERGO_RECORD_HEAD;
-    printf("%u %" PRIu64 " %" PRIu64 " %u", kind, number(record + ERGO_AT_START, 4), number(record + ERGO_AT_END, 4), record[ERGO_AT_CUT]);
+    FILE *file = fopen(path, "rb");
+    uint8_t *bytes = NULL;
+    size_t room = 0, got;
+    if (file == NULL)
+        fail(path);
+    *n = 0;
+    do {
+        if (*n == room) {
+            room = room == 0 ? 65536 : 2 * room;
+            room = room < most ? room : most;
+            bytes = realloc(bytes, room);
+            if (bytes == NULL)
+                fail(path);
+        }
+        got = fread(bytes + *n, 1, room - *n, file);
+        *n += got;
+    } while (got > 0 && *n < most);
+    if (ferror(file))
+        fail(path);
+    fclose(file);
+    if (*n == 0) {
+        free(bytes);
+        return NULL;
+    }
+    return bytes;
+}
+
+static void print_token(uint64_t kind, uint64_t start, uint64_t end, uint64_t cut, const uint8_t *values)
+{
+    printf("%" PRIu64 " %" PRIu64 " %" PRIu64 " %" PRIu64, kind, start, end, cut);
     if (kind == ERGO_INT_LIT)
         printf(" %" PRIu64, number(values, 4));
     if (kind == ERGO_LONG_LIT)
@@ -51,40 +66,45 @@ static void print_record(const uint8_t *record)
     putchar('\n');
 }
 
-int main(int argc, char **argv)
+static int refused(FILE *out, const uint8_t *answer)
+{
+    fprintf(out, "refused %" PRIu64 " at %" PRIu64 "\n", number(answer + ERGO_ANSWER_AT_NUMBER, 4), number(answer + ERGO_ANSWER_AT_PLACE, 4));
+    return 1;
+}
+
+/* Prints the tokens of a script, or writes its records. */
+static int show_script(const char *path, int as_records)
 {
     uint8_t answer[ERGO_ANSWER_BYTES];
     uint8_t *script, *records;
     size_t n, bytes, at;
     uint32_t refusal;
-    if (argc != 2) {
-        fprintf(stderr, "usage: %s FILE\n", argv[0]);
-        return 2;
-    }
-    script = read_script(argv[1], &n);
+
+    /* Of a script that is too long, one byte past the limit is enough to be refused. */
+    script = read_file(path, ERGO_SCRIPT_LIMIT + 1, &n);
 
     /* Measure first, with no buffer, then write into a buffer of exactly that length. */
     refusal = ergo_tokenize(script, n, NULL, 0, answer, sizeof answer);
     if (refusal != ERGO_SHORT_BUFFER) {
-        printf("refused %" PRIu32 " at %" PRIu64 "\n", refusal, number(answer + 4, 4));
         free(script);
-        return 1;
+        return refused(as_records ? stderr : stdout, answer); /* standard output is the roll, if there is one */
     }
-    bytes = (size_t)number(answer + 12, 4);
+    bytes = (size_t)number(answer + ERGO_ANSWER_AT_RECORD_BYTES, 4);
     records = malloc(bytes);
-    if (records == NULL) {
-        perror("records");
-        return 2;
-    }
+    if (records == NULL)
+        fail("records");
     refusal = ergo_tokenize(script, n, records, bytes, answer, sizeof answer);
     if (refusal != ERGO_ACCEPTED) {
         fprintf(stderr, "refused %" PRIu32 " after measuring\n", refusal);
         return 2;
     }
-    for (at = 0; at < bytes; at += (size_t)number(records + at + ERGO_AT_LENGTH, 2)) {
+    if (as_records && (fwrite(records, 1, bytes, stdout) != bytes || fflush(stdout) != 0))
+        fail("standard output");
+    for (at = 0; at < bytes && !as_records; at += (size_t)number(records + at + ERGO_AT_LENGTH, 2)) {
         const uint8_t *record = records + at;
-        print_record(record);
-        if (ergo_token_text(script, n, (uint32_t)number(record + ERGO_AT_START, 4), (uint32_t)number(record + ERGO_AT_END, 4)) != 0) {
+        uint64_t start = number(record + ERGO_AT_START, 4), end = number(record + ERGO_AT_END, 4);
+        print_token(number(record + ERGO_AT_KIND, 2), start, end, record[ERGO_AT_CUT], record + ERGO_RECORD_HEAD);
+        if (ergo_token_text(script, n, (uint32_t)start, (uint32_t)end) != 0) {
             fprintf(stderr, "a record without a text\n");
             return 2;
         }
@@ -92,4 +112,57 @@ int main(int argc, char **argv)
     free(records);
     free(script);
     return 0;
+}
+
+/* Prints the tokens of a roll. */
+static int show_roll(const char *path)
+{
+    uint8_t answer[ERGO_ANSWER_BYTES], token[ERGO_RECORD_ANSWER_BYTES];
+    uint8_t *roll;
+    size_t n;
+    uint64_t kind = 0, count, seen = 0;
+    uint32_t at = 0, previous = 0;
+
+    roll = read_file(path, (size_t)UINT32_MAX + 1, &n);
+    if (n > UINT32_MAX) {
+        fprintf(stderr, "%s: too long to be read in steps\n", path);
+        return 2;
+    }
+
+    /* Read the whole roll first, so that no token of a damaged one is printed. */
+    if (ergo_read_roll(roll, n, answer, sizeof answer) != ERGO_ACCEPTED) {
+        free(roll);
+        return refused(stdout, answer);
+    }
+    count = number(answer + ERGO_ANSWER_AT_COUNT, 4);
+    while (kind != ERGO_EOF) {
+        uint32_t refusal = ergo_read_record(roll, n, at, previous, token, sizeof token);
+        if (refusal != ERGO_ACCEPTED) {
+            fprintf(stderr, "refused %" PRIu32 " after the whole roll was read\n", refusal);
+            return 2;
+        }
+        kind = number(token + ERGO_ANSWER_AT_KIND, 4);
+        previous = (uint32_t)number(token + ERGO_ANSWER_AT_END, 4);
+        at = (uint32_t)number(token + ERGO_ANSWER_AT_NEXT, 4);
+        print_token(kind, number(token + ERGO_ANSWER_AT_START, 4), previous, number(token + ERGO_ANSWER_AT_CUT, 4), token + ERGO_ANSWER_AT_VALUES);
+        seen++;
+    }
+    free(roll);
+    if (seen != count || at != n) {
+        fprintf(stderr, "%" PRIu64 " tokens up to %" PRIu32 ", where %" PRIu64 " were counted\n", seen, at, count);
+        return 2;
+    }
+    return 0;
+}
+
+int main(int argc, char **argv)
+{
+    if (argc == 2)
+        return show_script(argv[1], 0);
+    if (argc == 3 && strcmp(argv[1], "--records") == 0)
+        return show_script(argv[2], 1);
+    if (argc == 3 && strcmp(argv[1], "--roll") == 0)
+        return show_roll(argv[2]);
+    fprintf(stderr, "usage: %s [--records | --roll] FILE\n", argv[0]);
+    return 2;
 }

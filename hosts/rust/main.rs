@@ -1,9 +1,15 @@
-// Tokenizes a file and prints its records, one per line: kind, start, end, cut and values; or `refused N at P`. hosts/build builds it.
+// Prints the tokens of a script, one per line: kind, start, end, cut and values; or `refused N at P`. With --records it writes the script's
+// records to standard output instead: a roll. With --roll the file is such a roll, and its tokens are printed without the script. hosts/build
+// builds it.
+use std::io::Write;
+
 mod ergo {
     #[link(name = "ergo", kind = "static")]
     extern "C" {
         fn ergo_tokenize(script: *const u8, n: usize, records: *mut u8, m: usize, answer: *mut u8, k: usize) -> u32;
         fn ergo_token_text(script: *const u8, n: usize, start: u32, end: u32) -> u32;
+        fn ergo_read_roll(roll: *const u8, n: usize, answer: *mut u8, k: usize) -> u32;
+        fn ergo_read_record(roll: *const u8, n: usize, at: u32, previous: u32, answer: *mut u8, k: usize) -> u32;
     }
 
     // A refusal, by its number and its place.
@@ -12,13 +18,17 @@ mod ergo {
         pub place: u32,
     }
 
+    // A number of an answer block.
+    fn word(answer: &[u8], at: usize) -> u32 {
+        u32::from_le_bytes(answer[at..at + 4].try_into().unwrap())
+    }
+
     // The number handed back, and the place and the record bytes of the answer block.
     fn call(script: &[u8], records: &mut [u8]) -> (u32, u32, u32) {
         let mut answer = [0u8; 16];
         let (r, a) = (records.as_mut_ptr(), answer.as_mut_ptr());
         let number = unsafe { ergo_tokenize(script.as_ptr(), script.len(), r, records.len(), a, answer.len()) };
-        let word = |at: usize| u32::from_le_bytes(answer[at..at + 4].try_into().unwrap());
-        (number, word(4), word(12))
+        (number, word(&answer, 4), word(&answer, 12))
     }
 
     // The records of a script: measured first, with no buffer, then written into a buffer of exactly that length.
@@ -43,6 +53,41 @@ mod ergo {
             None
         }
     }
+
+    // A token of a roll, with the offset of the next record.
+    pub struct Held {
+        pub kind: u32,
+        pub start: u32,
+        pub end: u32,
+        pub cut: u32,
+        pub next: u32,
+        pub values: [u8; 8],
+    }
+
+    // The token count of a roll, or why it can't be read.
+    pub fn read_roll(roll: &[u8]) -> Result<u32, Refused> {
+        let mut answer = [0u8; 16];
+        match unsafe { ergo_read_roll(roll.as_ptr(), roll.len(), answer.as_mut_ptr(), answer.len()) } {
+            0 => Ok(word(&answer, 8)),
+            number => Err(Refused { number, place: word(&answer, 4) }),
+        }
+    }
+
+    // The token of the record at an offset, where the one before it ends at `previous`.
+    pub fn read_record(roll: &[u8], at: u32, previous: u32) -> Result<Held, Refused> {
+        let mut answer = [0u8; 40];
+        match unsafe { ergo_read_record(roll.as_ptr(), roll.len(), at, previous, answer.as_mut_ptr(), answer.len()) } {
+            0 => Ok(Held {
+                kind: word(&answer, 8),
+                start: word(&answer, 12),
+                end: word(&answer, 16),
+                cut: word(&answer, 20),
+                next: word(&answer, 28),
+                values: answer[32..].try_into().unwrap(),
+            }),
+            number => Err(Refused { number, place: word(&answer, 4) }),
+        }
+    }
 }
 
 // The bytes of a record before its values.
@@ -52,11 +97,8 @@ fn number(bytes: &[u8]) -> u64 {
     bytes.iter().rev().fold(0, |value, &byte| value << 8 | byte as u64)
 }
 
-// The line of a record.
-fn line(record: &[u8]) -> String {
-    let kind = number(&record[2..4]);
-    let (start, end, cut) = (number(&record[4..8]), number(&record[8..12]), record[12]);
-    let values = &record[HEAD..];
+// The line of a token. Behind the values may stand zeros.
+fn line(kind: u32, start: u32, end: u32, cut: u32, values: &[u8]) -> String {
     match kind {
         4 | 5 | 17 => format!("{kind} {start} {end} {cut} {}", number(values)),
         6 => format!("{kind} {start} {end} {cut} {} {}", number(&values[..4]), number(&values[4..])),
@@ -64,22 +106,52 @@ fn line(record: &[u8]) -> String {
     }
 }
 
-fn main() {
-    let path = std::env::args_os().nth(1).expect("usage: main FILE");
-    let script = std::fs::read(path).expect("the file cannot be read");
-    let records = match ergo::tokenize(&script) {
-        Ok(records) => records,
-        Err(refused) => {
-            println!("refused {} at {}", refused.number, refused.place);
-            std::process::exit(1);
-        }
-    };
-    let mut rest = &records[..];
+fn show_script(script: &[u8], records: &[u8]) {
+    let mut rest = records;
     while !rest.is_empty() {
         let (record, others) = rest.split_at(number(&rest[..2]) as usize);
-        println!("{}", line(record));
-        let (start, end) = (number(&record[4..8]) as u32, number(&record[8..12]) as u32);
-        ergo::text(&script, start, end).expect("a record without a text");
+        let (kind, start, end) = (number(&record[2..4]) as u32, number(&record[4..8]) as u32, number(&record[8..12]) as u32);
+        println!("{}", line(kind, start, end, record[12] as u32, &record[HEAD..]));
+        ergo::text(script, start, end).expect("a record without a text");
         rest = others;
+    }
+}
+
+// Reads the whole roll first, so that no token of a damaged one is printed.
+fn show_roll(roll: &[u8]) -> Result<(), ergo::Refused> {
+    assert!(u32::try_from(roll.len()).is_ok(), "the roll is too long to be read in steps");
+    let count = ergo::read_roll(roll)?;
+    let (mut at, mut previous) = (0, 0);
+    for _ in 0..count {
+        let held = ergo::read_record(roll, at, previous)?;
+        println!("{}", line(held.kind, held.start, held.end, held.cut, &held.values));
+        (at, previous) = (held.next, held.end);
+    }
+    assert_eq!(at as usize, roll.len(), "the last record is not at the roll's end");
+    Ok(())
+}
+
+fn main() {
+    let arguments: Vec<_> = std::env::args_os().skip(1).collect();
+    let (option, path) = match &arguments[..] {
+        [path] => ("", path),
+        [option, path] if option == "--records" => ("--records", path),
+        [option, path] if option == "--roll" => ("--roll", path),
+        _ => panic!("usage: main [--records | --roll] FILE"),
+    };
+    let file = std::fs::read(path).expect("the file cannot be read");
+    let done = match option {
+        "--roll" => show_roll(&file),
+        "--records" => ergo::tokenize(&file).map(|records| std::io::stdout().write_all(&records).expect("nothing can be written")),
+        _ => ergo::tokenize(&file).map(|records| show_script(&file, &records)),
+    };
+    if let Err(refused) = done {
+        let line = format!("refused {} at {}", refused.number, refused.place);
+        if option == "--records" {
+            eprintln!("{line}"); // standard output is the roll, if there is one
+        } else {
+            println!("{line}");
+        }
+        std::process::exit(1);
     }
 }

@@ -7,6 +7,11 @@
 //!
 //! let refusal = ergo_token::tokenize(b"\"str").unwrap_err();
 //! assert_eq!((refusal.number, refusal.place), (7, 4));
+//!
+//! // Stored records are read back without the script.
+//! let roll = ergo_token::Roll::read(tokens.records()).expect("a refusal");
+//! let kinds: Vec<u16> = roll.iter().map(|record| record.kind.number()).collect();
+//! assert_eq!(kinds, [1, 43, 4, 18]);
 //! ```
 //!
 //! No function here panics, whatever the bytes. Memory aside (the records of a script of n bytes take at most [`record_bound`]`(n)` bytes),
@@ -15,9 +20,11 @@
 use std::fmt;
 
 mod refusal;
+mod roll;
 mod view;
 
 pub use refusal::Refusal;
+pub use roll::Roll;
 pub use view::view;
 
 /// A longer script is refused by 17.
@@ -51,6 +58,7 @@ mod sys {
     extern "C" {
         pub fn ergo_tokenize(script: *const u8, n: usize, records: *mut u8, m: usize, answer: *mut u8, k: usize) -> u32;
         pub fn ergo_token_text(script: *const u8, n: usize, start: u32, end: u32) -> u32;
+        pub fn ergo_read_roll(roll: *const u8, n: usize, answer: *mut u8, k: usize) -> u32;
     }
 }
 
@@ -63,14 +71,20 @@ pub struct Size {
     pub bytes: u32,
 }
 
+// The place and the size that an answer block has behind the number.
+fn answered(answer: [u8; 16]) -> (u32, Size) {
+    let [_, _, _, _, p0, p1, p2, p3, c0, c1, c2, c3, b0, b1, b2, b3] = answer;
+    let size = Size { count: u32::from_le_bytes([c0, c1, c2, c3]), bytes: u32::from_le_bytes([b0, b1, b2, b3]) };
+    (u32::from_le_bytes([p0, p1, p2, p3]), size)
+}
+
 // One call: the number handed back, the place, and the size.
 fn call(script: &[u8], records: &mut [u8]) -> (u32, u32, Size) {
     let mut answer = [0u8; 16];
     // SAFETY: the three slices are valid for their lengths, and the two that are lent for writing are borrowed for it, so none overlap.
     let number = unsafe { sys::ergo_tokenize(script.as_ptr(), script.len(), records.as_mut_ptr(), records.len(), answer.as_mut_ptr(), answer.len()) };
-    let [_, _, _, _, p0, p1, p2, p3, c0, c1, c2, c3, b0, b1, b2, b3] = answer;
-    let size = Size { count: u32::from_le_bytes([c0, c1, c2, c3]), bytes: u32::from_le_bytes([b0, b1, b2, b3]) };
-    (number, u32::from_le_bytes([p0, p1, p2, p3]), size)
+    let (place, size) = answered(answer);
+    (number, place, size)
 }
 
 /// Measures a script: the size of its records, or why it is refused. Nothing is written.
@@ -123,7 +137,7 @@ impl<'s> Tokens<'s> {
         self.count as usize
     }
 
-    /// The records, as the library wrote them.
+    /// The records, as the library wrote them: a roll that can be stored, and read back by [`Roll::read`].
     pub fn records(&self) -> &[u8] {
         &self.records
     }
@@ -135,7 +149,7 @@ impl<'s> Tokens<'s> {
 
     /// The tokens in the order of the script; the last is Eof.
     pub fn iter(&self) -> Iter<'s, '_> {
-        Iter { script: self.script, rest: &self.records }
+        Iter { script: self.script, records: Records { rest: &self.records } }
     }
 }
 
@@ -152,19 +166,58 @@ impl<'s, 't> IntoIterator for &'t Tokens<'s> {
 #[derive(Debug, Clone)]
 pub struct Iter<'s, 't> {
     script: &'s [u8],
-    rest: &'t [u8],
+    records: Records<'t>,
 }
 
 impl<'s> Iterator for Iter<'s, '_> {
     type Item = Token<'s>;
 
-    // A record that is none of the header's would end the walk: there are no such records, and nothing here may panic.
+    // A record without a text would end the walk, as one that is none of the header's would in `Records`.
     fn next(&mut self) -> Option<Token<'s>> {
-        let length = u16::from_le_bytes(bytes(self.rest, 0)?) as usize;
-        let record = self.rest.get(..length)?;
-        let token = Token::read(self.script, record)?;
-        self.rest = self.rest.get(length..)?;
+        let mut records = self.records.clone();
+        let token = Token::new(self.script, records.next()?)?;
+        self.records = records;
         Some(token)
+    }
+}
+
+/// What a record holds: a token without its text.
+#[derive(Debug, Clone, Copy, PartialEq, Eq, Hash)]
+pub struct Record {
+    pub kind: TokenKind,
+    pub start: u32,
+    pub end: u32,
+    /// As in [`Token`]; of a stored roll only that it is 0 or 1 is judged.
+    pub cut: bool,
+}
+
+impl Record {
+    fn read(record: &[u8]) -> Option<Record> {
+        Some(Record {
+            kind: TokenKind::read(record)?,
+            start: u32::from_le_bytes(bytes(record, 4)?),
+            end: u32::from_le_bytes(bytes(record, 8)?),
+            cut: *record.get(12)? == 1,
+        })
+    }
+}
+
+/// An iterator over records, those of a script or of a [`Roll`].
+#[derive(Debug, Clone)]
+pub struct Records<'r> {
+    rest: &'r [u8],
+}
+
+impl Iterator for Records<'_> {
+    type Item = Record;
+
+    // A record that is none of the header's would end the walk: the library has written these records or read them, so there are no such
+    // records, and nothing here may panic.
+    fn next(&mut self) -> Option<Record> {
+        let length = u16::from_le_bytes(bytes(self.rest, 0)?) as usize;
+        let record = Record::read(self.rest.get(..length)?)?;
+        self.rest = self.rest.get(length..)?;
+        Some(record)
     }
 }
 
@@ -186,11 +239,15 @@ pub struct Token<'s> {
 }
 
 impl<'s> Token<'s> {
-    fn read(script: &'s [u8], record: &[u8]) -> Option<Token<'s>> {
-        let start = u32::from_le_bytes(bytes(record, 4)?);
-        let end = u32::from_le_bytes(bytes(record, 8)?);
+    fn new(script: &'s [u8], record: Record) -> Option<Token<'s>> {
+        let Record { kind, start, end, cut } = record;
         let text = std::str::from_utf8(script.get(start as usize..end as usize)?).ok()?;
-        Some(Token { kind: TokenKind::read(record)?, start, end, cut: *record.get(12)? == 1, text })
+        Some(Token { kind, start, end, cut, text })
+    }
+
+    /// What the token's record holds: all but its text.
+    pub fn record(&self) -> Record {
+        Record { kind: self.kind, start: self.start, end: self.end, cut: self.cut }
     }
 
     /// The content of a string, without its quotes. Escapes are checked, not decoded. Nothing for other kinds.

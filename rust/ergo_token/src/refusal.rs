@@ -1,13 +1,14 @@
 use std::error::Error;
 use std::fmt;
 
-/// Why a script is refused, and where.
+/// Why a script or a stored roll is refused, and where.
 #[derive(Debug, Clone, Copy, PartialEq, Eq, Hash)]
 pub struct Refusal {
     /// 1 to 16: the script is no sequence of tokens. 17: it is too long. 18: it is not UTF-8. 19, of [`write`](crate::write) only: too few bytes
-    /// were lent. 21: of [`token_text`](crate::token_text) only. (20, a wrong answer block, does not occur here.)
+    /// were lent. 21: of [`token_text`](crate::token_text) only. 22 to 24, of [`Roll::read`](crate::Roll::read) only: the stored roll can't be
+    /// read. (20, a wrong answer block, does not occur here.)
     pub number: u32,
-    /// A byte offset from 0; 0 where the header names none.
+    /// A byte offset from 0 into the script, or for 22 to 24 into the roll, modulo 2^32; 0 where the header names none.
     pub place: u32,
 }
 
@@ -17,7 +18,7 @@ impl Refusal {
         self.words().0
     }
 
-    /// What the author of the script should do; for 19 to 21, the author of the host.
+    /// What the author of the script should do; for 19 to 21, the author of the host; for 22 to 24, whoever keeps the stored roll.
     pub fn advice(&self) -> &'static str {
         self.words().1
     }
@@ -52,6 +53,17 @@ impl Refusal {
             21 => {
                 ("this start and this end do not enclose a text of the script", "ask for a start and an end as they stand in a record of this script")
             }
+            22 => ("the roll ends inside the record that starts here", "the roll was cut short: fetch it whole"),
+            23 => (
+                "no record has the kind and the length of the one that starts here",
+                "these bytes are no roll of this tokenizer, or one of another version: tokenize the script again",
+            ),
+            24 => (
+                "the record that starts here has a field out of range or a token that overlaps the one before it, or bytes stand here after Eof, or \
+                 the roll ends here without Eof",
+                "the roll was damaged, cut short between two records, or joined with another: fetch it again and hand it over alone, or tokenize the \
+                 script again",
+            ),
             _ => ("the library's header knows no such refusal", "link the libergo.a that this wrapper was written for"),
         }
     }

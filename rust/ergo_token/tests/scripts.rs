@@ -211,10 +211,10 @@ fn every_kind() {
 #[test]
 fn every_number_has_words() {
     let of = |number| Refusal { number, place: 3 };
-    let unknown = of(22).meaning();
-    for number in 1..=21 {
-        assert_ne!(of(number).meaning(), unknown);
-        assert_ne!(of(number).advice(), of(22).advice());
+    let unknown = of(25);
+    for number in 1..=24 {
+        assert_ne!(of(number).meaning(), unknown.meaning());
+        assert_ne!(of(number).advice(), unknown.advice());
         for other in 1..number {
             assert_ne!(of(number).meaning(), of(other).meaning());
         }
