@@ -1,5 +1,5 @@
 /* ErgoScript tokens as records: the four functions of crates/ergo, for C and C++. `rt staticlib ergo` makes the library,
- * target/staticlib/libergo.a, for x86-64 Linux. Tokenizing takes some 12 kB of stack, reading stored records some hundred bytes. The library
+ * target/staticlib/libergo.a, for x86-64 Linux. Tokenizing takes some 12 kB of stack, reading stored records less than 200 bytes. The library
  * allocates nothing, and calls nothing but memcpy and memset, which the compiler puts in; a host without a C library must have these two. It
  * keeps nothing between calls: calls from several threads at once are fine as long as no two of them lend the same bytes for writing.
  *
@@ -54,19 +54,19 @@ uint32_t ergo_token_text(const uint8_t *script, size_t n, uint32_t start, uint32
 uint32_t ergo_read_roll(const uint8_t *roll, size_t n, uint8_t *answer, size_t k);
 
 /* Reads one record of a roll: the one at the offset `at`, where the token before it ends at `previous`. The k bytes at answer are the answer
- * block; k must be ERGO_RECORD_ANSWER_BYTES. It gets eight numbers of 4 bytes each and 8 bytes of values:
+ * block; k must be ERGO_STEP_BYTES. It gets eight numbers of 4 bytes each and 8 bytes of values:
  *
  *     at ERGO_ANSWER_AT_NUMBER  the number that is handed back: 0, 22, 23 or 24
  *     at ERGO_ANSWER_AT_PLACE   the place of the refusal
- *     at ERGO_ANSWER_AT_KIND    kind
- *     at ERGO_ANSWER_AT_START   start
- *     at ERGO_ANSWER_AT_END     end, not included
- *     at ERGO_ANSWER_AT_CUT     cut
- *     at ERGO_ANSWER_AT_DEPTH   0: records hold no bracket depth
- *     at ERGO_ANSWER_AT_NEXT    the offset of the next record
- *     at ERGO_ANSWER_AT_VALUES  the values as the record has them from ERGO_RECORD_HEAD on, and zeros behind them
+ *     at ERGO_STEP_AT_KIND      kind
+ *     at ERGO_STEP_AT_START     start
+ *     at ERGO_STEP_AT_END       end, not included
+ *     at ERGO_STEP_AT_CUT       cut
+ *     at ERGO_STEP_AT_DEPTH     0: records hold no bracket depth
+ *     at ERGO_STEP_AT_NEXT      the offset of the next record
+ *     at ERGO_STEP_AT_VALUES    the values as the record has them from ERGO_RECORD_HEAD on, and zeros behind them
  *
- * On a refusal everything behind the place is 0. With any other k the answer is 20 and the block keeps its values.
+ * On a refusal everything behind the place is 0, the offset of the next record too: whoever steps tests the number. With any other k the answer is 20 and the block keeps its values.
  *
  * To read a roll, begin with 0 as `at` and 0 as `previous`; after each token go on with the offset of the next record and the token's end;
  * stop at kind ERGO_EOF or at a refusal. That gives the tokens that ergo_read_roll counts, or its refusal. A host that steps sees tokens
@@ -84,7 +84,7 @@ uint32_t ergo_read_record(const uint8_t *roll, size_t n, uint32_t at, uint32_t p
 
 /* The lengths of answer blocks. */
 #define ERGO_ANSWER_BYTES 16u
-#define ERGO_RECORD_ANSWER_BYTES 40u /* of ergo_read_record */
+#define ERGO_STEP_BYTES 40u /* of ergo_read_record */
 
 /* What stands where in an answer block. In each: */
 #define ERGO_ANSWER_AT_NUMBER 0u
@@ -94,14 +94,14 @@ uint32_t ergo_read_record(const uint8_t *roll, size_t n, uint32_t at, uint32_t p
 #define ERGO_ANSWER_AT_COUNT 8u
 #define ERGO_ANSWER_AT_RECORD_BYTES 12u
 
-/* In a block of ERGO_RECORD_ANSWER_BYTES: */
-#define ERGO_ANSWER_AT_KIND 8u
-#define ERGO_ANSWER_AT_START 12u
-#define ERGO_ANSWER_AT_END 16u
-#define ERGO_ANSWER_AT_CUT 20u
-#define ERGO_ANSWER_AT_DEPTH 24u
-#define ERGO_ANSWER_AT_NEXT 28u
-#define ERGO_ANSWER_AT_VALUES 32u
+/* In a block of ERGO_STEP_BYTES: */
+#define ERGO_STEP_AT_KIND 8u
+#define ERGO_STEP_AT_START 12u
+#define ERGO_STEP_AT_END 16u
+#define ERGO_STEP_AT_CUT 20u
+#define ERGO_STEP_AT_DEPTH 24u
+#define ERGO_STEP_AT_NEXT 28u
+#define ERGO_STEP_AT_VALUES 32u
 
 /* A record, of a head and its values:
  *
@@ -191,9 +191,9 @@ enum ergo_number {
     ERGO_NOT_UTF8 = 18,          /* the length of the longest valid prefix: hand the script over in UTF-8 */
     ERGO_SHORT_BUFFER = 19,      /* 0: lend as many bytes as the block says at 12 */
     ERGO_ANSWER_BLOCK = 20,      /* none, and the block is unchanged: lend a block of ERGO_ANSWER_BYTES bytes, or for ergo_read_record of
-                                  * ERGO_RECORD_ANSWER_BYTES */
+                                  * ERGO_STEP_BYTES */
     ERGO_TOKEN_TEXT = 21,        /* of ergo_token_text only: ask for a start and an end as they stand in a record of this script */
-    ERGO_SHORT_ROLL = 22,        /* the record: fewer bytes are left than it has. The roll was cut short: fetch it whole */
+    ERGO_SHORT_ROLL = 22,        /* the record: fewer bytes are left than it has. The roll was cut short, or its length damaged: fetch it again */
     ERGO_UNKNOWN_RECORD = 23,    /* the record: no such kind, or a length that is not the kind's. This is no roll, or one of another version: tokenize
                                   * the script again */
     ERGO_DAMAGED_ROLL = 24       /* the record: a field is out of its range, or it starts before the one before it ends; or the first byte after Eof; or

@@ -117,7 +117,7 @@ static int show_script(const char *path, int as_records)
 /* Prints the tokens of a roll. */
 static int show_roll(const char *path)
 {
-    uint8_t answer[ERGO_ANSWER_BYTES], token[ERGO_RECORD_ANSWER_BYTES];
+    uint8_t answer[ERGO_ANSWER_BYTES], token[ERGO_STEP_BYTES];
     uint8_t *roll;
     size_t n;
     uint64_t kind = 0, count, seen = 0;
@@ -141,10 +141,10 @@ static int show_roll(const char *path)
             fprintf(stderr, "refused %" PRIu32 " after the whole roll was read\n", refusal);
             return 2;
         }
-        kind = number(token + ERGO_ANSWER_AT_KIND, 4);
-        previous = (uint32_t)number(token + ERGO_ANSWER_AT_END, 4);
-        at = (uint32_t)number(token + ERGO_ANSWER_AT_NEXT, 4);
-        print_token(kind, number(token + ERGO_ANSWER_AT_START, 4), previous, number(token + ERGO_ANSWER_AT_CUT, 4), token + ERGO_ANSWER_AT_VALUES);
+        kind = number(token + ERGO_STEP_AT_KIND, 4);
+        previous = (uint32_t)number(token + ERGO_STEP_AT_END, 4);
+        at = (uint32_t)number(token + ERGO_STEP_AT_NEXT, 4);
+        print_token(kind, number(token + ERGO_STEP_AT_START, 4), previous, number(token + ERGO_STEP_AT_CUT, 4), token + ERGO_STEP_AT_VALUES);
         seen++;
     }
     free(roll);

@@ -53,7 +53,7 @@ impl Refusal {
             21 => {
                 ("this start and this end do not enclose a text of the script", "ask for a start and an end as they stand in a record of this script")
             }
-            22 => ("the roll ends inside the record that starts here", "the roll was cut short: fetch it whole"),
+            22 => ("the roll ends inside the record that starts here", "the roll was cut short, or a length in it damaged: fetch it again"),
             23 => (
                 "no record has the kind and the length of the one that starts here",
                 "these bytes are no roll of this tokenizer, or one of another version: tokenize the script again",
