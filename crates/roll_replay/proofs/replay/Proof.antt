@@ -1,0 +1,70 @@
+-- `roll_replay::replay` meets its contract: what it has counted is that of the cases passed. Each case starts behind the one before it.
+-- Assumes nothing.
+use Prim.Native.Nat.{_-_}
+use lib.ListN.{length}
+use native.Mathlib.Omega.{arith}
+use borrow.Author.Needs.{needs}
+use borrow.Author.Tests.{not-true, not-false}
+use Rattle.roll_replay.proofs.Laws.{Turn, turn-start, turn-differ, turn-agree, turn-end}
+use Rattle.roll_replay.proofs.replay.Statement.{statement}
+use Rattle.roll_replay.proofs.replay.Tie as tie
+
+abbrev Inv-loop : tie.InvT-loop
+Inv-loop list at₀ rolls₀ differ₀ at rolls differ = Turn list at rolls differ
+
+abbrev μ-loop : tie.MeasureT-loop
+μ-loop list at₀ rolls₀ differ₀ at rolls differ = length list - at
+
+loop-holds : tie.Need-loop-holds Inv-loop μ-loop
+loop-holds c = turn-start _
+
+replay-case-requires : tie.Need-replay-case-requires Inv-loop μ-loop
+replay-case-requires c κs = search needs
+
+add-rolls : tie.Need-add-rolls Inv-loop μ-loop
+add-rolls c = omega arith
+
+add-differ : tie.Need-add-differ Inv-loop μ-loop
+add-differ c = omega arith
+
+loop-less : tie.Need-loop-less Inv-loop μ-loop
+loop-less c = omega arith
+
+loop-again : tie.Need-loop-again Inv-loop μ-loop
+loop-again c =
+    let call = c .before .before in
+    let one = call .replay-case .ensures in
+    let test = call .before in
+    turn-differ (test .before .loop .inv) (test .loop-test .taken) (one .0) (one .1 .0 .0) (one .1 .0 .1) (one .1 .1) (not-true _ (c .if1 .taken))
+
+loop-less-2 : tie.Need-loop-less-2 Inv-loop μ-loop
+loop-less-2 c = omega arith
+
+loop-again-2 : tie.Need-loop-again-2 Inv-loop μ-loop
+loop-again-2 c =
+    let call = c .before .before in
+    let one = call .replay-case .ensures in
+    let test = call .before in
+    turn-agree (test .before .loop .inv) (test .loop-test .taken) (one .0) (one .1 .0 .0) (one .1 .0 .1) (one .1 .1) (not-false _ (c .if1 .left))
+
+returns : tie.Need-returns Inv-loop μ-loop
+returns c =
+    let inv = c .before .loop .inv in
+    let end = turn-end inv (c .loop-test .left) in
+    (end .0, (inv .differs, end .1))
+
+pub replay-spec : {M : Type 1} → statement M
+replay-spec =
+    tie.close
+    (tie.spec
+    Inv-loop
+    μ-loop
+    loop-holds
+    replay-case-requires
+    add-rolls
+    add-differ
+    loop-less
+    loop-again
+    loop-less-2
+    loop-again-2
+    returns)
