@@ -135,7 +135,7 @@ module _ (roll : List ℕ) (at previous : ℕ) (t : Token) (next : ℕ) (y : ste
   yields-room = go (ltb (length roll - at) (heldAt roll at .length)) refl
     where
       go : (b : Bool) → ltb (length roll - at) (heldAt roll at .length) ≡ b → heldAt roll at .length ≤ length roll - at
-      go true e = absurd (no-stop (sym (step-short roll at previous (heldAt roll at) refl yields-inside yields-four (ltb-true _ _ e)) ∙ y))
+      go true e = absurd (no-stop (sym (step-short roll at previous (heldAt roll at) refl yields-inside (ltb-true _ _ e)) ∙ y))
       go false e = ltb-false _ _ e
 
   -- a kind has the number and the length

@@ -24,7 +24,7 @@ use Rattle.rolls.specs.computed.Roll.{badValues, isWrong, stepHeld, step
 use Rattle.rolls.proofs.theorems.Kinds.{known-least, is-known, Fit, lower, upper}
 use Rattle.rolls.proofs.theorems.Values.{heldOf, token-held}
 use Rattle.rolls.proofs.theorems.Eofs.{number-eof, other-kind}
-use Rattle.rolls.proofs.theorems.Steps.{held-yields, step-known}
+use Rattle.rolls.proofs.theorems.Steps.{held-yields, whole-known}
 use Rattle.rolls.proofs.theorems.Reading.{read-last, read-more}
 open RecordForm record-form using (held-on)
 
@@ -137,7 +137,7 @@ module _ (n : ℕ) (short : n ≤ mostBytes) (roll : List ℕ) where
           let k = of-kind (t .kind) in
           let least = known-least k in
           let left = left-is in
-          step-known roll at previous (omega arith) (omega arith) (rw (number, size) (is-known k))
+          whole-known roll at previous (omega arith) (omega arith) (rw (number, size) (is-known k))
           ∙ ap (λ x. stepHeld x at (length roll - at) previous) held-there
           ∙ held-yields (heldOf t) at (length roll - at) previous right (λ e. let z = ap length (f (number-eof (t .kind) e)) in omega arith)
           ∙ ap (λ x. yielded x (at + recordLength (t .kind))) (token-held t fit)
