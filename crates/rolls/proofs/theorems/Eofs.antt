@@ -45,7 +45,7 @@ other-kind k h = go (isEof k) refl
     go false e = refl
 
 -- and the one that has its number
-eof-number : (k : TokenKind) → isEof k ≡ eqb (kindNumber k) 18
+pub eof-number : (k : TokenKind) → isEof k ≡ eqb (kindNumber k) 18
 eof-number tk.Ident = refl
 eof-number tk.OpId = refl
 eof-number tk.BacktickId = refl
