@@ -3,12 +3,12 @@ use mathlib.Core.Path.{_≡_, refl, sym, _∙_, ap}
 use mathlib.Core.Bool.{Bool, true, false}
 use lib.Dec.{eqb}
 use borrow.Author.Tests.{eq-eqb}
+use Rattle.chars.proofs.Bools.{clash}
 use Rattle.token.specs.paper.Kinds.{kindNumber}
 use Rattle.token.specs.declared.kinds.Kw.the-variants as kw
 use Rattle.token.specs.declared.kinds.TokenKind.{TokenKind}
 use Rattle.token.specs.declared.kinds.TokenKind.the-variants as tk
 use Rattle.rolls.specs.computed.Roll.{isEof}
-use Rattle.rolls.proofs.theorems.Rules.{clash}
 
 -- Eof is the one kind that passes the test
 pub is-eof : (k : TokenKind) → isEof k ≡ true → k ≡ tk.Eof

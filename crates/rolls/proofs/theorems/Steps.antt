@@ -1,13 +1,14 @@
 -- One record, computed, is what is declared of it: field `steps` of specs/Theorems.RollTheorems.
 use Prim.Native.Nat.{ℕ, _+_, _-_, _≤_, _<_}
 use mathlib.Core.Path.{_≡_, refl, sym, _∙_, ap}
-use mathlib.Core.Bool.{Bool, true, false, cond, _&&_, or-true}
+use mathlib.Core.Bool.{Bool, true, false, _&&_}
 use mathlib.Core.Logic.{_⊎_, inl, inr, ⊎-elim, _↔_}
 use mathlib.Core.List.{List}
 use lib.ListN.{length}
 use lib.Dec.{eqb, leb, ltb}
 use native.Mathlib.Omega.{arith}
-use borrow.Author.Tests.{eqb-true, eq-eqb, ltb-true, ltb-false, lt-ltb, le-ltb, leb-true, leb-false, le-leb, lt-leb}
+use borrow.Author.Tests.{eqb-true, ltb-true, ltb-false, lt-ltb, le-ltb, leb-true, leb-false}
+use Rattle.chars.proofs.Bools.{clash}
 use Rattle.words.specs.Joins.{Bytes}
 use Rattle.words.specs.Words.{oneAt}
 use Rattle.token.specs.paper.Kinds.{kindNumber, Token}
@@ -21,7 +22,7 @@ use Rattle.rolls.specs.code.Record.{moreAfter}
 use Rattle.rolls.proofs.record.Laws.{held-wrong, held-more, held-token, step-end, step-few, step-short, step-unknown, step-known}
 use Rattle.rolls.proofs.theorems.Kinds.{is-known, known-kind}
 use Rattle.rolls.proofs.theorems.Values.{token-at, token-is}
-use Rattle.rolls.proofs.theorems.Rules.{clash, wrong-is, is-wrong}
+use Rattle.rolls.proofs.theorems.Rules.{wrong-is, is-wrong}
 use Rattle.rolls.proofs.theorems.Eofs.{is-eof, not-eof, number-eof}
 
 -- ---- what is declared of one record, as the branches of `record/Laws` have it
