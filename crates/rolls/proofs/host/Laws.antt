@@ -13,6 +13,7 @@ use denote.Enum.Declared.{row}
 use denote.Enum.Laws.{owed, vals}
 use Rattle.words.specs.Words.{le2, le4, le8, blockOf}
 use Rattle.words.proofs.Stores.{after, whole, length-four, block-parts, length-block}
+use Rattle.words.proofs.Joins.{eights}
 use Rattle.token.specs.paper.Kinds.{Token, kindNumber}
 use Rattle.token.specs.paper.Records.{bit, valuesOf, values, recordLength, fieldsOf, headOf, recordOf}
 use Rattle.token.specs.code.Form.{joined, formOf, byForm}
@@ -48,10 +49,6 @@ put-four-numbers l m n o p w a b c d p1 p2 p3 p4 =
     ∙ after (le4 a) (le4 b ++ (le4 c ++ le4 d)) l m w (w + 4) p1 (omega arith)
     ∙ ap (sets l w) (block-parts a b c d)
 
-length-eight : (x : ℕ) → length (le8 x) ≡ 8
-unfolding le8 le4
-length-eight x = refl
-
 -- two blocks of 16 bytes and a number of eight cover 40 bytes
 put-forty : (l m n o : List ℕ) (a b c d e f g h x : ℕ) → length l ≡ 40 → m ≡ sets l 0 (blockOf a b c d) → n ≡ sets m 16 (blockOf e f g h)
     → o ≡ sets n 32 (le8 x) → o ≡ blockOf a b c d ++ (blockOf e f g h ++ le8 x)
@@ -60,7 +57,7 @@ put-forty l m n o a b c d e f g h x k p q r =
     let second = blockOf e f g h in
     let n1 = length-block a b c d in
     let n2 = length-block e f g h in
-    let n3 = length-eight x in
+    let n3 = eights .size x in
     let size : length (first ++ (second ++ le8 x)) ≡ 40 = simp (length-append, n1, n2, n3) in
     r
     ∙ after second (le8 x) m n 16 32 q (omega arith)

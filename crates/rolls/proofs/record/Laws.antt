@@ -61,8 +61,11 @@ module _ (n : ℕ) (h : Missed (17 ∷ 6 ∷ 5 ∷ 4 ∷ []) n) where
   pub none-between : 18 < n → n < 32 → 0 ≡ lengthFor n
   none-between a b = sym (other-length ∙ simp (le-leb 1 n (omega arith), lt-leb n 18 a, lt-leb 32 n b))
 
-  pub none-above : 45 < n → 0 ≡ lengthFor n
-  none-above a = sym (other-length ∙ simp (le-leb 1 n (omega arith), lt-leb n 18 (omega arith), le-leb 32 n (omega arith), lt-leb n 45 a))
+-- nor one past the keywords'
+pub none-above : (n : ℕ) → 45 < n → 0 ≡ lengthFor n
+none-above n a =
+    let h : Missed (17 ∷ 6 ∷ 5 ∷ 4 ∷ []) n = ((((tt, λ e. omega arith), λ e. omega arith), λ e. omega arith), λ e. omega arith) in
+    sym (other-length n h ∙ simp (le-leb 1 n (omega arith), lt-leb n 18 (omega arith), le-leb 32 n (omega arith), lt-leb n 45 a))
 
 -- ---- one step, branch by branch
 

@@ -6,7 +6,7 @@ use mathlib.Core.List.{List, [], _∷_}
 use lib.Dec.{eqb, leb}
 use native.Mathlib.Nat.{mod-eq-of-lt}
 use native.Mathlib.Omega.{arith}
-use borrow.Author.Tests.{eqb-true, eqb-false, eq-eqb, ne-eqb, not-true, leb-true, leb-false, le-leb, lt-leb}
+use borrow.Author.Tests.{eqb-true, eqb-false, eq-eqb, ne-eqb, not-true, leb-true, leb-false}
 use Rattle.chars.specs.promises.Codes.{every, span}
 use Rattle.chars.proofs.Carry.{carry-span}
 use Rattle.words.specs.Words.{le4, le8}
@@ -18,6 +18,7 @@ use Rattle.token.specs.declared.kinds.TokenKind.{TokenKind}
 use Rattle.token.specs.declared.kinds.TokenKind.the-variants as tk
 use Rattle.rolls.specs.paper.Roll.{KindLength, of-kind}
 use Rattle.rolls.specs.computed.Roll.{lengthFor, isKnown, keywordFor, kindFor, isEof}
+use Rattle.rolls.proofs.record.Laws.{none-above}
 
 -- ---- what a kind carries
 
@@ -105,21 +106,6 @@ all-kinds : every hasKind (span 0 46) ≡ true
 unfolding lengthFor kindFor keywordFor recordLength values le4 le8
 all-kinds = refl
 
--- from 46 on no number has a length
-no-more : (n : ℕ) → 46 ≤ n → lengthFor n ≡ 0
-unfolding lengthFor
-no-more n h =
-    rw (
-      ne-eqb n 4 (λ e. omega arith),
-      ne-eqb n 5 (λ e. omega arith),
-      ne-eqb n 6 (λ e. omega arith),
-      ne-eqb n 17 (λ e. omega arith),
-      le-leb 1 n (omega arith),
-      lt-leb n 18 (omega arith),
-      le-leb 32 n (omega arith),
-      lt-leb n 45 (omega arith),
-    )
-
 -- a number with a length is a kind's, and the length is that kind's
 pub length-kind : (n : ℕ) → (lengthFor n ≡ 0 → ⊥) → KindLength n (lengthFor n)
 length-kind n h = below (leb 46 n) refl
@@ -132,7 +118,7 @@ length-kind n h = below (leb 46 n) refl
         rw (eqb-true (kindNumber (kindFor n 0)) n (p .0), eqb-true (recordLength (kindFor n 0)) (lengthFor n) (p .1)) at (of-kind (kindFor n 0))
 
     below : (b : Bool) → leb 46 n ≡ b → KindLength n (lengthFor n)
-    below true e = absurd (h (no-more n (leb-true 46 n e)))
+    below true e = absurd (h (sym (none-above n (leb-true 46 n e))))
     below false e = named (eqb (lengthFor n) 0) refl (carry-span hasKind 0 46 n all-kinds (omega arith) (leb-false 46 n e))
 
 -- a kind with its length passes the test

@@ -44,7 +44,10 @@ module _ (roll : List ℕ) (at previous : ℕ) where
   -- bytes are left, but too few
   short-step : Short roll at → stepAt roll at previous ≡ stopped 22 at
   unfolding heldAt
-  short-step s = let l = s .left in ⊎-elim (λ f. step-few roll at previous (heldAt roll at) refl l (omega arith)) (λ f. step-short roll at previous (heldAt roll at) refl l (omega arith)) (s .fewer)
+  short-step s =
+      let l = s .left in
+      let h = heldAt roll at in
+      ⊎-elim (λ f. step-few roll at previous h refl l (omega arith)) (λ f. step-short roll at previous h refl l (omega arith)) (s .fewer)
 
   -- no record that is short
   whole : at < length roll → (Short roll at → ⊥) → (at + 4 ≤ length roll) × (at + lengthAt roll at ≤ length roll)
@@ -66,13 +69,14 @@ module _ (roll : List ℕ) (at previous : ℕ) where
 
 -- ---- what is declared is computed
 
+-- a test that does not pass fails
+fails : (p : Bool) → (p ≡ true → ⊥) → p ≡ false
+fails true h = absurd (h refl)
+fails false h = refl
+
 -- no kind has this number and length: the test fails
 kind-unknown : (n size : ℕ) → (KindLength n size → ⊥) → isKnown n size ≡ false
-kind-unknown n size u = go (isKnown n size) refl
-  where
-    go : (b : Bool) → isKnown n size ≡ b → b ≡ false
-    go true e = absurd (u (known-kind n size e))
-    go false e = refl
+kind-unknown n size u = fails (isKnown n size) (λ e. u (known-kind n size e))
 
 -- the test decides, so that a kind is not only not impossible
 kind-known : (n size : ℕ) → ((KindLength n size → ⊥) → ⊥) → KindLength n size
@@ -85,11 +89,7 @@ kind-known n size u = go (isKnown n size) refl
 module _ (roll : List ℕ) (b : Bytes roll) (at previous : ℕ) where
   -- no rule is broken: the test fails
   not-wrong : KindLength (kindAt roll at) (lengthAt roll at) → (Wrong roll at previous → ⊥) → isWrong (heldAt roll at) previous ≡ false
-  not-wrong k r = go (isWrong (heldAt roll at) previous) refl
-    where
-      go : (t : Bool) → isWrong (heldAt roll at) previous ≡ t → t ≡ false
-      go true e = absurd (r (is-wrong roll b at k previous e))
-      go false e = refl
+  not-wrong k r = fails (isWrong (heldAt roll at) previous) (λ e. r (is-wrong roll b at k previous e))
 
   module _ (t : Token) (s : Sound roll at previous t) where
     -- a sound record is whole and known
