@@ -13,6 +13,7 @@ use denote.Enum.Declared.{row}
 use denote.Enum.Laws.{owed, vals}
 use Rattle.words.specs.Words.{le2, le4, le8, blockOf}
 use Rattle.words.proofs.Stores.{after, whole, length-four, block-parts, length-block}
+use Rattle.words.proofs.Joins.{eights}
 use Rattle.token.specs.paper.Kinds.{Token, kindNumber}
 use Rattle.token.specs.paper.Records.{bit, valuesOf, values, recordLength, fieldsOf, headOf, recordOf}
 use Rattle.token.specs.code.Form.{joined, formOf, byForm}
@@ -31,6 +32,7 @@ use Rattle.rolls.specs.declared.record.Roll.{Roll}
 use Rattle.rolls.specs.declared.record.Yield.the-variants as yield
 use Rattle.rolls.specs.declared.roll.Total.the-variants as total
 use Rattle.rolls.proofs.record.Laws.{was-stopped, was-token}
+use Rattle.rolls.proofs.theorems.Kinds.{Carries, int, long, content, mark, nothing, carries}
 
 -- ---- stores
 
@@ -47,10 +49,6 @@ put-four-numbers l m n o p w a b c d p1 p2 p3 p4 =
     ∙ after (le4 a) (le4 b ++ (le4 c ++ le4 d)) l m w (w + 4) p1 (omega arith)
     ∙ ap (sets l w) (block-parts a b c d)
 
-length-eight : (x : ℕ) → length (le8 x) ≡ 8
-unfolding le8 le4
-length-eight x = refl
-
 -- two blocks of 16 bytes and a number of eight cover 40 bytes
 put-forty : (l m n o : List ℕ) (a b c d e f g h x : ℕ) → length l ≡ 40 → m ≡ sets l 0 (blockOf a b c d) → n ≡ sets m 16 (blockOf e f g h)
     → o ≡ sets n 32 (le8 x) → o ≡ blockOf a b c d ++ (blockOf e f g h ++ le8 x)
@@ -59,7 +57,7 @@ put-forty l m n o a b c d e f g h x k p q r =
     let second = blockOf e f g h in
     let n1 = length-block a b c d in
     let n2 = length-block e f g h in
-    let n3 = length-eight x in
+    let n3 = eights .size x in
     let size : length (first ++ (second ++ le8 x)) ≡ 40 = simp (length-append, n1, n2, n3) in
     r
     ∙ after second (le8 x) m n 16 32 q (omega arith)
@@ -81,31 +79,17 @@ eight-bit true = refl
 eight-bit false = refl
 
 -- the values as one number are the values as the record has them, with zeros behind them
-eight-values : (k : TokenKind) → Handed k → le8 (joined (valuesOf k)) ≡ take 8 (values k ++ replicate 8 0)
+eight-values : {k : TokenKind} → Carries k → Handed k → le8 (joined (valuesOf k)) ≡ take 8 (values k ++ replicate 8 0)
 unfolding values le8 le4 le2 recordLength byForm formOf recordOf headOf fieldsOf
-eight-values tk.Ident h = refl
-eight-values tk.OpId h = refl
-eight-values tk.BacktickId h = refl
-eight-values (tk.IntLit v) h =
+eight-values (int v) h =
     let f = int-fits v h in
     let low : v % 4294967296 ≡ v = omega arith in
     let high : v / 4294967296 ≡ 0 = omega arith in
     rw (low, high)
-eight-values (tk.LongLit v) h = refl
-eight-values (tk.Str a e) h = ap (drop 13) (form-record (record { kind = tk.Str a e; start = 0; end = 0; cut = false }))
-eight-values tk.CharSym h = refl
-eight-values tk.LParen h = refl
-eight-values tk.RParen h = refl
-eight-values tk.LBracket h = refl
-eight-values tk.RBracket h = refl
-eight-values tk.LBrace h = refl
-eight-values tk.RBrace h = refl
-eight-values tk.Comma h = refl
-eight-values tk.Semi h = refl
-eight-values tk.Dot h = refl
-eight-values (tk.Newline b) h = eight-bit b
-eight-values tk.Eof h = refl
-eight-values (tk.Kw k) h = refl
+eight-values (long v) h = refl
+eight-values (content a e) h = ap (drop 13) (form-record (record { kind = tk.Str a e; start = 0; end = 0; cut = false }))
+eight-values (mark b) h = eight-bit b
+eight-values (nothing k n l b e) h = rw n
 
 -- ---- the block of a record
 
@@ -130,7 +114,7 @@ put-token-block l m n o t next f b h e c k p q r =
     put-forty l m n o 0 0 (f .number) (t .start) (t .end) b 0 next (f .values) k p q r
     ∙ ap (λ g. blockOf 0 0 (g .number) (t .start) ++ (blockOf (t .end) b 0 next ++ le8 (g .values))) e
     ∙ ap (λ x. blockOf 0 0 (kindNumber (t .kind)) (t .start) ++ (blockOf (t .end) x 0 next ++ le8 (joined (valuesOf (t .kind))))) c
-    ∙ ap (λ v. blockOf 0 0 (kindNumber (t .kind)) (t .start) ++ (blockOf (t .end) (bit (t .cut)) 0 next ++ v)) (eight-values (t .kind) h)
+    ∙ ap (λ v. blockOf 0 0 (kindNumber (t .kind)) (t .start) ++ (blockOf (t .end) (bit (t .cut)) 0 next ++ v)) (eight-values (carries (t .kind)) h)
     ∙ token-parts t next
 
 -- ---- each return of `roll`

@@ -1,7 +1,7 @@
 -- One record: lengths and kinds by a number, and the step branch by branch.
 use Prim.Native.Nat.{ℕ, _+_, _-_, _≤_, _<_}
 use mathlib.Core.Path.{_≡_, refl, sym, _∙_, ap}
-use mathlib.Core.Bool.{Bool, true, false, cond, _&&_, _||_}
+use mathlib.Core.Bool.{Bool, true, false, cond, _&&_, _||_, or-true}
 use mathlib.Core.List.{List, [], _∷_}
 use lib.Dec.{eqb, leb}
 use lib.ListN.{length, take, drop, length-drop}
@@ -61,8 +61,11 @@ module _ (n : ℕ) (h : Missed (17 ∷ 6 ∷ 5 ∷ 4 ∷ []) n) where
   pub none-between : 18 < n → n < 32 → 0 ≡ lengthFor n
   none-between a b = sym (other-length ∙ simp (le-leb 1 n (omega arith), lt-leb n 18 a, lt-leb 32 n b))
 
-  pub none-above : 45 < n → 0 ≡ lengthFor n
-  none-above a = sym (other-length ∙ simp (le-leb 1 n (omega arith), lt-leb n 18 (omega arith), le-leb 32 n (omega arith), lt-leb n 45 a))
+-- nor one past the keywords'
+pub none-above : (n : ℕ) → 45 < n → 0 ≡ lengthFor n
+none-above n a =
+    let h : Missed (17 ∷ 6 ∷ 5 ∷ 4 ∷ []) n = ((((tt, λ e. omega arith), λ e. omega arith), λ e. omega arith), λ e. omega arith) in
+    sym (other-length n h ∙ simp (le-leb 1 n (omega arith), lt-leb n 18 (omega arith), le-leb 32 n (omega arith), lt-leb n 45 a))
 
 -- ---- one step, branch by branch
 
@@ -100,24 +103,21 @@ module _ (roll : List ℕ) (at previous : ℕ) where
     unfolding stepAt
     step-few f = simp (lt-leb (length roll) at i, lt-ltb (length roll - at) 4 f)
 
-    module _ (f : 4 ≤ length roll - at) where
-      -- fewer than the record's length
-      pub step-short : length roll - at < h .length → stepAt roll at previous ≡ stopped 22 at
+    -- fewer than the record's length
+    pub step-short : length roll - at < h .length → stepAt roll at previous ≡ stopped 22 at
+    unfolding stepAt
+    step-short s = simp (lt-leb (length roll) at i, ← e, lt-ltb (length roll - at) (h .length) s, or-true)
+
+    module _ (f : 4 ≤ length roll - at) (s : h .length ≤ length roll - at) where
+      -- no kind has this number and this length
+      pub step-unknown : isKnown (h .number) (h .length) ≡ false → stepAt roll at previous ≡ stopped 23 at
       unfolding stepAt
-      step-short s = simp (lt-leb (length roll) at i, le-ltb (length roll - at) 4 f, ← e, lt-ltb (length roll - at) (h .length) s)
+      step-unknown k = simp (lt-leb (length roll) at i, le-ltb (length roll - at) 4 f, ← e, le-ltb (length roll - at) (h .length) s, k)
 
-      module _ (s : h .length ≤ length roll - at) where
-        -- no kind has this number and this length
-        pub step-unknown : isKnown (h .number) (h .length) ≡ false → stepAt roll at previous ≡ stopped 23 at
-        unfolding stepAt
-        step-unknown k =
-            simp (lt-leb (length roll) at i, le-ltb (length roll - at) 4 f, ← e, le-ltb (length roll - at) (h .length) s, k)
-
-        -- a whole record of a known kind
-        pub step-known : isKnown (h .number) (h .length) ≡ true → stepAt roll at previous ≡ stepHeld h at (length roll - at) previous
-        unfolding stepAt
-        step-known k =
-            simp (lt-leb (length roll) at i, le-ltb (length roll - at) 4 f, ← e, le-ltb (length roll - at) (h .length) s, k)
+      -- a whole record of a known kind
+      pub step-known : isKnown (h .number) (h .length) ≡ true → stepAt roll at previous ≡ stepHeld h at (length roll - at) previous
+      unfolding stepAt
+      step-known k = simp (lt-leb (length roll) at i, le-ltb (length roll - at) 4 f, ← e, le-ltb (length roll - at) (h .length) s, k)
 
 -- ---- the code's answers: each says what the step was
 

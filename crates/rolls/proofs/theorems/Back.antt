@@ -1,7 +1,6 @@
 -- Writing the tokens that are read gives the same bytes: field `back` of specs/Theorems.RollTheorems.
-use Prim.Native.Nat.{ℕ, _+_, _≤_}
+use Prim.Native.Nat.{ℕ, _+_}
 use mathlib.Core.Path.{_≡_, sym, _∙_, ap}
-use mathlib.Core.Bool.{Bool, true, false}
 use mathlib.Core.List.{List, [], _++_}
 use lib.ListN.{length, take, drop, length-drop, take-append-drop}
 use lib.Seq.{drop-drop, drop-length}
@@ -9,21 +8,17 @@ use native.Mathlib.Omega.{arith}
 use Rattle.words.specs.Joins.{Bytes}
 use Rattle.words.proofs.Joins.{drop-bytes}
 use Rattle.token.specs.paper.Kinds.{Token}
-use Rattle.token.specs.paper.Records.{bit, recordLength, recordOf, records}
+use Rattle.token.specs.paper.Records.{recordLength, recordOf, records}
 use Rattle.token.specs.code.Form.{RecordForm, Whole, formOf, heldAt, storedOf}
 use Rattle.token.specs.declared.kinds.TokenKind.the-variants as tk
 use Rattle.token.proofs.form.Laws.{form-known, form-record}
 use Rattle.token.proofs.form.ReadBack.{record-form}
 use Rattle.rolls.specs.paper.Roll.{lengthAt, Sound, yielded, Steps, Outcome, tokens, refused, behind, Reads}
 use Rattle.rolls.specs.computed.Roll.{readRoll}
-use Rattle.rolls.proofs.theorems.Kinds.{bit-one}
+use Rattle.rolls.proofs.theorems.Kinds.{bit-one, bit-most}
 use Rattle.rolls.proofs.theorems.Values.{heldOf, held-is, length-is}
 use Rattle.rolls.proofs.theorems.Reading.{reads}
 open RecordForm record-form using (held-on, stored-again)
-
-bit-most : (mark : Bool) → bit mark ≤ 1
-bit-most true = omega arith
-bit-most false = omega arith
 
 -- what stands in a token's record is stored as the token's record
 stored-of : (t : Token) → storedOf (heldOf t) ≡ recordOf t

@@ -90,13 +90,19 @@ module _ (roll : List ℕ) (b : Bytes roll) where
           let m = o .1 in
           reads-more most at previous t next e (r next (t .end) (omega arith))
 
-  pub read-is : Reads roll 0 0 (readRoll roll)
-  unfolding readRoll readFrom
-  read-is = reads-in (suc (length roll - 0)) 0 0 (omega arith)
+  -- ---- from an offset on, with the bound that is computed
+
+  pub from-is : (at previous : ℕ) → Reads roll at previous (readFrom roll at previous)
+  unfolding readFrom
+  from-is at previous = reads-in (suc (length roll - at)) at previous (omega arith)
+
+  pub from-only : {at previous : ℕ} {x : Outcome} → Reads roll at previous x → readFrom roll at previous ≡ x
+  unfolding readFrom
+  from-only {at} r = reads-only r (suc (length roll - at)) (omega arith)
 
   pub reads : (x : Outcome) → (readRoll roll ≡ x) ↔ Reads roll 0 0 x
-  unfolding readRoll readFrom
-  reads x = (λ e. rw e at read-is, λ r. reads-only r (suc (length roll - 0)) (omega arith))
+  unfolding readRoll
+  reads x = (λ e. rw e at (from-is 0 0), from-only)
 
 -- ---- the last token is Eof, and no other is
 

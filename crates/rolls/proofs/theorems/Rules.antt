@@ -8,25 +8,29 @@ use lib.Dec.{eqb, ltb}
 use native.Mathlib.Nat.{add-assoc}
 use native.Mathlib.Omega.{arith}
 use borrow.Author.Tests.{eqb-true, eqb-false, ne-eqb, ltb-true, lt-ltb}
+use Rattle.chars.proofs.Bools.{clash}
 use Rattle.words.specs.Joins.{Bytes}
 use Rattle.words.specs.Words.{oneAt, twoAt, fourAt, eightAt}
 use Rattle.words.proofs.Joins.{four-fits}
 use Rattle.token.specs.paper.Records.{headLength, intLength, longLength, strLength, lineLength}
 use Rattle.token.specs.code.Form.{valuesAt, heldAt}
-use Rattle.token.proofs.Base.{zero-one}
+use Rattle.token.specs.declared.form.Held.{Held}
 use Rattle.rolls.specs.paper.Roll.{lengthAt, kindAt, startAt, endAt, cutAt, contentStart, contentEnd, KindLength, Wrong}
 use Rattle.rolls.specs.computed.Roll.{lengthFor, badValues, isWrong}
 use Rattle.rolls.proofs.theorems.Kinds.{known-length, lower, upper}
 
 -- ---- tests
 
--- a test does not both pass and fail
-pub clash : {A : Type 0} → false ≡ true → A
-clash e = zero-one (cc)
-
 or-either : (p q : Bool) → p || q ≡ true → (p ≡ true) ⊎ (q ≡ true)
 or-either true q e = inl refl
 or-either false q e = inr e
+
+-- ---- values
+
+-- kinds without values have no rule of them
+pub bad-none : (h : Held) → (h .number ≡ 4 → ⊥) → (h .number ≡ 5 → ⊥) → (h .number ≡ 6 → ⊥) → (h .number ≡ 17 → ⊥) → badValues h ≡ false
+unfolding badValues
+bad-none h int long str line = rw (ne-eqb (h .number) 4 int, ne-eqb (h .number) 5 long, ne-eqb (h .number) 6 str, ne-eqb (h .number) 17 line)
 
 -- ---- signs
 
@@ -76,12 +80,6 @@ module _ (roll : List ℕ) (b : Bytes roll) where
     unfolding badValues heldAt valuesAt lengthFor
     bad-line e = let s : lengthAt roll at ≡ lineLength = known-length known ∙ ap lengthFor e in rw (e, s)
 
-    -- the other kinds have no rule
-    bad-none : (kindAt roll at ≡ 4 → ⊥) → (kindAt roll at ≡ 5 → ⊥) → (kindAt roll at ≡ 6 → ⊥) → (kindAt roll at ≡ 17 → ⊥) → badValues (heldAt roll at) ≡ false
-    unfolding badValues heldAt
-    bad-none int long str line =
-        rw (ne-eqb (kindAt roll at) 4 int, ne-eqb (kindAt roll at) 5 long, ne-eqb (kindAt roll at) 6 str, ne-eqb (kindAt roll at) 17 line)
-
     module _ (previous : ℕ) where
       -- ---- what breaks a rule breaks it computed
 
@@ -119,13 +117,14 @@ module _ (roll : List ℕ) (b : Bytes roll) where
 
       -- of any kind
       values-wrong : badValues (heldAt roll at) ≡ true → Wrong roll at previous
+      unfolding heldAt
       values-wrong h = int (eqb (kindAt roll at) 4) refl
         where
           line : (kindAt roll at ≡ 4 → ⊥) → (kindAt roll at ≡ 5 → ⊥) → (kindAt roll at ≡ 6 → ⊥) → (t : Bool) → eqb (kindAt roll at) 17 ≡ t → Wrong roll at previous
           line x y z true q =
               let e = eqb-true (kindAt roll at) 17 q in
               Wrong.after-comment e (ltb-true 1 (oneAt roll (at + headLength)) (sym (bad-line e) ∙ h))
-          line x y z false q = clash (sym (bad-none x y z (eqb-false (kindAt roll at) 17 q)) ∙ h)
+          line x y z false q = clash (sym (bad-none (heldAt roll at) x y z (eqb-false (kindAt roll at) 17 q)) ∙ h)
 
           str : (kindAt roll at ≡ 4 → ⊥) → (kindAt roll at ≡ 5 → ⊥) → (t : Bool) → eqb (kindAt roll at) 6 ≡ t → Wrong roll at previous
           str x y true q = str-wrong (eqb-true (kindAt roll at) 6 q) h

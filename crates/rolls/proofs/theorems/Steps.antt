@@ -1,13 +1,14 @@
 -- One record, computed, is what is declared of it: field `steps` of specs/Theorems.RollTheorems.
 use Prim.Native.Nat.{ℕ, _+_, _-_, _≤_, _<_}
 use mathlib.Core.Path.{_≡_, refl, sym, _∙_, ap}
-use mathlib.Core.Bool.{Bool, true, false, cond, _&&_, or-true}
-use mathlib.Core.Logic.{_⊎_, inl, inr, _↔_}
+use mathlib.Core.Bool.{Bool, true, false, _&&_}
+use mathlib.Core.Logic.{_⊎_, inl, inr, ⊎-elim, _↔_}
 use mathlib.Core.List.{List}
 use lib.ListN.{length}
 use lib.Dec.{eqb, leb, ltb}
 use native.Mathlib.Omega.{arith}
-use borrow.Author.Tests.{eqb-true, eq-eqb, ltb-true, ltb-false, lt-ltb, le-ltb, leb-true, leb-false, le-leb, lt-leb}
+use borrow.Author.Tests.{eqb-true, ltb-true, ltb-false, lt-ltb, le-ltb, leb-true, leb-false}
+use Rattle.chars.proofs.Bools.{clash}
 use Rattle.words.specs.Joins.{Bytes}
 use Rattle.words.specs.Words.{oneAt}
 use Rattle.token.specs.paper.Kinds.{kindNumber, Token}
@@ -17,50 +18,36 @@ use Rattle.token.specs.declared.kinds.TokenKind.the-variants as tk
 use Rattle.token.specs.declared.form.Held.{Held}
 use Rattle.rolls.specs.paper.Roll.{lengthAt, kindAt, cutAt, Short, KindLength, Wrong, Sound, Stepped, yielded, stopped, Steps}
 use Rattle.rolls.specs.computed.Roll.{isKnown, isWrong, tokenOf, stepHeld, stepAt, isEof}
+use Rattle.rolls.specs.code.Record.{moreAfter}
+use Rattle.rolls.proofs.record.Laws.{held-wrong, held-more, held-token, step-end, step-few, step-short, step-unknown, step-known}
 use Rattle.rolls.proofs.theorems.Kinds.{is-known, known-kind}
 use Rattle.rolls.proofs.theorems.Values.{token-at, token-is}
-use Rattle.rolls.proofs.theorems.Rules.{clash, wrong-is, is-wrong}
+use Rattle.rolls.proofs.theorems.Rules.{wrong-is, is-wrong}
 use Rattle.rolls.proofs.theorems.Eofs.{is-eof, not-eof, number-eof}
 
--- ---- the computed answer, branch by branch
+-- ---- what is declared of one record, as the branches of `record/Laws` have it
 
-module _ (h : Held) (at left previous : ℕ) where
-  -- a record that breaks a rule
-  held-wrong : isWrong h previous ≡ true → stepHeld h at left previous ≡ stopped 24 at
-  unfolding stepHeld
-  held-wrong e = rw e
+-- no bytes stand behind it, if it is Eof
+nothing-after : (h : Held) (left : ℕ) → (h .number ≡ 18 → left ≤ h .length) → moreAfter h left ≡ false
+nothing-after h left f = go (eqb (h .number) 18) refl
+  where
+    go : (b : Bool) → eqb (h .number) 18 ≡ b → b && ltb (h .length) left ≡ false
+    go true q = le-ltb (h .length) left (f (eqb-true (h .number) 18 q))
+    go false q = refl
 
-  -- Eof with bytes behind it
-  held-after : isWrong h previous ≡ false → h .number ≡ 18 → h .length < left → stepHeld h at left previous ≡ stopped 24 (at + h .length)
-  unfolding stepHeld
-  held-after e n l = rw (e, eq-eqb (h .number) 18 n, lt-ltb (h .length) left l)
-
-  -- any other is yielded
-  pub held-yields : isWrong h previous ≡ false → (h .number ≡ 18 → left ≤ h .length) → stepHeld h at left previous ≡ yielded (tokenOf h) (at + h .length)
-  unfolding stepHeld
-  held-yields e f = rw e (go (eqb (h .number) 18) refl)
-    where
-      go : (b : Bool) → eqb (h .number) 18 ≡ b
-          → cond (b && ltb (h .length) left) (stopped 24 (at + h .length)) (yielded (tokenOf h) (at + h .length)) ≡ yielded (tokenOf h) (at + h .length)
-      go true q = rw (le-ltb (h .length) left (f (eqb-true (h .number) 18 q)))
-      go false q = refl
+-- a record that breaks no rule is yielded, if it is no Eof or nothing stands behind it
+pub held-yields : (h : Held) (at left previous : ℕ) → isWrong h previous ≡ false → (h .number ≡ 18 → left ≤ h .length)
+    → stepHeld h at left previous ≡ yielded (tokenOf h) (at + h .length)
+held-yields h at left previous e f = held-token h at left previous e (nothing-after h left f)
 
 module _ (roll : List ℕ) (at previous : ℕ) where
-  -- no byte is left
-  step-end : length roll ≤ at → stepAt roll at previous ≡ stopped 24 (length roll)
-  unfolding stepAt
-  step-end l = rw (le-leb (length roll) at l)
-
   -- bytes are left, but too few
-  step-short : Short roll at → stepAt roll at previous ≡ stopped 22 at
-  unfolding stepAt heldAt
-  step-short s = by-fewer (s .fewer)
-    where
-      by-fewer : (length roll < at + 4) ⊎ (length roll < at + lengthAt roll at) → stepAt roll at previous ≡ stopped 22 at
-      by-fewer (inl f) = let l = s .left in rw (lt-leb (length roll) at l, lt-ltb (length roll - at) 4 (omega arith))
-      by-fewer (inr f) =
-          let l = s .left in
-          rw (lt-leb (length roll) at l, lt-ltb (length roll - at) (lengthAt roll at) (omega arith), or-true (ltb (length roll - at) 4))
+  short-step : Short roll at → stepAt roll at previous ≡ stopped 22 at
+  unfolding heldAt
+  short-step s =
+      let l = s .left in
+      let h = heldAt roll at in
+      ⊎-elim (λ f. step-few roll at previous h refl l (omega arith)) (λ f. step-short roll at previous h refl l (omega arith)) (s .fewer)
 
   -- no record that is short
   whole : at < length roll → (Short roll at → ⊥) → (at + 4 ≤ length roll) × (at + lengthAt roll at ≤ length roll)
@@ -71,27 +58,25 @@ module _ (roll : List ℕ) (at previous : ℕ) where
 
   module _ (four : at + 4 ≤ length roll) (room : at + lengthAt roll at ≤ length roll) where
     -- a whole record of no kind
-    step-unknown : isKnown (kindAt roll at) (lengthAt roll at) ≡ false → stepAt roll at previous ≡ stopped 23 at
-    unfolding stepAt heldAt
-    step-unknown e =
-        rw (lt-leb (length roll) at (omega arith), le-ltb (length roll - at) 4 (omega arith), le-ltb (length roll - at) (lengthAt roll at) (omega arith), e)
+    whole-unknown : isKnown (kindAt roll at) (lengthAt roll at) ≡ false → stepAt roll at previous ≡ stopped 23 at
+    unfolding heldAt
+    whole-unknown e = step-unknown roll at previous (heldAt roll at) refl (omega arith) (omega arith) (omega arith) e
 
     -- a whole record of a known kind
-    pub step-known : isKnown (kindAt roll at) (lengthAt roll at) ≡ true
-        → stepAt roll at previous ≡ stepHeld (heldAt roll at) at (length roll - at) previous
-    unfolding stepAt heldAt
-    step-known e =
-        rw (lt-leb (length roll) at (omega arith), le-ltb (length roll - at) 4 (omega arith), le-ltb (length roll - at) (lengthAt roll at) (omega arith), e)
+    pub whole-known : isKnown (kindAt roll at) (lengthAt roll at) ≡ true → stepAt roll at previous ≡ stepHeld (heldAt roll at) at (length roll - at) previous
+    unfolding heldAt
+    whole-known e = step-known roll at previous (heldAt roll at) refl (omega arith) (omega arith) (omega arith) e
 
 -- ---- what is declared is computed
 
+-- a test that does not pass fails
+fails : (p : Bool) → (p ≡ true → ⊥) → p ≡ false
+fails true h = absurd (h refl)
+fails false h = refl
+
 -- no kind has this number and length: the test fails
 kind-unknown : (n size : ℕ) → (KindLength n size → ⊥) → isKnown n size ≡ false
-kind-unknown n size u = go (isKnown n size) refl
-  where
-    go : (b : Bool) → isKnown n size ≡ b → b ≡ false
-    go true e = absurd (u (known-kind n size e))
-    go false e = refl
+kind-unknown n size u = fails (isKnown n size) (λ e. u (known-kind n size e))
 
 -- the test decides, so that a kind is not only not impossible
 kind-known : (n size : ℕ) → ((KindLength n size → ⊥) → ⊥) → KindLength n size
@@ -104,16 +89,12 @@ kind-known n size u = go (isKnown n size) refl
 module _ (roll : List ℕ) (b : Bytes roll) (at previous : ℕ) where
   -- no rule is broken: the test fails
   not-wrong : KindLength (kindAt roll at) (lengthAt roll at) → (Wrong roll at previous → ⊥) → isWrong (heldAt roll at) previous ≡ false
-  not-wrong k r = go (isWrong (heldAt roll at) previous) refl
-    where
-      go : (t : Bool) → isWrong (heldAt roll at) previous ≡ t → t ≡ false
-      go true e = absurd (r (is-wrong roll b at k previous e))
-      go false e = refl
+  not-wrong k r = fails (isWrong (heldAt roll at) previous) (λ e. r (is-wrong roll b at k previous e))
 
   module _ (t : Token) (s : Sound roll at previous t) where
     -- a sound record is whole and known
     sound-step : stepAt roll at previous ≡ stepHeld (heldAt roll at) at (length roll - at) previous
-    sound-step = step-known roll at previous (s .whole) (s .room) (is-known (s .known))
+    sound-step = whole-known roll at previous (s .whole) (s .room) (is-known (s .known))
 
     -- and breaks no rule
     sound-right : isWrong (heldAt roll at) previous ≡ false
@@ -123,7 +104,8 @@ module _ (roll : List ℕ) (b : Bytes roll) (at previous : ℕ) where
     sound-after : t .kind ≡ tk.Eof → at + lengthAt roll at < length roll → stepAt roll at previous ≡ stopped 24 (at + lengthAt roll at)
     unfolding heldAt
     sound-after e l =
-        sound-step ∙ held-after (heldAt roll at) at (length roll - at) previous sound-right (sym (s .token .kind-is) ∙ ap kindNumber e) (omega arith)
+        let n : kindAt roll at ≡ 18 = sym (s .token .kind-is) ∙ ap kindNumber e in
+        sound-step ∙ held-more (heldAt roll at) at (length roll - at) previous sound-right (rw (n, lt-ltb (lengthAt roll at) (length roll - at) (omega arith)))
 
     -- any other
     sound-yields : (t .kind ≡ tk.Eof → at + lengthAt roll at ≡ length roll) → stepAt roll at previous ≡ yielded t (at + lengthAt roll at)
@@ -135,14 +117,14 @@ module _ (roll : List ℕ) (b : Bytes roll) (at previous : ℕ) where
 
   pub steps-only : {x : Stepped} → Steps roll at previous x → stepAt roll at previous ≡ x
   steps-only (Steps.no-eof l) = step-end roll at previous l
-  steps-only (Steps.twenty-two s) = step-short roll at previous s
+  steps-only (Steps.twenty-two s) = short-step roll at previous s
   steps-only (Steps.twenty-three l s u) =
       let w = whole roll at previous l s in
-      step-unknown roll at previous (w .0) (w .1) (kind-unknown (kindAt roll at) (lengthAt roll at) u)
+      whole-unknown roll at previous (w .0) (w .1) (kind-unknown (kindAt roll at) (lengthAt roll at) u)
   steps-only (Steps.twenty-four l s u x) =
       let w = whole roll at previous l s in
       let k = kind-known (kindAt roll at) (lengthAt roll at) u in
-      step-known roll at previous (w .0) (w .1) (is-known k) ∙ held-wrong (heldAt roll at) at (length roll - at) previous (wrong-is roll b at k previous x)
+      whole-known roll at previous (w .0) (w .1) (is-known k) ∙ held-wrong (heldAt roll at) at (length roll - at) previous (wrong-is roll b at k previous x)
   steps-only (Steps.after-eof {t} s e l) = sound-after t s e l
   steps-only (Steps.yields {t} s f) = sound-yields t s f
 
@@ -167,11 +149,7 @@ module _ (roll : List ℕ) (b : Bytes roll) (at previous : ℕ) where
   module _ (four : at + 4 ≤ length roll) (room : at + lengthAt roll at ≤ length roll) where
     -- it is not short
     not-short : Short roll at → ⊥
-    not-short s = by-fewer (s .fewer)
-      where
-        by-fewer : (length roll < at + 4) ⊎ (length roll < at + lengthAt roll at) → ⊥
-        by-fewer (inl f) = omega arith
-        by-fewer (inr f) = omega arith
+    not-short s = ⊎-elim (λ f. omega arith) (λ f. omega arith) (s .fewer)
 
     -- of a known kind
     step-kind : KindLength (kindAt roll at) (lengthAt roll at) → Steps roll at previous (stepAt roll at previous)

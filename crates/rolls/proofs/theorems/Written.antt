@@ -1,64 +1,41 @@
 -- What the writer stores is read to the same tokens: field `written` of specs/Theorems.RollTheorems.
 use Prim.Native.Nat.{ℕ, zero, suc, _+_, _*_, _-_, _%_, _≤_, _<_}
 use mathlib.Core.Path.{_≡_, refl, sym, _∙_, ap}
-use mathlib.Core.Bool.{Bool, true, false}
+use mathlib.Core.Bool.{false}
 use mathlib.Core.List.{List, [], _++_}
 use lib.ListN.{length, drop, length-append, length-drop}
 use lib.Seq.{drop-drop, drop-at}
-use lib.Dec.{ltb}
 use native.Mathlib.Nat.{mod-eq-of-lt}
 use native.Mathlib.Omega.{arith}
 use borrow.Author.Tests.{le-ltb}
 use Rattle.token.specs.paper.Kinds.{kindNumber, Token}
 use Rattle.token.specs.paper.Reading.{OnlyLastEof}
-use Rattle.token.specs.paper.Records.{bit, valuesOf, recordLength, recordOf, records, mostBytes}
+use Rattle.token.specs.paper.Records.{bit, valuesOf, headLength, recordLength, recordOf, records, mostBytes}
 use Rattle.token.specs.code.Form.{RecordForm, joined, heldAt}
-use Rattle.token.specs.declared.kinds.Kw.the-variants as kw
 use Rattle.token.specs.declared.kinds.TokenKind.{TokenKind}
 use Rattle.token.specs.declared.kinds.TokenKind.the-variants as tk
 use Rattle.token.proofs.form.Stores.{length-record}
 use Rattle.token.proofs.form.ReadBack.{record-form}
 use Rattle.token.proofs.theorems.Bounded.{Within, Bounded, AllBounded, InOrder, token-back}
 use Rattle.rolls.specs.paper.Roll.{lengthAt, kindAt, of-kind, yielded, tokens, behind}
-use Rattle.rolls.specs.computed.Roll.{badValues, isWrong, stepHeld, stepAt, isEof, readIn, readFrom, readRoll}
-use Rattle.rolls.proofs.theorems.Kinds.{known-least, is-known, Fit, lower, upper}
+use Rattle.rolls.specs.computed.Roll.{lengthFor, badValues, isWrong, stepHeld, stepAt, isEof, readIn, readFrom, readRoll}
+use Rattle.rolls.proofs.theorems.Kinds.{Carries, int, long, content, mark, nothing, carries, known-least, is-known, Fit, bit-most, lower, upper}
+use Rattle.rolls.proofs.theorems.Rules.{bad-none}
 use Rattle.rolls.proofs.theorems.Values.{heldOf, token-held}
 use Rattle.rolls.proofs.theorems.Eofs.{number-eof, other-kind}
-use Rattle.rolls.proofs.theorems.Steps.{held-yields, step-known}
+use Rattle.rolls.proofs.theorems.Steps.{held-yields, whole-known}
 use Rattle.rolls.proofs.theorems.Reading.{read-last, read-more}
 open RecordForm record-form using (held-on)
 
 -- ---- values within their limits
 
-bit-byte : (mark : Bool) → bit mark < 256
-bit-byte true = omega arith
-bit-byte false = omega arith
-
-bit-low : (mark : Bool) → ltb 1 (bit mark) ≡ false
-bit-low true = refl
-bit-low false = refl
-
 -- they fit
-within-fit : (a e : ℕ) (k : TokenKind) → e ≤ mostBytes → Within a e k → Fit (valuesOf k)
-within-fit a e tk.Ident s h = tt
-within-fit a e tk.OpId s h = tt
-within-fit a e tk.BacktickId s h = tt
-within-fit a e (tk.IntLit v) s h = (omega arith, tt)
-within-fit a e (tk.LongLit v) s h = (omega arith, tt)
-within-fit a e (tk.Str b c) s h = let x = h .1 in let y = h .2 in (omega arith, (omega arith, tt))
-within-fit a e tk.CharSym s h = tt
-within-fit a e tk.LParen s h = tt
-within-fit a e tk.RParen s h = tt
-within-fit a e tk.LBracket s h = tt
-within-fit a e tk.RBracket s h = tt
-within-fit a e tk.LBrace s h = tt
-within-fit a e tk.RBrace s h = tt
-within-fit a e tk.Comma s h = tt
-within-fit a e tk.Semi s h = tt
-within-fit a e tk.Dot s h = tt
-within-fit a e (tk.Newline mark) s h = (bit-byte mark, tt)
-within-fit a e tk.Eof s h = tt
-within-fit a e (tk.Kw k) s h = tt
+within-fit : (a e : ℕ) {k : TokenKind} → Carries k → e ≤ mostBytes → Within a e k → Fit (valuesOf k)
+within-fit a e (int v) s h = (omega arith, tt)
+within-fit a e (long v) s h = (omega arith, tt)
+within-fit a e (content b c) s h = let x = h .1 in let y = h .2 in (omega arith, (omega arith, tt))
+within-fit a e (mark m) s h = let l = bit-most m in (omega arith, tt)
+within-fit a e (nothing k n l b i) s h = rw n tt
 
 -- and break none of 24's rules
 str-good : (a e size c b d : ℕ) → b < 4294967296 → d < 4294967296 → a ≤ b → b ≤ d → d ≤ e
@@ -66,41 +43,27 @@ str-good : (a e size c b d : ℕ) → b < 4294967296 → d < 4294967296 → a �
 unfolding badValues
 str-good a e size c b d p q x y z = rw (mod-eq-of-lt p, mod-eq-of-lt q, lower b d p, upper b d p, le-ltb b a x, le-ltb e d z, le-ltb d b y)
 
+-- nor does a kind without values, which has its number's length
+bare-good : (n size v a e c : ℕ) → lengthFor n ≡ headLength → badValues (record { number = n; length = size; values = v; start = a; end = e; cut = c }) ≡ false
+unfolding lengthFor
+bare-good n size v a e c l =
+    let no : (j : ℕ) → (lengthFor j ≡ headLength → ⊥) → n ≡ j → ⊥ = λ j f q. f (rw q at l) in
+    bad-none (record { number = n; length = size; values = v; start = a; end = e; cut = c }) (no 4 (λ z. omega arith)) (no 5 (λ z. omega arith)) (no 6 (λ z. omega arith))
+    (no 17 (λ z. omega arith))
+
 -- the same of any kind
-within-good : (a e c : ℕ) (k : TokenKind) → e ≤ mostBytes → Within a e k → badValues (record { number = kindNumber k; length = recordLength k; values = joined (valuesOf k); start = a; end = e; cut = c }) ≡ false
+within-good : (a e c : ℕ) {k : TokenKind} → Carries k → e ≤ mostBytes → Within a e k
+    → badValues (record { number = kindNumber k; length = recordLength k; values = joined (valuesOf k); start = a; end = e; cut = c }) ≡ false
 unfolding badValues
-within-good a e c tk.Ident s h = refl
-within-good a e c tk.OpId s h = refl
-within-good a e c tk.BacktickId s h = refl
-within-good a e c (tk.IntLit v) s h = le-ltb 2147483647 v h
-within-good a e c (tk.LongLit v) s h = le-ltb 9223372036854775807 v h
-within-good a e c (tk.Str b d) s h = let x = h .0 in let y = h .1 in let z = h .2 in str-good a e (recordLength (tk.Str b d)) c b d (omega arith) (omega arith) x y z
-within-good a e c tk.CharSym s h = refl
-within-good a e c tk.LParen s h = refl
-within-good a e c tk.RParen s h = refl
-within-good a e c tk.LBracket s h = refl
-within-good a e c tk.RBracket s h = refl
-within-good a e c tk.LBrace s h = refl
-within-good a e c tk.RBrace s h = refl
-within-good a e c tk.Comma s h = refl
-within-good a e c tk.Semi s h = refl
-within-good a e c tk.Dot s h = refl
-within-good a e c (tk.Newline mark) s h = bit-low mark
-within-good a e c tk.Eof s h = refl
-within-good a e c (tk.Kw kw.Case) s h = refl
-within-good a e c (tk.Kw kw.Else) s h = refl
-within-good a e c (tk.Kw kw.False) s h = refl
-within-good a e c (tk.Kw kw.Function) s h = refl
-within-good a e c (tk.Kw kw.If) s h = refl
-within-good a e c (tk.Kw kw.Match) s h = refl
-within-good a e c (tk.Kw kw.Return) s h = refl
-within-good a e c (tk.Kw kw.Then) s h = refl
-within-good a e c (tk.Kw kw.True) s h = refl
-within-good a e c (tk.Kw kw.Colon) s h = refl
-within-good a e c (tk.Kw kw.FatArrow) s h = refl
-within-good a e c (tk.Kw kw.Assign) s h = refl
-within-good a e c (tk.Kw kw.Hash) s h = refl
-within-good a e c (tk.Kw kw.At) s h = refl
+within-good a e c (int v) s h = le-ltb 2147483647 v h
+within-good a e c (long v) s h = le-ltb 9223372036854775807 v h
+within-good a e c (content b d) s h =
+    let x = h .0 in
+    let y = h .1 in
+    let z = h .2 in
+    str-good a e (recordLength (tk.Str b d)) c b d (omega arith) (omega arith) x y z
+within-good a e c (mark m) s h = le-ltb 1 (bit m) (bit-most m)
+within-good a e c (nothing k n l b i) s h = bare-good (kindNumber k) (recordLength k) (joined (valuesOf k)) a e c l
 
 module _ (n : ℕ) (short : n ≤ mostBytes) (roll : List ℕ) where
   -- ---- one record
@@ -112,12 +75,12 @@ module _ (n : ℕ) (short : n ≤ mostBytes) (roll : List ℕ) where
     right =
         let l = h .start in
         let m = h .end in
-        rw (bit-low (t .cut), le-ltb (t .end) (t .start) l, le-ltb (t .start) previous after)
-        (within-good (t .start) (t .end) (bit (t .cut)) (t .kind) (omega arith) (h .values))
+        rw (le-ltb 1 (bit (t .cut)) (bit-most (t .cut)), le-ltb (t .end) (t .start) l, le-ltb (t .start) previous after)
+        (within-good (t .start) (t .end) (bit (t .cut)) (carries (t .kind)) (omega arith) (h .values))
 
     -- and its values fit
     fit : Fit (valuesOf (t .kind))
-    fit = let m = h .end in within-fit (t .start) (t .end) (t .kind) (omega arith) (h .values)
+    fit = let m = h .end in within-fit (t .start) (t .end) (carries (t .kind)) (omega arith) (h .values)
 
     module _ (rest : List ℕ) (here : drop at roll ≡ recordOf t ++ rest) where
       -- what stands there is what the token's record has
@@ -137,7 +100,7 @@ module _ (n : ℕ) (short : n ≤ mostBytes) (roll : List ℕ) where
           let k = of-kind (t .kind) in
           let least = known-least k in
           let left = left-is in
-          step-known roll at previous (omega arith) (omega arith) (rw (number, size) (is-known k))
+          whole-known roll at previous (omega arith) (omega arith) (rw (number, size) (is-known k))
           ∙ ap (λ x. stepHeld x at (length roll - at) previous) held-there
           ∙ held-yields (heldOf t) at (length roll - at) previous right (λ e. let z = ap length (f (number-eof (t .kind) e)) in omega arith)
           ∙ ap (λ x. yielded x (at + recordLength (t .kind))) (token-held t fit)

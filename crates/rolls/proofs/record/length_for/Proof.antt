@@ -54,7 +54,7 @@ returns-7 c =
     none-between _ (rest .0) (omega (arith, c .before .if2 .left, rest .0 .1, rest .1)) (c .if3 .taken)
 
 returns-8 : tie.Need-returns-8
-returns-8 c = none-above _ (c .before .before .before .before .match .rest .0) (omega (arith, c .if4 .left))
+returns-8 c = none-above _ (omega (arith, c .if4 .left))
 
 returns-9 : tie.Need-returns-9
 unfolding lengthFor

@@ -46,8 +46,7 @@ returns-3 c =
     let read = c .before .before .read-record .ensures in
     let held = held-part roll at _ (read .1) (read .0) in
     let inside = c .before .before .before .before .if1 .left in
-    let four = c .before .if2 .left in
-    sym (ap yieldOf (step-short roll at (args .c .previous) _ held inside four (c .if3 .taken)))
+    sym (ap yieldOf (step-short roll at (args .c .previous) _ held inside (c .if3 .taken)))
 
 is-known-requires : tie.Need-is-known-requires
 is-known-requires c κs = search needs

@@ -6,7 +6,7 @@ use lib.ListN.{length}
 use borrow.Author.Needs.{needs}
 use Rattle.rolls.specs.computed.Roll.{readFrom, readRoll}
 use Rattle.rolls.specs.code.Roll.{totalOf}
-use Rattle.rolls.proofs.roll.Laws.{count-stop, count-eof, count-more, turn-inside, turn-on, turn-within}
+use Rattle.rolls.proofs.roll.Laws.{count-stop, count-eof, count-more, turn-on}
 use Rattle.rolls.proofs.roll.read_roll.Statement.{statement}
 use Rattle.rolls.proofs.roll.read_roll.Tie as tie
 
@@ -31,9 +31,10 @@ returns : tie.Need-returns Inv-loop μ-loop
 returns c =
     let loop = c .before .before .before .before .loop in
     let roll = c .before .before .before .before .before .before .args .roll .now in
+    let bytes = c .before .before .before .before .before .shared-slice-known .given in
     let at = loop .c .at in
     let found = sym (c .before .found .given .1) ∙ c .before .before .before .read-record .ensures in
-    sym (count-stop roll at (loop .c .previous) (loop .count) _ _ found) ∙ loop .inv .0
+    sym (count-stop roll (λ i. omega (arith, bytes i)) at (loop .c .previous) (loop .count) _ _ found) ∙ loop .inv .0
 
 enum-known-found-2 : tie.Need-enum-known-found-2 Inv-loop μ-loop
 enum-known-found-2 c = search needs
@@ -42,9 +43,11 @@ add-count : tie.Need-add-count Inv-loop μ-loop
 add-count c =
     let loop = c .before .before .before .before .loop in
     let roll = c .before .before .before .before .before .before .args .roll .now in
+    let bytes = c .before .before .before .before .before .shared-slice-known .given in
     let at = loop .c .at in
     let found = sym (c .before .found2 .given .1) ∙ c .before .before .before .read-record .ensures in
-    omega (arith, loop .inv .1, turn-inside roll at (loop .c .previous) (loop .count) _ _ _ _ _ found)
+    let on = turn-on roll (λ i. omega (arith, bytes i)) at (loop .c .previous) (loop .count) _ _ _ _ _ found in
+    omega (arith, loop .inv .1, on .0, on .1)
 
 is-eof-requires : tie.Need-is-eof-requires Inv-loop μ-loop
 is-eof-requires c κs = search needs
@@ -53,28 +56,31 @@ returns-2 : tie.Need-returns-2 Inv-loop μ-loop
 returns-2 c =
     let loop = c .before .before .before .before .before .before .loop in
     let roll = c .before .before .before .before .before .before .before .before .args .roll .now in
+    let bytes = c .before .before .before .before .before .before .before .shared-slice-known .given in
     let at = loop .c .at in
     let found = sym (c .before .before .before .found2 .given .1) ∙ c .before .before .before .before .before .read-record .ensures in
-    sym (count-eof roll at (loop .c .previous) (loop .count) _ _ _ _ _ found (sym (c .before .is-eof .ensures) ∙ c .if1 .taken)) ∙ loop .inv .0
+    sym (count-eof roll (λ i. omega (arith, bytes i)) at (loop .c .previous) (loop .count) _ _ _ _ _ found (sym (c .before .is-eof .ensures) ∙ c .if1 .taken)) ∙ loop .inv .0
 
 loop-less : tie.Need-loop-less Inv-loop μ-loop
 loop-less c =
     let loop = c .before .before .before .before .before .before .loop in
     let roll = c .before .before .before .before .before .before .before .before .args .roll .now in
+    let bytes = c .before .before .before .before .before .before .before .shared-slice-known .given in
     let at = loop .c .at in
     let found = sym (c .before .before .before .found2 .given .1) ∙ c .before .before .before .before .before .read-record .ensures in
-    let i = turn-inside roll at (loop .c .previous) (loop .count) _ _ _ _ _ found in
-    omega (arith, turn-on roll at (loop .c .previous) (loop .count) _ _ _ _ _ found)
+    let on = turn-on roll (λ i. omega (arith, bytes i)) at (loop .c .previous) (loop .count) _ _ _ _ _ found in
+    omega (arith, on .0, on .1)
 
 loop-again : tie.Need-loop-again Inv-loop μ-loop
 loop-again c =
     let loop = c .before .before .before .before .before .before .loop in
     let roll = c .before .before .before .before .before .before .before .before .args .roll .now in
+    let bytes = c .before .before .before .before .before .before .before .shared-slice-known .given in
     let at = loop .c .at in
     let found = sym (c .before .before .before .found2 .given .1) ∙ c .before .before .before .before .before .read-record .ensures in
-    let on = turn-on roll at (loop .c .previous) (loop .count) _ _ _ _ _ found in
-    let more = count-more roll at (loop .c .previous) (loop .count) _ _ _ _ _ found (sym (c .before .is-eof .ensures) ∙ c .if1 .left) in
-    (sym more ∙ loop .inv .0, omega (arith, loop .inv .1), turn-within roll at (loop .c .previous) (loop .count) _ _ _ _ _ found)
+    let on = turn-on roll (λ i. omega (arith, bytes i)) at (loop .c .previous) (loop .count) _ _ _ _ _ found in
+    let more = count-more roll (λ i. omega (arith, bytes i)) at (loop .c .previous) (loop .count) _ _ _ _ _ found (sym (c .before .is-eof .ensures) ∙ c .if1 .left) in
+    (sym more ∙ loop .inv .0, omega (arith, loop .inv .1, on .0), on .1)
 
 pub read-roll-spec : {M : Type 1} → statement M
 read-roll-spec =
