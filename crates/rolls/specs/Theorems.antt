@@ -1,5 +1,5 @@
--- What is proved of every roll. Proved: proofs/theorems.
-use Prim.Native.Nat.{ℕ, _≤_}
+-- What is proved of every roll, a list of bytes. Proved: proofs/theorems.
+use Prim.Native.Nat.{ℕ, _≤_, _<_}
 use mathlib.Core.Path.{_≡_}
 use mathlib.Core.Logic.{_↔_}
 use mathlib.Core.List.{List}
@@ -7,16 +7,22 @@ use lib.ListN.{length}
 use Rattle.token.specs.paper.Kinds.{Token}
 use Rattle.token.specs.paper.Reading.{TokensOf, OnlyLastEof}
 use Rattle.token.specs.paper.Records.{mostBytes, records}
-use Rattle.rolls.specs.paper.Roll.{Stepped, Steps, Outcome, tokens, Reads}
-use Rattle.rolls.specs.computed.Roll.{stepAt, readRoll}
+use Rattle.rolls.specs.paper.Roll.{Stepped, yielded, Steps, Outcome, tokens, Reads}
+use Rattle.rolls.specs.computed.Roll.{readAt, readRoll}
+use Rattle.rolls.specs.computed.Examples.{RollExamples}
 
 pub record RollTheorems (roll : List ℕ) : Type 0 where
   -- The answer is what document 02 declares, and nothing else: of one record, wherever it is asked for, and of the roll.
-  pub steps : (at previous : ℕ) (x : Stepped) → (stepAt roll at previous ≡ x) ↔ Steps roll at previous x
+  pub steps : (at previous : ℕ) (x : Stepped) → (readAt roll at previous ≡ x) ↔ Steps roll at previous x
   pub reads : (x : Outcome) → (readRoll roll ≡ x) ↔ Reads roll 0 0 x
+  -- A token that is yielded brings the reader on, within the roll, and its end fits 4 bytes: so whoever steps by the numbers of an answer block, in a
+  -- roll of less than 2³² bytes, makes just these steps, and they end.
+  pub onward : (at previous next : ℕ) (t : Token) → readAt roll at previous ≡ yielded t next → (at < next) × (next ≤ length roll) × (t .end < 4294967296)
   -- "Every roll that the writer makes is read to the same tokens": for every accepted script.
   pub written : (script : List ℕ) (ts : List Token) → length script ≤ mostBytes → TokensOf script ts → readRoll (records ts) ≡ tokens ts
   -- "and writing those tokens gives the same bytes": for every roll that is read, whoever made it.
   pub back : (ts : List Token) → readRoll roll ≡ tokens ts → records ts ≡ roll
   -- "The roll must end with its only Eof."
   pub one-eof : (ts : List Token) → readRoll roll ≡ tokens ts → OnlyLastEof ts
+  -- Rolls whole and damaged come out as document 02 says.
+  pub examples : RollExamples

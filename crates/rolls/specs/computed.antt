@@ -1,3 +1,4 @@
--- What is computed, and proved to be what is declared.
+-- What is computed, and proved to be what is declared; examples.
 pub mod Roll
 pub mod Host
+pub mod Examples

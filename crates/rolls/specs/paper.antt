@@ -1,2 +1,3 @@
 -- Document 02, request 1, "Records read back".
 pub mod Roll
+pub mod Host

@@ -1,8 +1,8 @@
 // What hosts call: a number and an answer block. Document 02, request 1.
-use crate::record::Roll;
+use crate::record::RollCursor;
 use crate::record::Yield;
-use crate::record::read_record;
-use crate::roll::Total;
+use crate::record::read_token;
+use crate::roll::Counted;
 use crate::roll::read_roll;
 use token::kinds::TokenKind;
 use token::kinds::bit_of;
@@ -14,10 +14,11 @@ ghost use Prim.Native.Nat.{_+_, _≤_};
 ghost use lib.ListN.{length};
 ghost use lib.Seq.{sets};
 ghost use Rattle.words.specs.Words.{blockOf};
-ghost use Rattle.rolls.specs.computed.Host.{rollNumber, rollBlock, recordNumber, recordBlock, tokenBlock, stopBlock};
+ghost use Rattle.rolls.specs.paper.Host.{tokenBlock, stopBlock};
+ghost use Rattle.rolls.specs.computed.Host.{rollNumber, rollBlock, recordNumber, recordBlock};
 ghost use Rattle.rolls.specs.Theorems.{RollTheorems};
 
-// 16 bytes: refusal, place, token count, bytes of the roll; unused ones 0. The last clause says what follows of every roll.
+// 16 bytes: refusal, place, token count, bytes of the roll; unused ones 0. The last clause says what holds of every roll.
 pub fn answer_roll(roll: &[u8], answer: &mut [u8]) -> u32
     ensures { λ r. ⌜ r ≡ rollNumber (now (roll .entry)) (now (answer .entry)) ⌝ }
     ensures { λ r. ⌜ now (answer .exit) ≡ rollBlock (now (roll .entry)) (now (answer .entry)) ⌝ }
@@ -28,11 +29,11 @@ pub fn answer_roll(roll: &[u8], answer: &mut [u8]) -> u32
     }
     let total = read_roll(roll);
     match total {
-        Total::Refused(number, place) => {
+        Counted::Refused(number, place) => {
             put_block(answer, number as usize, place, 0, 0);
             return number;
         }
-        Total::Tokens(count) => {
+        Counted::Tokens(count) => {
             put_block(answer, 0, 0, count, roll.len());
             return 0;
         }
@@ -78,9 +79,9 @@ pub fn answer_record(roll: &[u8], at: u32, previous: u32, answer: &mut [u8]) -> 
     if answer.len() != 40 {
         return 20;
     }
-    let found = read_record(
+    let found = read_token(
         roll,
-        Roll {
+        RollCursor {
             at: at as usize,
             previous: previous as usize,
         },

@@ -4,18 +4,18 @@ use token::kinds::Kw;
 use token::kinds::TokenKind;
 ghost use mathlib.Core.Path.{_≡_};
 ghost use Prim.Native.Nat.{_+_, _≤_};
-ghost use Rattle.rolls.specs.computed.Roll.{lengthFor, isKnown, keywordFor, kindFor, badValues, isWrong, stepHeld, stepAt};
-ghost use Rattle.rolls.specs.code.Record.{yieldOf, moreAfter};
+ghost use Rattle.rolls.specs.computed.Roll.{lengthFor, isKind, keywordFor, kindFor, badValues, isWrong, stepHeld, readAt, eofFollowed};
+ghost use Rattle.rolls.specs.code.Record.{yieldOf};
 
 // A place in a roll: the offset of a record, and where the token before it ends.
-pub struct Roll {
+pub struct RollCursor {
     pub at: usize,
     pub previous: usize,
 }
 
 // A token, by kind with values, start, end and cut, and the cursor behind its record; or the number and place of a refusal.
 pub enum Yield {
-    Token(TokenKind, usize, usize, bool, Roll),
+    Token(TokenKind, usize, usize, bool, RollCursor),
     Refused(u32, usize),
 }
 
@@ -44,8 +44,8 @@ fn length_for(number: u64) -> u64
     }
 }
 
-fn is_known(number: u64, size: u64) -> bool
-    ensures { λ r. ⌜ r ≡ isKnown number size ⌝ }
+fn is_kind(number: u64, size: u64) -> bool
+    ensures { λ r. ⌜ r ≡ isKind number size ⌝ }
 {
     if size == 0 {
         return false;
@@ -148,8 +148,8 @@ fn is_wrong(held: Held, previous: usize) -> bool
 }
 
 // Whether the record is Eof, and not the last of the bytes left.
-fn has_more(held: Held, left: usize) -> bool
-    ensures { λ r. ⌜ r ≡ moreAfter held left ⌝ }
+fn eof_followed(held: Held, left: usize) -> bool
+    ensures { λ r. ⌜ r ≡ eofFollowed held left ⌝ }
 {
     if held.number != EOF {
         return false;
@@ -166,7 +166,7 @@ fn yield_held(held: Held, at: usize, left: usize, previous: usize) -> Yield
         return Yield::Refused(24, at);
     }
     let next = at + held.length as usize;
-    if has_more(held, left) {
+    if eof_followed(held, left) {
         return Yield::Refused(24, next);
     }
     Yield::Token(
@@ -174,15 +174,15 @@ fn yield_held(held: Held, at: usize, left: usize, previous: usize) -> Yield
         held.start as usize,
         held.end as usize,
         held.cut == 1,
-        Roll {
+        RollCursor {
             at: next,
             previous: held.end as usize,
         },
     )
 }
 
-pub fn read_record(roll: &[u8], c: Roll) -> Yield
-    ensures { λ r. ⌜ r ≡ yieldOf (stepAt (now (roll .entry)) (c .at) (c .previous)) ⌝ }
+pub fn read_token(roll: &[u8], c: RollCursor) -> Yield
+    ensures { λ r. ⌜ r ≡ yieldOf (readAt (now (roll .entry)) (c .at) (c .previous)) ⌝ }
 {
     let at = c.at;
     if roll.len() <= at {
@@ -196,7 +196,7 @@ pub fn read_record(roll: &[u8], c: Roll) -> Yield
     if left < held.length as usize {
         return Yield::Refused(22, at);
     }
-    if !is_known(held.number, held.length) {
+    if !is_kind(held.number, held.length) {
         return Yield::Refused(23, at);
     }
     yield_held(held, at, left, c.previous)

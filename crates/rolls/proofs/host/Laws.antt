@@ -24,13 +24,14 @@ use Rattle.token.proofs.form.Laws.{form-record}
 use Rattle.token.proofs.kinds.TokenKind.{the-type}
 use Rattle.token.proofs.kinds.TokenKind.Laws.{the-laws}
 use Rattle.rolls.specs.paper.Roll.{Outcome, tokens, refused}
-use Rattle.rolls.specs.computed.Roll.{stepAt, readRoll}
-use Rattle.rolls.specs.computed.Host.{rollNumber, rollBlock, tokenBlock, stopBlock, recordNumber, recordBlock}
+use Rattle.rolls.specs.computed.Roll.{readAt, readRoll}
+use Rattle.rolls.specs.paper.Host.{tokenBlock, stopBlock}
+use Rattle.rolls.specs.computed.Host.{rollNumber, rollBlock, recordNumber, recordBlock}
 use Rattle.rolls.specs.code.Record.{yieldOf}
-use Rattle.rolls.specs.code.Roll.{totalOf}
-use Rattle.rolls.specs.declared.record.Roll.{Roll}
+use Rattle.rolls.specs.code.Roll.{countedOf}
+use Rattle.rolls.specs.declared.record.RollCursor.{RollCursor}
 use Rattle.rolls.specs.declared.record.Yield.the-variants as yield
-use Rattle.rolls.specs.declared.roll.Total.the-variants as total
+use Rattle.rolls.specs.declared.roll.Counted.the-variants as counted
 use Rattle.rolls.proofs.record.Laws.{was-stopped, was-token}
 use Rattle.rolls.proofs.theorems.Kinds.{Carries, int, long, content, mark, nothing, carries}
 
@@ -119,13 +120,13 @@ put-token-block l m n o t next f b h e c k p q r =
 
 -- ---- each return of `roll`
 
-was-refused : (x : Outcome) (j a : ℕ) → total.Refused j a ≡ totalOf 0 x → x ≡ refused j a
-unfolding totalOf
+was-refused : (x : Outcome) (j a : ℕ) → counted.Refused j a ≡ countedOf 0 x → x ≡ refused j a
+unfolding countedOf
 was-refused (tokens ts) j a e = cc
 was-refused (refused i b) j a e = cc
 
-was-tokens : (x : Outcome) (n : ℕ) → total.Tokens n ≡ totalOf 0 x → (ts : List Token) × (x ≡ tokens ts) × (n ≡ length ts)
-unfolding totalOf
+was-tokens : (x : Outcome) (n : ℕ) → counted.Tokens n ≡ countedOf 0 x → (ts : List Token) × (x ≡ tokens ts) × (n ≡ length ts)
+unfolding countedOf
 was-tokens (tokens ts) n e = let z : n ≡ 0 + length ts = cc in (ts, refl, z ∙ zero-add (length ts))
 was-tokens (refused j a) n e = let z : _≡_ {A = ℕ} 0 1 = cc in absurd (omega arith)
 
@@ -136,12 +137,12 @@ module _ (roll block : List ℕ) where
   roll-other h = (simp (ne-eqb (length block) 16 h), simp (ne-eqb (length block) 16 h))
 
   module _ (h : length block ≡ 16) where
-    pub roll-refused : (out : List ℕ) (j a : ℕ) → total.Refused j a ≡ totalOf 0 (readRoll roll) → out ≡ blockOf j a 0 0
+    pub roll-refused : (out : List ℕ) (j a : ℕ) → counted.Refused j a ≡ countedOf 0 (readRoll roll) → out ≡ blockOf j a 0 0
         → (j ≡ rollNumber roll block) × (out ≡ rollBlock roll block)
     unfolding rollNumber rollBlock
     roll-refused out j a e p = let w = was-refused (readRoll roll) j a e in (simp (h, w), p ∙ simp (h, w))
 
-    pub roll-tokens : (out : List ℕ) (n : ℕ) → total.Tokens n ≡ totalOf 0 (readRoll roll) → out ≡ blockOf 0 0 n (length roll)
+    pub roll-tokens : (out : List ℕ) (n : ℕ) → counted.Tokens n ≡ countedOf 0 (readRoll roll) → out ≡ blockOf 0 0 n (length roll)
         → (0 ≡ rollNumber roll block) × (out ≡ rollBlock roll block)
     unfolding rollNumber rollBlock
     roll-tokens out n e p =
@@ -157,14 +158,14 @@ module _ (roll : List ℕ) (at previous : ℕ) (block : List ℕ) where
   record-other h = (simp (ne-eqb (length block) 40 h), simp (ne-eqb (length block) 40 h))
 
   module _ (h : length block ≡ 40) where
-    pub record-refused : (out : List ℕ) (j a : ℕ) → yield.Refused j a ≡ yieldOf (stepAt roll at previous) → out ≡ stopBlock j a
+    pub record-refused : (out : List ℕ) (j a : ℕ) → yield.Refused j a ≡ yieldOf (readAt roll at previous) → out ≡ stopBlock j a
         → (j ≡ recordNumber roll at previous block) × (out ≡ recordBlock roll at previous block)
     unfolding recordNumber recordBlock
-    record-refused out j a e p = let w = was-stopped (stepAt roll at previous) j a e in (simp (h, w), p ∙ simp (h, w))
+    record-refused out j a e p = let w = was-stopped (readAt roll at previous) j a e in (simp (h, w), p ∙ simp (h, w))
 
-    pub record-token : (out : List ℕ) (k : TokenKind) (start end : ℕ) (cut : Bool) (next : Roll)
-        → yield.Token k start end cut next ≡ yieldOf (stepAt roll at previous)
+    pub record-token : (out : List ℕ) (k : TokenKind) (start end : ℕ) (cut : Bool) (next : RollCursor)
+        → yield.Token k start end cut next ≡ yieldOf (readAt roll at previous)
         → out ≡ tokenBlock (record { kind = k; start = start; end = end; cut = cut }) (next .at)
         → (0 ≡ recordNumber roll at previous block) × (out ≡ recordBlock roll at previous block)
     unfolding recordNumber recordBlock
-    record-token out k start end cut next e p = let w = was-token (stepAt roll at previous) k start end cut next e .0 in (simp (h, w), p ∙ simp (h, w))
+    record-token out k start end cut next e p = let w = was-token (readAt roll at previous) k start end cut next e .0 in (simp (h, w), p ∙ simp (h, w))

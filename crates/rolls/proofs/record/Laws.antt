@@ -14,9 +14,9 @@ use Rattle.token.specs.code.Form.{heldAt, RecordForm}
 use Rattle.token.specs.declared.form.Held.{Held}
 use Rattle.token.specs.declared.kinds.TokenKind.{TokenKind}
 use Rattle.rolls.specs.paper.Roll.{Stepped, yielded, stopped}
-use Rattle.rolls.specs.computed.Roll.{lengthFor, isKnown, isWrong, tokenOf, stepHeld, stepAt}
-use Rattle.rolls.specs.code.Record.{yieldOf, moreAfter}
-use Rattle.rolls.specs.declared.record.Roll.{Roll}
+use Rattle.rolls.specs.computed.Roll.{lengthFor, isKind, isWrong, tokenOf, stepHeld, readAt, eofFollowed}
+use Rattle.rolls.specs.code.Record.{yieldOf}
+use Rattle.rolls.specs.declared.record.RollCursor.{RollCursor}
 use Rattle.rolls.specs.declared.record.Yield.the-variants as yield
 
 -- ---- a number that no arm of a match has
@@ -83,40 +83,40 @@ module _ (h : Held) (at left previous : ℕ) where
 
   module _ (w : isWrong h previous ≡ false) where
     -- bytes after Eof
-    pub held-more : moreAfter h left ≡ true → stepHeld h at left previous ≡ stopped 24 (at + h .length)
+    pub held-more : eofFollowed h left ≡ true → stepHeld h at left previous ≡ stopped 24 (at + h .length)
     unfolding stepHeld
     held-more m = simp (w, m)
 
-    pub held-token : moreAfter h left ≡ false → stepHeld h at left previous ≡ yielded (tokenOf h) (at + h .length)
+    pub held-token : eofFollowed h left ≡ false → stepHeld h at left previous ≡ yielded (tokenOf h) (at + h .length)
     unfolding stepHeld
     held-token m = simp (w, m)
 
 module _ (roll : List ℕ) (at previous : ℕ) where
   -- no bytes are left
-  pub step-end : length roll ≤ at → stepAt roll at previous ≡ stopped 24 (length roll)
-  unfolding stepAt
+  pub step-end : length roll ≤ at → readAt roll at previous ≡ stopped 24 (length roll)
+  unfolding readAt
   step-end i = simp (le-leb (length roll) at i)
 
   module _ (h : Held) (e : h ≡ heldAt roll at) (i : at < length roll) where
     -- fewer than four
-    pub step-few : length roll - at < 4 → stepAt roll at previous ≡ stopped 22 at
-    unfolding stepAt
+    pub step-few : length roll - at < 4 → readAt roll at previous ≡ stopped 22 at
+    unfolding readAt
     step-few f = simp (lt-leb (length roll) at i, lt-ltb (length roll - at) 4 f)
 
     -- fewer than the record's length
-    pub step-short : length roll - at < h .length → stepAt roll at previous ≡ stopped 22 at
-    unfolding stepAt
+    pub step-short : length roll - at < h .length → readAt roll at previous ≡ stopped 22 at
+    unfolding readAt
     step-short s = simp (lt-leb (length roll) at i, ← e, lt-ltb (length roll - at) (h .length) s, or-true)
 
     module _ (f : 4 ≤ length roll - at) (s : h .length ≤ length roll - at) where
       -- no kind has this number and this length
-      pub step-unknown : isKnown (h .number) (h .length) ≡ false → stepAt roll at previous ≡ stopped 23 at
-      unfolding stepAt
+      pub step-unknown : isKind (h .number) (h .length) ≡ false → readAt roll at previous ≡ stopped 23 at
+      unfolding readAt
       step-unknown k = simp (lt-leb (length roll) at i, le-ltb (length roll - at) 4 f, ← e, le-ltb (length roll - at) (h .length) s, k)
 
       -- a whole record of a known kind
-      pub step-known : isKnown (h .number) (h .length) ≡ true → stepAt roll at previous ≡ stepHeld h at (length roll - at) previous
-      unfolding stepAt
+      pub step-known : isKind (h .number) (h .length) ≡ true → readAt roll at previous ≡ stepHeld h at (length roll - at) previous
+      unfolding readAt
       step-known k = simp (lt-leb (length roll) at i, le-ltb (length roll - at) 4 f, ← e, le-ltb (length roll - at) (h .length) s, k)
 
 -- ---- the code's answers: each says what the step was
@@ -126,12 +126,12 @@ unfolding yieldOf
 was-stopped (yielded t n) j a e = cc
 was-stopped (stopped i b) j a e = cc
 
-pub was-token : (x : Stepped) (k : TokenKind) (start end : ℕ) (cut : Bool) (next : Roll) → yield.Token k start end cut next ≡ yieldOf x
+pub was-token : (x : Stepped) (k : TokenKind) (start end : ℕ) (cut : Bool) (next : RollCursor) → yield.Token k start end cut next ≡ yieldOf x
     → (x ≡ yielded (record { kind = k; start = start; end = end; cut = cut }) (next .at)) × (next .previous ≡ end)
 unfolding yieldOf
 was-token (stopped j a) k start end cut next e = let z : _≡_ {A = ℕ} 0 1 = cc in absurd (omega arith)
 was-token (yielded t n) k start end cut next e =
-    let w : _≡_ {A = Roll} next (record { at = n; previous = t .end }) = cc in
+    let w : _≡_ {A = RollCursor} next (record { at = n; previous = t .end }) = cc in
     let k′ : t .kind ≡ k = cc in
     let start′ : t .start ≡ start = cc in
     let end′ : t .end ≡ end = cc in

@@ -8,13 +8,13 @@ use native.Mathlib.Omega.{arith}
 use Rattle.words.specs.Joins.{Bytes}
 use Rattle.token.specs.paper.Kinds.{Token}
 use Rattle.token.specs.declared.kinds.TokenKind.{TokenKind}
-use Rattle.rolls.specs.paper.Roll.{yielded, Steps, Outcome, tokens, refused, behind, Reads}
-use Rattle.rolls.specs.computed.Roll.{stepAt, isEof, readFrom}
+use Rattle.rolls.specs.paper.Roll.{yielded, Steps, Outcome, tokens, refused, prepend, Reads}
+use Rattle.rolls.specs.computed.Roll.{readAt, isEof, readFrom}
 use Rattle.rolls.specs.code.Record.{yieldOf}
-use Rattle.rolls.specs.code.Roll.{totalOf}
-use Rattle.rolls.specs.declared.record.Roll.{Roll}
+use Rattle.rolls.specs.code.Roll.{countedOf}
+use Rattle.rolls.specs.declared.record.RollCursor.{RollCursor}
 use Rattle.rolls.specs.declared.record.Yield.the-variants as yield
-use Rattle.rolls.specs.declared.roll.Total.the-variants as total
+use Rattle.rolls.specs.declared.roll.Counted.the-variants as counted
 use Rattle.rolls.proofs.record.Laws.{was-stopped, was-token}
 use Rattle.rolls.proofs.theorems.Eofs.{is-eof, not-eof}
 use Rattle.rolls.proofs.theorems.Steps.{steps}
@@ -23,19 +23,19 @@ use Rattle.rolls.proofs.theorems.Reading.{yields-on, from-only, from-is
 -- ---- how many tokens
 
 -- one token more
-total-more : (n : ℕ) (t : Token) (x : Outcome) → totalOf n (behind t x) ≡ totalOf (n + 1) x
-unfolding totalOf
-total-more n t (tokens ts) = ap total.Tokens (omega arith)
+total-more : (n : ℕ) (t : Token) (x : Outcome) → countedOf n (prepend t x) ≡ countedOf (n + 1) x
+unfolding countedOf
+total-more n t (tokens ts) = ap counted.Tokens (omega arith)
 total-more n t (refused j a) = refl
 
 -- ---- one turn of the loop, after n tokens
 
 module _ (roll : List ℕ) (b : Bytes roll) (at previous n : ℕ) where
-  pub count-stop : (j a : ℕ) → yield.Refused j a ≡ yieldOf (stepAt roll at previous) → totalOf n (readFrom roll at previous) ≡ total.Refused j a
-  unfolding totalOf
-  count-stop j a e = ap (totalOf n) (from-only roll b (Reads.refuses (steps roll b at previous _ .0 (was-stopped _ j a e))))
+  pub count-stop : (j a : ℕ) → yield.Refused j a ≡ yieldOf (readAt roll at previous) → countedOf n (readFrom roll at previous) ≡ counted.Refused j a
+  unfolding countedOf
+  count-stop j a e = ap (countedOf n) (from-only roll b (Reads.refuses (steps roll b at previous _ .0 (was-stopped _ j a e))))
 
-  module _ (k : TokenKind) (start end : ℕ) (cut : Bool) (next : Roll) (e : yield.Token k start end cut next ≡ yieldOf (stepAt roll at previous)) where
+  module _ (k : TokenKind) (start end : ℕ) (cut : Bool) (next : RollCursor) (e : yield.Token k start end cut next ≡ yieldOf (readAt roll at previous)) where
     turn : Steps roll at previous (yielded (record { kind = k; start = start; end = end; cut = cut }) (next .at))
     turn = steps roll b at previous _ .0 (was-token _ k start end cut next e .0)
 
@@ -43,11 +43,11 @@ module _ (roll : List ℕ) (b : Bytes roll) (at previous n : ℕ) where
     pub turn-on : (at < next .at) × (next .at ≤ length roll)
     turn-on = let o = yields-on roll at previous (next .at) _ turn in (omega (arith, o .0), o .1)
 
-    pub count-eof : isEof k ≡ true → totalOf n (readFrom roll at previous) ≡ total.Tokens (n + 1)
-    unfolding totalOf
-    count-eof q = ap (totalOf n) (from-only roll b (Reads.last turn (is-eof k q)))
+    pub count-eof : isEof k ≡ true → countedOf n (readFrom roll at previous) ≡ counted.Tokens (n + 1)
+    unfolding countedOf
+    count-eof q = ap (countedOf n) (from-only roll b (Reads.last turn (is-eof k q)))
 
-    pub count-more : isEof k ≡ false → totalOf n (readFrom roll at previous) ≡ totalOf (n + 1) (readFrom roll (next .at) (next .previous))
+    pub count-more : isEof k ≡ false → countedOf n (readFrom roll at previous) ≡ countedOf (n + 1) (readFrom roll (next .at) (next .previous))
     count-more q =
-        ap (totalOf n) (from-only roll b (Reads.more turn (not-eof k q) (from-is roll b (next .at) end))) ∙ total-more n _ _
-        ∙ ap (λ p. totalOf (n + 1) (readFrom roll (next .at) p)) (sym (was-token _ k start end cut next e .1))
+        ap (countedOf n) (from-only roll b (Reads.more turn (not-eof k q) (from-is roll b (next .at) end))) ∙ total-more n _ _
+        ∙ ap (λ p. countedOf (n + 1) (readFrom roll (next .at) p)) (sym (was-token _ k start end cut next e .1))

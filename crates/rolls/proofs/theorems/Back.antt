@@ -13,7 +13,7 @@ use Rattle.token.specs.code.Form.{RecordForm, Whole, formOf, heldAt, storedOf}
 use Rattle.token.specs.declared.kinds.TokenKind.the-variants as tk
 use Rattle.token.proofs.form.Laws.{form-known, form-record}
 use Rattle.token.proofs.form.ReadBack.{record-form}
-use Rattle.rolls.specs.paper.Roll.{lengthAt, Sound, yielded, Steps, Outcome, tokens, refused, behind, Reads}
+use Rattle.rolls.specs.paper.Roll.{lengthAt, Sound, yielded, Steps, Outcome, tokens, refused, prepend, Reads}
 use Rattle.rolls.specs.computed.Roll.{readRoll}
 use Rattle.rolls.proofs.theorems.Kinds.{bit-one, bit-most}
 use Rattle.rolls.proofs.theorems.Values.{heldOf, held-is, length-is}
@@ -74,7 +74,7 @@ module _ (roll : List ℕ) (b : Bytes roll) where
   last-next : (at previous next : ℕ) (t : Token) → Steps roll at previous (yielded t next) → t .kind ≡ tk.Eof → next ≡ length roll
   last-next at previous next t (Steps.yields s f) e = f e
 
-  more-again : (at previous next : ℕ) (t : Token) (x : Outcome) → Steps roll at previous (yielded t next) → Again (drop next roll) x → Again (drop at roll) (behind t x)
+  more-again : (at previous next : ℕ) (t : Token) (x : Outcome) → Steps roll at previous (yielded t next) → Again (drop next roll) x → Again (drop at roll) (prepend t x)
   unfolding records
   more-again at previous next t (tokens ts) s w = step-again at previous next t (records ts) s w
   more-again at previous next t (refused j a) s w = tt

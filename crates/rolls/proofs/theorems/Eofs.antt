@@ -1,7 +1,6 @@
 -- Eof, by test and by number.
-use mathlib.Core.Path.{_≡_, refl, sym, _∙_, ap}
+use mathlib.Core.Path.{_≡_, sym, _∙_, ap}
 use mathlib.Core.Bool.{true, false}
-use lib.Dec.{eqb}
 use native.Mathlib.Omega.{arith}
 use borrow.Author.Tests.{eqb-true, ne-eqb}
 use Rattle.chars.proofs.Bools.{clash}
@@ -10,17 +9,6 @@ use Rattle.token.specs.declared.kinds.TokenKind.{TokenKind}
 use Rattle.token.specs.declared.kinds.TokenKind.the-variants as tk
 use Rattle.rolls.specs.computed.Roll.{kindFor, isEof}
 use Rattle.rolls.proofs.theorems.Kinds.{Carries, int, long, content, mark, nothing, carries}
-
-eof-by : {k : TokenKind} → Carries k → isEof k ≡ eqb (kindNumber k) 18
-eof-by (int v) = refl
-eof-by (long v) = refl
-eof-by (content a e) = refl
-eof-by (mark b) = refl
-eof-by (nothing k n l b e) = e
-
--- the kinds that pass the test are those with Eof's number
-pub eof-number : (k : TokenKind) → isEof k ≡ eqb (kindNumber k) 18
-eof-number k = eof-by (carries k)
 
 eighteen : {k : TokenKind} → Carries k → kindNumber k ≡ 18 → k ≡ tk.Eof
 unfolding kindFor
@@ -36,7 +24,7 @@ number-eof k q = eighteen (carries k) q
 
 -- Eof is the one kind that passes the test
 pub is-eof : (k : TokenKind) → isEof k ≡ true → k ≡ tk.Eof
-is-eof k e = number-eof k (eqb-true (kindNumber k) 18 (sym (eof-number k) ∙ e))
+is-eof k e = number-eof k (eqb-true (kindNumber k) 18 e)
 
 -- what fails it is not Eof
 pub not-eof : (k : TokenKind) → isEof k ≡ false → k ≡ tk.Eof → ⊥
@@ -44,4 +32,4 @@ not-eof k e q = clash (sym e ∙ ap isEof q)
 
 -- and what is not Eof fails it
 pub other-kind : (k : TokenKind) → (k ≡ tk.Eof → ⊥) → isEof k ≡ false
-other-kind k h = eof-number k ∙ ne-eqb (kindNumber k) 18 (λ q. h (number-eof k q))
+other-kind k h = ne-eqb (kindNumber k) 18 (λ q. h (number-eof k q))

@@ -7,8 +7,8 @@ use lib.Dec.{eqb, leb}
 use native.Mathlib.Nat.{mod-eq-of-lt}
 use native.Mathlib.Omega.{arith}
 use borrow.Author.Tests.{eqb-true, eqb-false, eq-eqb, ne-eqb, not-true, leb-true, leb-false}
-use Rattle.chars.specs.promises.Codes.{every, span}
-use Rattle.chars.proofs.Carry.{carry-span}
+use Rattle.chars.specs.promises.Codes.{CodeLaws, every, span}
+use Rattle.chars.proofs.theorems.Promises.{code-laws}
 use Rattle.words.specs.Words.{le4, le8}
 use Rattle.token.specs.paper.Kinds.{kindNumber}
 use Rattle.token.specs.paper.Records.{bit, Value, one, four, eight, valuesOf, values, headLength, recordLength}
@@ -17,8 +17,9 @@ use Rattle.token.specs.declared.kinds.Kw.the-variants as kw
 use Rattle.token.specs.declared.kinds.TokenKind.{TokenKind}
 use Rattle.token.specs.declared.kinds.TokenKind.the-variants as tk
 use Rattle.rolls.specs.paper.Roll.{KindLength, of-kind}
-use Rattle.rolls.specs.computed.Roll.{lengthFor, isKnown, keywordFor, kindFor, isEof}
+use Rattle.rolls.specs.computed.Roll.{lengthFor, isKind, keywordFor, kindFor, isEof}
 use Rattle.rolls.proofs.record.Laws.{none-above}
+open CodeLaws code-laws using (carry-span)
 
 -- ---- what a kind carries
 
@@ -122,13 +123,13 @@ length-kind n h = below (leb 46 n) refl
     below false e = named (eqb (lengthFor n) 0) refl (carry-span hasKind 0 46 n all-kinds (omega arith) (leb-false 46 n e))
 
 -- a kind with its length passes the test
-pub is-known : {n size : ℕ} → KindLength n size → isKnown n size ≡ true
-unfolding isKnown
-is-known {n} {size} w = let a = known-least w in rw (ne-eqb size 0 (λ e. omega arith), eq-eqb size (lengthFor n) (known-length w))
+pub is-kind : {n size : ℕ} → KindLength n size → isKind n size ≡ true
+unfolding isKind
+is-kind {n} {size} w = let a = known-least w in rw (ne-eqb size 0 (λ e. omega arith), eq-eqb size (lengthFor n) (known-length w))
 
 -- and what passes it is a kind with its length
-pub known-kind : (n size : ℕ) → isKnown n size ≡ true → KindLength n size
-unfolding isKnown
+pub known-kind : (n size : ℕ) → isKind n size ≡ true → KindLength n size
+unfolding isKind
 known-kind n size e =
     let p = and-eq-true-iff (not (eqb size 0)) (eqb size (lengthFor n)) .0 e in
     let q = eqb-true size (lengthFor n) (p .1) in

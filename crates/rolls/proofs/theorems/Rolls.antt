@@ -5,8 +5,9 @@ use lib.ListN.{length}
 use Rattle.words.specs.Joins.{Bytes}
 use Rattle.token.proofs.theorems.Bounded.{all-bounded, in-order, last-eof}
 use Rattle.rolls.specs.Theorems.{RollTheorems}
+use Rattle.rolls.proofs.theorems.Examples.{roll-examples}
 use Rattle.rolls.proofs.theorems.Steps.{steps}
-use Rattle.rolls.proofs.theorems.Reading.{reads, one-eof}
+use Rattle.rolls.proofs.theorems.Reading.{reads, onward, one-eof}
 use Rattle.rolls.proofs.theorems.Back.{back}
 use Rattle.rolls.proofs.theorems.Written.{read-written}
 
@@ -15,7 +16,9 @@ roll-theorems roll b =
     record {
       steps = λ at previous x. steps roll b at previous x;
       reads = λ x. reads roll b x;
+      onward = λ at previous next t e. onward roll b at previous next t e;
       written = λ script ts short h. read-written (length script) ts short (all-bounded script ts h) (in-order script ts h) (last-eof script ts h);
       back = λ ts e. back roll b ts e;
       one-eof = λ ts e. one-eof roll b ts e;
+      examples = roll-examples;
     }

@@ -13,7 +13,7 @@ use Rattle.token.specs.paper.Records.{bit, Value, one, four, eight, valuesOf, v
 use Rattle.token.specs.code.Form.{joined, valuesAt, heldAt}
 use Rattle.token.specs.declared.kinds.TokenKind.{TokenKind}
 use Rattle.token.specs.declared.form.Held.{Held}
-use Rattle.rolls.specs.paper.Roll.{lengthAt, kindAt, cutAt, ValuesAt, TokenAt, KindLength, of-kind}
+use Rattle.rolls.specs.paper.Roll.{lengthAt, kindAt, cutAt, ValuesFrom, TokenAt, KindLength, of-kind}
 use Rattle.rolls.specs.computed.Roll.{kindFor, tokenOf}
 use Rattle.rolls.proofs.theorems.Kinds.{Carries, int, long, content, mark, nothing, carries, length-for, known-length, Fit, bit-one, number-for, lower, upper, kind-back}
 
@@ -42,13 +42,13 @@ one-bit (suc (suc c)) h = absurd (omega arith)
 
 module _ (roll : List ℕ) (b : Bytes roll) where
   -- values that are read from bytes fit them
-  values-fit : (i : ℕ) (vs : List Value) → ValuesAt roll i vs → Fit vs
+  values-fit : (i : ℕ) (vs : List Value) → ValuesFrom roll i vs → Fit vs
   values-fit i [] h = tt
   values-fit i (one v ∷ vs) h = (rw (h .0) (b i), values-fit (i + 1) vs (h .1))
   values-fit i (four v ∷ vs) h = (rw (h .0) (four-fits roll i b), values-fit (i + 4) vs (h .1))
   values-fit i (eight v ∷ vs) h = (rw (h .0) (eight-fits roll i b), values-fit (i + 8) vs (h .1))
 
-  joined-by : (i : ℕ) {k : TokenKind} → Carries k → ValuesAt roll i (valuesOf k) → joined (valuesOf k) ≡ valuesAt roll i (recordLength k)
+  joined-by : (i : ℕ) {k : TokenKind} → Carries k → ValuesFrom roll i (valuesOf k) → joined (valuesOf k) ≡ valuesAt roll i (recordLength k)
   unfolding valuesAt recordLength values le4 le8 eightAt
   joined-by i (int v) h = h .0
   joined-by i (long v) h = h .0
@@ -57,15 +57,15 @@ module _ (roll : List ℕ) (b : Bytes roll) where
   joined-by i (nothing k n l b e) h = rw n
 
   -- a kind's values, one after the other, are the one number that a record of its length has
-  joined-at : (i : ℕ) (k : TokenKind) → ValuesAt roll i (valuesOf k) → joined (valuesOf k) ≡ valuesAt roll i (recordLength k)
+  joined-at : (i : ℕ) (k : TokenKind) → ValuesFrom roll i (valuesOf k) → joined (valuesOf k) ≡ valuesAt roll i (recordLength k)
   joined-at i k h = joined-by i (carries k) h
 
-  bare-values : (i : ℕ) (j k : TokenKind) → j ≡ k → valuesOf k ≡ [] → ValuesAt roll i (valuesOf j)
+  bare-values : (i : ℕ) (j k : TokenKind) → j ≡ k → valuesOf k ≡ [] → ValuesFrom roll i (valuesOf j)
   bare-values i j k e n = rw (e, n) tt
 
   -- and the other way: the number that a record has, as its kind's values
   kind-values : (i : ℕ) {k : TokenKind} → Carries k → (kindNumber k ≡ 17 → oneAt roll i ≤ 1)
-      → ValuesAt roll i (valuesOf (kindFor (kindNumber k) (valuesAt roll i (recordLength k))))
+      → ValuesFrom roll i (valuesOf (kindFor (kindNumber k) (valuesAt roll i (recordLength k))))
   unfolding kindFor valuesAt recordLength values le4 le8 eightAt
   kind-values i (int v) h = (mod-eq-of-lt (four-fits roll i b), tt)
   kind-values i (long v) h = (refl, tt)
@@ -75,7 +75,7 @@ module _ (roll : List ℕ) (b : Bytes roll) where
   kind-values i (nothing k n l b e) h = bare-values i _ k (b _) n
 
   -- the same by number and length
-  values-at : {n size : ℕ} (i : ℕ) → KindLength n size → (n ≡ 17 → oneAt roll i ≤ 1) → ValuesAt roll i (valuesOf (kindFor n (valuesAt roll i size)))
+  values-at : {n size : ℕ} (i : ℕ) → KindLength n size → (n ≡ 17 → oneAt roll i ≤ 1) → ValuesFrom roll i (valuesOf (kindFor n (valuesAt roll i size)))
   values-at i (of-kind k) h = kind-values i (carries k) h
 
   module _ (at : ℕ) (known : KindLength (kindAt roll at) (lengthAt roll at)) where

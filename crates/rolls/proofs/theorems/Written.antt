@@ -17,9 +17,9 @@ use Rattle.token.specs.declared.kinds.TokenKind.the-variants as tk
 use Rattle.token.proofs.form.Stores.{length-record}
 use Rattle.token.proofs.form.ReadBack.{record-form}
 use Rattle.token.proofs.theorems.Bounded.{Within, Bounded, AllBounded, InOrder, token-back}
-use Rattle.rolls.specs.paper.Roll.{lengthAt, kindAt, of-kind, yielded, tokens, behind}
-use Rattle.rolls.specs.computed.Roll.{lengthFor, badValues, isWrong, stepHeld, stepAt, isEof, readIn, readFrom, readRoll}
-use Rattle.rolls.proofs.theorems.Kinds.{Carries, int, long, content, mark, nothing, carries, known-least, is-known, Fit, bit-most, lower, upper}
+use Rattle.rolls.specs.paper.Roll.{lengthAt, kindAt, of-kind, yielded, tokens, prepend}
+use Rattle.rolls.specs.computed.Roll.{lengthFor, badValues, isWrong, stepHeld, readAt, isEof, readIn, readFrom, readRoll}
+use Rattle.rolls.proofs.theorems.Kinds.{Carries, int, long, content, mark, nothing, carries, known-least, is-kind, Fit, bit-most, lower, upper}
 use Rattle.rolls.proofs.theorems.Rules.{bad-none}
 use Rattle.rolls.proofs.theorems.Values.{heldOf, token-held}
 use Rattle.rolls.proofs.theorems.Eofs.{number-eof, other-kind}
@@ -92,7 +92,7 @@ module _ (n : ℕ) (short : n ≤ mostBytes) (roll : List ℕ) where
       left-is = sym (length-drop at roll) ∙ ap length here ∙ length-append (recordOf t) rest ∙ ap (λ m. m + length rest) (length-record t)
 
       -- a token's record is yielded as the token, if it is no Eof or nothing follows
-      step-written : (t .kind ≡ tk.Eof → rest ≡ []) → stepAt roll at previous ≡ yielded t (at + recordLength (t .kind))
+      step-written : (t .kind ≡ tk.Eof → rest ≡ []) → readAt roll at previous ≡ yielded t (at + recordLength (t .kind))
       unfolding heldAt
       step-written f =
           let size : lengthAt roll at ≡ recordLength (t .kind) = ap (λ x. x .length) held-there in
@@ -100,7 +100,7 @@ module _ (n : ℕ) (short : n ≤ mostBytes) (roll : List ℕ) where
           let k = of-kind (t .kind) in
           let least = known-least k in
           let left = left-is in
-          whole-known roll at previous (omega arith) (omega arith) (rw (number, size) (is-known k))
+          whole-known roll at previous (omega arith) (omega arith) (rw (number, size) (is-kind k))
           ∙ ap (λ x. stepHeld x at (length roll - at) previous) held-there
           ∙ held-yields (heldOf t) at (length roll - at) previous right (λ e. let z = ap length (f (number-eof (t .kind) e)) in omega arith)
           ∙ ap (λ x. yielded x (at + recordLength (t .kind))) (token-held t fit)
@@ -122,7 +122,7 @@ module _ (n : ℕ) (short : n ≤ mostBytes) (roll : List ℕ) where
       let least = known-least (of-kind (t .kind)) in
       let left = left-is at previous t (h .0) (o .0) (records ts) e in
       read-more most roll at previous t (at + recordLength (t .kind)) (step-written at previous t (h .0) (o .0) (records ts) e (λ z. absurd (q z))) (other-kind (t .kind) q)
-      ∙ ap (behind t)
+      ∙ ap (prepend t)
       (read-records w most (at + recordLength (t .kind)) (t .end) (h .1) (o .1) (rest-there at previous t (h .0) (o .0) (records ts) e) (omega arith))
 
 -- from the start

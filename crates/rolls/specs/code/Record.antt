@@ -1,8 +1,4 @@
 -- One record as the code answers it.
-use Prim.Native.Nat.{ℕ}
-use mathlib.Core.Bool.{Bool, _&&_}
-use lib.Dec.{eqb, ltb}
-use Rattle.token.specs.declared.form.Held.{Held}
 use Rattle.rolls.specs.paper.Roll.{Stepped, yielded, stopped}
 use Rattle.rolls.specs.declared.record.Yield.{Yield}
 use Rattle.rolls.specs.declared.record.Yield.the-variants as yield
@@ -10,7 +6,3 @@ use Rattle.rolls.specs.declared.record.Yield.the-variants as yield
 unfoldable pub yieldOf : Stepped → Yield
 yieldOf (yielded t next) = yield.Token (t .kind) (t .start) (t .end) (t .cut) (record { at = next; previous = t .end })
 yieldOf (stopped j a) = yield.Refused j a
-
--- Eof, and bytes behind it
-abbrev pub moreAfter : Held → ℕ → Bool
-moreAfter h left = eqb (h .number) 18 && ltb (h .length) left

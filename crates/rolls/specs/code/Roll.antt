@@ -2,10 +2,10 @@
 use Prim.Native.Nat.{ℕ, _+_}
 use lib.ListN.{length}
 use Rattle.rolls.specs.paper.Roll.{Outcome, tokens, refused}
-use Rattle.rolls.specs.declared.roll.Total.{Total}
-use Rattle.rolls.specs.declared.roll.Total.the-variants as total
+use Rattle.rolls.specs.declared.roll.Counted.{Counted}
+use Rattle.rolls.specs.declared.roll.Counted.the-variants as counted
 
 -- after n tokens
-unfoldable pub totalOf : ℕ → Outcome → Total
-totalOf n (tokens ts) = total.Tokens (n + length ts)
-totalOf n (refused j a) = total.Refused j a
+unfoldable pub countedOf : ℕ → Outcome → Counted
+countedOf n (tokens ts) = counted.Tokens (n + length ts)
+countedOf n (refused j a) = counted.Refused j a

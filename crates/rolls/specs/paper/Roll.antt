@@ -36,11 +36,11 @@ abbrev pub contentEnd : List ℕ → ℕ → ℕ
 contentEnd roll at = fourAt roll (at + headLength + 4)
 
 -- values one after the other, each of as many bytes as it takes
-abbrev pub ValuesAt : List ℕ → ℕ → List Value → Type 0
-ValuesAt roll i [] = Unit {0}
-ValuesAt roll i (one v ∷ vs) = (v ≡ oneAt roll i) × ValuesAt roll (i + 1) vs
-ValuesAt roll i (four v ∷ vs) = (v ≡ fourAt roll i) × ValuesAt roll (i + 4) vs
-ValuesAt roll i (eight v ∷ vs) = (v ≡ eightAt roll i) × ValuesAt roll (i + 8) vs
+abbrev pub ValuesFrom : List ℕ → ℕ → List Value → Type 0
+ValuesFrom roll i [] = Unit {0}
+ValuesFrom roll i (one v ∷ vs) = (v ≡ oneAt roll i) × ValuesFrom roll (i + 1) vs
+ValuesFrom roll i (four v ∷ vs) = (v ≡ fourAt roll i) × ValuesFrom roll (i + 4) vs
+ValuesFrom roll i (eight v ∷ vs) = (v ≡ eightAt roll i) × ValuesFrom roll (i + 8) vs
 
 -- the token that the record holds, with its values
 pub record TokenAt (roll : List ℕ) (at : ℕ) (t : Token) : Type 0 where
@@ -48,12 +48,12 @@ pub record TokenAt (roll : List ℕ) (at : ℕ) (t : Token) : Type 0 where
   pub start-is : t .start ≡ startAt roll at
   pub end-is : t .end ≡ endAt roll at
   pub cut-is : bit (t .cut) ≡ cutAt roll at
-  pub values-are : ValuesAt roll (at + headLength) (valuesOf (t .kind))
+  pub values-are : ValuesFrom roll (at + headLength) (valuesOf (t .kind))
 
 -- ---- the refusals, checked in this order at each record
 
 -- 22 bytes are left, but fewer than four or than the record's length
-pub record Short (roll : List ℕ) (at : ℕ) : Type 0 where
+pub record TooFew (roll : List ℕ) (at : ℕ) : Type 0 where
   pub left : at < length roll
   pub fewer : (length roll < at + 4) ⊎ (length roll < at + lengthAt roll at)
 
@@ -62,8 +62,8 @@ pub data KindLength : ℕ → ℕ → Type 0 where
   of-kind : (k : TokenKind) → KindLength (kindNumber k) (recordLength k)
 
 -- 23 unknown kind or a length that isn't the kind's
-abbrev pub Unknown : List ℕ → ℕ → Type 0
-Unknown roll at = KindLength (kindAt roll at) (lengthAt roll at) → ⊥
+abbrev pub NoKind : List ℕ → ℕ → Type 0
+NoKind roll at = KindLength (kindAt roll at) (lengthAt roll at) → ⊥
 
 -- 24, after a record that ends at `previous`. A number is negative where its last byte is 128 or more.
 pub data Wrong (roll : List ℕ) (at previous : ℕ) : Type 0 where
@@ -83,7 +83,7 @@ pub data Wrong (roll : List ℕ) (at previous : ℕ) : Type 0 where
 
 -- none of them: t is the record's token
 pub record Sound (roll : List ℕ) (at previous : ℕ) (t : Token) : Type 0 where
-  pub whole : at + 4 ≤ length roll
+  pub four : at + 4 ≤ length roll
   pub room : at + lengthAt roll at ≤ length roll
   pub known : KindLength (kindAt roll at) (lengthAt roll at)
   pub right : Wrong roll at previous → ⊥
@@ -99,9 +99,9 @@ pub data Stepped : Type 0 where
 pub data Steps (roll : List ℕ) (at previous : ℕ) : Stepped → Type 0 where
   -- 24 also meets a roll that ends without Eof, at the roll's length
   no-eof : length roll ≤ at → Steps roll at previous (stopped 24 (length roll))
-  twenty-two : Short roll at → Steps roll at previous (stopped 22 at)
-  twenty-three : at < length roll → (Short roll at → ⊥) → Unknown roll at → Steps roll at previous (stopped 23 at)
-  twenty-four : at < length roll → (Short roll at → ⊥) → (Unknown roll at → ⊥) → Wrong roll at previous → Steps roll at previous (stopped 24 at)
+  twenty-two : TooFew roll at → Steps roll at previous (stopped 22 at)
+  twenty-three : at < length roll → (TooFew roll at → ⊥) → NoKind roll at → Steps roll at previous (stopped 23 at)
+  twenty-four : at < length roll → (TooFew roll at → ⊥) → (NoKind roll at → ⊥) → Wrong roll at previous → Steps roll at previous (stopped 24 at)
   -- 24 also meets bytes after Eof, at the first of them and before any other check there
   after-eof : {t : Token} → Sound roll at previous t → t .kind ≡ tk.Eof → at + lengthAt roll at < length roll
       → Steps roll at previous (stopped 24 (at + lengthAt roll at))
@@ -115,9 +115,9 @@ pub data Outcome : Type 0 where
   tokens : List Token → Outcome
   refused : ℕ → ℕ → Outcome
 
-abbrev pub behind : Token → Outcome → Outcome
-behind t (tokens ts) = tokens (t ∷ ts)
-behind t (refused j a) = refused j a
+abbrev pub prepend : Token → Outcome → Outcome
+prepend t (tokens ts) = tokens (t ∷ ts)
+prepend t (refused j a) = refused j a
 
 -- from an offset on, after a record that ends at `previous`
 pub data Reads (roll : List ℕ) : ℕ → ℕ → Outcome → Type 0 where
@@ -125,4 +125,4 @@ pub data Reads (roll : List ℕ) : ℕ → ℕ → Outcome → Type 0 where
   -- The roll must end with its only Eof.
   last : {at previous next : ℕ} {t : Token} → Steps roll at previous (yielded t next) → t .kind ≡ tk.Eof → Reads roll at previous (tokens (t ∷ []))
   more : {at previous next : ℕ} {t : Token} {x : Outcome} → Steps roll at previous (yielded t next) → (t .kind ≡ tk.Eof → ⊥)
-      → Reads roll next (t .end) x → Reads roll at previous (behind t x)
+      → Reads roll next (t .end) x → Reads roll at previous (prepend t x)

@@ -14,8 +14,8 @@ returns c =
     let w = record-other roll (args .at) (args .previous) (args .answer .now) (c .if1 .taken) in
     (w .0, (w .1, roll-theorems roll (λ i. omega (arith, c .before .before .shared-slice-known .given i))))
 
-read-record-requires : tie.Need-read-record-requires
-read-record-requires c κs = search needs
+read-token-requires : tie.Need-read-token-requires
+read-token-requires c κs = search needs
 
 enum-known-found : tie.Need-enum-known-found
 enum-known-found c = search needs
@@ -33,7 +33,7 @@ returns-2 : tie.Need-returns-2
 returns-2 c =
     let args = c .before .before .before .before .before .before .before .before .before .before .before .args in
     let roll = args .roll .now in
-    let found = sym (c .before .before .before .before .before .found .given .1) ∙ c .before .before .before .before .before .before .before .read-record .ensures in
+    let found = sym (c .before .before .before .before .before .found .given .1) ∙ c .before .before .before .before .before .before .before .read-token .ensures in
     let size = c .before .before .before .before .before .before .before .before .if1 .left in
     let bytes = c .before .before .before .before .before .before .before .before .before .before .shared-slice-known .given in
     let w = record-refused roll (args .at) (args .previous) (args .answer .now) size _ _ _ found (c .before .before .put-stop .ensures) in
@@ -52,7 +52,7 @@ returns-3 : tie.Need-returns-3
 returns-3 c =
     let args = c .before .before .before .before .before .before .before .before .before .before .before .args in
     let roll = args .roll .now in
-    let found = sym (c .before .before .before .before .before .found2 .given .1) ∙ c .before .before .before .before .before .before .before .read-record .ensures in
+    let found = sym (c .before .before .before .before .before .found2 .given .1) ∙ c .before .before .before .before .before .before .before .read-token .ensures in
     let size = c .before .before .before .before .before .before .before .before .if1 .left in
     let bytes = c .before .before .before .before .before .before .before .before .before .before .shared-slice-known .given in
     let w = record-token roll (args .at) (args .previous) (args .answer .now) size _ _ _ _ _ _ found (c .before .before .put-token .ensures) in
@@ -63,7 +63,7 @@ answer-record-spec =
     tie.close
     (tie.spec
     returns
-    read-record-requires
+    read-token-requires
     enum-known-found
     cast-put-stop
     put-stop-requires

@@ -17,14 +17,14 @@ returns c = sym (ap yieldOf (held-wrong _ _ (c .before .before .args .left) _ (s
 add-next : tie.Need-add-next
 add-next c = search needs
 
-has-more-requires : tie.Need-has-more-requires
-has-more-requires c κs = search needs
+eof-followed-requires : tie.Need-eof-followed-requires
+eof-followed-requires c κs = search needs
 
 returns-2 : tie.Need-returns-2
 unfolding yieldOf
 returns-2 c =
     let right = sym (c .before .before .before .is-wrong .ensures) ∙ c .before .before .if1 .left in
-    let more = sym (c .before .has-more .ensures) ∙ c .if2 .taken in
+    let more = sym (c .before .eof-followed .ensures) ∙ c .if2 .taken in
     sym (ap yieldOf (held-more _ _ _ _ right more))
 
 kind-for-requires : tie.Need-kind-for-requires
@@ -35,7 +35,7 @@ unfolding yieldOf tokenOf
 returns-3 c =
     let args = c .before .before .before .before .before .before .args in
     let right = sym (c .before .before .before .before .before .is-wrong .ensures) ∙ c .before .before .before .before .if1 .left in
-    let last = sym (c .before .before .before .has-more .ensures) ∙ c .before .before .if2 .left in
+    let last = sym (c .before .before .before .eof-followed .ensures) ∙ c .before .before .if2 .left in
     sym (ap yieldOf (held-token (args .held) (args .at) (args .left) (args .previous) right last) ∙ simp (← c .before .kind-for .ensures))
 
 pub yield-held-spec : {M : Type 1} → statement M
@@ -45,7 +45,7 @@ yield-held-spec =
     is-wrong-requires
     returns
     add-next
-    has-more-requires
+    eof-followed-requires
     returns-2
     kind-for-requires
     returns-3)

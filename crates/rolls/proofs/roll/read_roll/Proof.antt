@@ -5,14 +5,14 @@ use native.Mathlib.Omega.{arith}
 use lib.ListN.{length}
 use borrow.Author.Needs.{needs}
 use Rattle.rolls.specs.computed.Roll.{readFrom, readRoll}
-use Rattle.rolls.specs.code.Roll.{totalOf}
+use Rattle.rolls.specs.code.Roll.{countedOf}
 use Rattle.rolls.proofs.roll.Laws.{count-stop, count-eof, count-more, turn-on}
 use Rattle.rolls.proofs.roll.read_roll.Statement.{statement}
 use Rattle.rolls.proofs.roll.read_roll.Tie as tie
 
 abbrev Inv-loop : tie.InvT-loop
 Inv-loop roll c₀ count₀ c count =
-    (totalOf count (readFrom roll (c .at) (c .previous)) ≡ totalOf 0 (readRoll roll)) × (count ≤ c .at) × (c .at ≤ length roll)
+    (countedOf count (readFrom roll (c .at) (c .previous)) ≡ countedOf 0 (readRoll roll)) × (count ≤ c .at) × (c .at ≤ length roll)
 
 abbrev μ-loop : tie.MeasureT-loop
 μ-loop roll c₀ count₀ c count = length roll - c .at
@@ -21,8 +21,8 @@ loop-holds : tie.Need-loop-holds Inv-loop μ-loop
 unfolding readRoll
 loop-holds c = (refl, omega arith, omega arith)
 
-read-record-requires : tie.Need-read-record-requires Inv-loop μ-loop
-read-record-requires c κs = search needs
+read-token-requires : tie.Need-read-token-requires Inv-loop μ-loop
+read-token-requires c κs = search needs
 
 enum-known-found : tie.Need-enum-known-found Inv-loop μ-loop
 enum-known-found c = search needs
@@ -33,7 +33,7 @@ returns c =
     let roll = c .before .before .before .before .before .before .args .roll .now in
     let bytes = c .before .before .before .before .before .shared-slice-known .given in
     let at = loop .c .at in
-    let found = sym (c .before .found .given .1) ∙ c .before .before .before .read-record .ensures in
+    let found = sym (c .before .found .given .1) ∙ c .before .before .before .read-token .ensures in
     sym (count-stop roll (λ i. omega (arith, bytes i)) at (loop .c .previous) (loop .count) _ _ found) ∙ loop .inv .0
 
 enum-known-found-2 : tie.Need-enum-known-found-2 Inv-loop μ-loop
@@ -45,7 +45,7 @@ add-count c =
     let roll = c .before .before .before .before .before .before .args .roll .now in
     let bytes = c .before .before .before .before .before .shared-slice-known .given in
     let at = loop .c .at in
-    let found = sym (c .before .found2 .given .1) ∙ c .before .before .before .read-record .ensures in
+    let found = sym (c .before .found2 .given .1) ∙ c .before .before .before .read-token .ensures in
     let on = turn-on roll (λ i. omega (arith, bytes i)) at (loop .c .previous) (loop .count) _ _ _ _ _ found in
     omega (arith, loop .inv .1, on .0, on .1)
 
@@ -58,7 +58,7 @@ returns-2 c =
     let roll = c .before .before .before .before .before .before .before .before .args .roll .now in
     let bytes = c .before .before .before .before .before .before .before .shared-slice-known .given in
     let at = loop .c .at in
-    let found = sym (c .before .before .before .found2 .given .1) ∙ c .before .before .before .before .before .read-record .ensures in
+    let found = sym (c .before .before .before .found2 .given .1) ∙ c .before .before .before .before .before .read-token .ensures in
     sym (count-eof roll (λ i. omega (arith, bytes i)) at (loop .c .previous) (loop .count) _ _ _ _ _ found (sym (c .before .is-eof .ensures) ∙ c .if1 .taken)) ∙ loop .inv .0
 
 loop-less : tie.Need-loop-less Inv-loop μ-loop
@@ -67,7 +67,7 @@ loop-less c =
     let roll = c .before .before .before .before .before .before .before .before .args .roll .now in
     let bytes = c .before .before .before .before .before .before .before .shared-slice-known .given in
     let at = loop .c .at in
-    let found = sym (c .before .before .before .found2 .given .1) ∙ c .before .before .before .before .before .read-record .ensures in
+    let found = sym (c .before .before .before .found2 .given .1) ∙ c .before .before .before .before .before .read-token .ensures in
     let on = turn-on roll (λ i. omega (arith, bytes i)) at (loop .c .previous) (loop .count) _ _ _ _ _ found in
     omega (arith, on .0, on .1)
 
@@ -77,7 +77,7 @@ loop-again c =
     let roll = c .before .before .before .before .before .before .before .before .args .roll .now in
     let bytes = c .before .before .before .before .before .before .before .shared-slice-known .given in
     let at = loop .c .at in
-    let found = sym (c .before .before .before .found2 .given .1) ∙ c .before .before .before .before .before .read-record .ensures in
+    let found = sym (c .before .before .before .found2 .given .1) ∙ c .before .before .before .before .before .read-token .ensures in
     let on = turn-on roll (λ i. omega (arith, bytes i)) at (loop .c .previous) (loop .count) _ _ _ _ _ found in
     let more = count-more roll (λ i. omega (arith, bytes i)) at (loop .c .previous) (loop .count) _ _ _ _ _ found (sym (c .before .is-eof .ensures) ∙ c .if1 .left) in
     (sym more ∙ loop .inv .0, omega (arith, loop .inv .1, on .0), on .1)
@@ -89,7 +89,7 @@ read-roll-spec =
     Inv-loop
     μ-loop
     loop-holds
-    read-record-requires
+    read-token-requires
     enum-known-found
     returns
     enum-known-found-2

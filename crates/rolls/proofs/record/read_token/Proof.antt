@@ -4,8 +4,8 @@ use borrow.Author.Needs.{needs}
 use borrow.Author.Tests.{not-true, not-false}
 use Rattle.rolls.specs.code.Record.{yieldOf}
 use Rattle.rolls.proofs.record.Laws.{held-part, step-end, step-few, step-short, step-unknown, step-known}
-use Rattle.rolls.proofs.record.read_record.Statement.{statement}
-use Rattle.rolls.proofs.record.read_record.Tie as tie
+use Rattle.rolls.proofs.record.read_token.Statement.{statement}
+use Rattle.rolls.proofs.record.read_token.Tie as tie
 
 returns : tie.Need-returns
 unfolding yieldOf
@@ -48,8 +48,8 @@ returns-3 c =
     let inside = c .before .before .before .before .if1 .left in
     sym (ap yieldOf (step-short roll at (args .c .previous) _ held inside (c .if3 .taken)))
 
-is-known-requires : tie.Need-is-known-requires
-is-known-requires c κs = search needs
+is-kind-requires : tie.Need-is-kind-requires
+is-kind-requires c κs = search needs
 
 returns-4 : tie.Need-returns-4
 unfolding yieldOf
@@ -59,7 +59,7 @@ returns-4 c =
     let at = args .c .at in
     let read = c .before .before .before .before .read-record .ensures in
     let held = held-part roll at _ (read .1) (read .0) in
-    let unknown = sym (c .before .is-known .ensures) ∙ not-true _ (c .if4 .taken) in
+    let unknown = sym (c .before .is-kind .ensures) ∙ not-true _ (c .if4 .taken) in
     let inside = c .before .before .before .before .before .before .if1 .left in
     let four = c .before .before .before .if2 .left in
     let room = c .before .before .if3 .left in
@@ -75,15 +75,15 @@ returns-5 c =
     let at = args .c .at in
     let read = c .before .before .before .before .before .read-record .ensures in
     let held = held-part roll at _ (read .1) (read .0) in
-    let known = sym (c .before .before .is-known .ensures) ∙ not-false _ (c .before .if4 .left) in
+    let known = sym (c .before .before .is-kind .ensures) ∙ not-false _ (c .before .if4 .left) in
     let inside = c .before .before .before .before .before .before .before .if1 .left in
     let four = c .before .before .before .before .if2 .left in
     let room = c .before .before .before .if3 .left in
     c .yield-held .ensures
     ∙ sym (ap yieldOf (step-known roll at (args .c .previous) _ held inside four room known))
 
-pub read-record-spec : {M : Type 1} → statement M
-read-record-spec =
+pub read-token-spec : {M : Type 1} → statement M
+read-token-spec =
     tie.close
     (tie.spec
     returns
@@ -94,7 +94,7 @@ read-record-spec =
     read-record-requires
     returns-2
     returns-3
-    is-known-requires
+    is-kind-requires
     returns-4
     yield-held-requires
     returns-5)
