@@ -51,6 +51,7 @@ fn put_numbers(out: &mut [u8], w: usize, first: usize, second: usize, third: usi
     put4(out, w + 12, fourth);
 }
 
+// The block of a token.
 fn put_token(answer: &mut [u8], kind: TokenKind, start: usize, end: usize, cut: bool, next: usize)
     requires { ⌜ length (now answer) ≡ 40 ⌝ }
     ensures { λ r. ⌜ now (answer .exit) ≡ tokenBlock (record { kind = kind; start = start; end = end; cut = cut }) next ⌝ }
@@ -61,6 +62,7 @@ fn put_token(answer: &mut [u8], kind: TokenKind, start: usize, end: usize, cut: 
     put8(answer, 32, form.values);
 }
 
+// The block of a refusal: all behind the place is 0.
 fn put_stop(answer: &mut [u8], number: usize, place: usize)
     requires { ⌜ length (now answer) ≡ 40 ⌝ }
     ensures { λ r. ⌜ now (answer .exit) ≡ stopBlock number place ⌝ }

@@ -44,6 +44,7 @@ fn length_for(number: u64) -> u64
     }
 }
 
+// Whether a kind has this number, and its records this length.
 fn is_kind(number: u64, size: u64) -> bool
     ensures { λ r. ⌜ r ≡ isKind number size ⌝ }
 {
@@ -53,6 +54,7 @@ fn is_kind(number: u64, size: u64) -> bool
     size == length_for(number)
 }
 
+// A keyword by its number, from 32 on. What is above 44 counts as `@`.
 fn keyword_for(number: u64) -> Kw
     ensures { λ r. ⌜ r ≡ keywordFor number ⌝ }
 {
@@ -74,7 +76,7 @@ fn keyword_for(number: u64) -> Kw
     }
 }
 
-// The kind of a number, with its values as one number; Eof where the number is no other kind's.
+// The kind of a known number, with its values as one number. A number below 32 that is no other kind's counts as Eof's.
 fn kind_for(number: u64, values: u64) -> TokenKind
     ensures { λ r. ⌜ r ≡ kindFor number values ⌝ }
 {
@@ -132,6 +134,7 @@ fn bad_values(held: Held) -> bool
     }
 }
 
+// Whether 24 is met at the record.
 fn is_wrong(held: Held, previous: usize) -> bool
     ensures { λ r. ⌜ r ≡ isWrong held previous ⌝ }
 {
@@ -181,6 +184,7 @@ fn yield_held(held: Held, at: usize, left: usize, previous: usize) -> Yield
     )
 }
 
+// One step: 22, 23 and 24 in their order, else the token.
 pub fn read_token(roll: &[u8], c: RollCursor) -> Yield
     ensures { λ r. ⌜ r ≡ yieldOf (readAt (now (roll .entry)) (c .at) (c .previous)) ⌝ }
 {

@@ -7,6 +7,7 @@ ghost use mathlib.Core.Path.{_≡_};
 ghost use Rattle.rolls.specs.computed.Roll.{isEof, readRoll};
 ghost use Rattle.rolls.specs.code.Roll.{countedOf};
 
+// How many tokens there are, or number and place of the refusal.
 pub enum Counted {
     Tokens(usize),
     Refused(u32, usize),
@@ -19,6 +20,7 @@ fn is_eof(kind: TokenKind) -> bool
     form.number == TokenKind::EOF
 }
 
+// The loop over the records, from the first.
 pub fn read_roll(roll: &[u8]) -> Counted
     ensures { λ r. ⌜ r ≡ countedOf 0 (readRoll (now (roll .entry))) ⌝ }
 {

@@ -97,7 +97,7 @@ pub data Stepped : Type 0 where
 
 -- The refusals are placed at the record's offset, in their order.
 pub data Steps (roll : List ℕ) (at previous : ℕ) : Stepped → Type 0 where
-  -- 24 also meets a roll that ends without Eof, at the roll's length
+  -- 24 also meets a roll that ends without Eof, at the roll's length. Whoever asks for a record past it is told the same.
   no-eof : length roll ≤ at → Steps roll at previous (stopped 24 (length roll))
   twenty-two : TooFew roll at → Steps roll at previous (stopped 22 at)
   twenty-three : at < length roll → (TooFew roll at → ⊥) → NoKind roll at → Steps roll at previous (stopped 23 at)
