@@ -57,3 +57,12 @@ impl<'r> IntoIterator for &Roll<'r> {
         self.iter()
     }
 }
+
+impl<'r> IntoIterator for Roll<'r> {
+    type Item = Record;
+    type IntoIter = Records<'r>;
+
+    fn into_iter(self) -> Records<'r> {
+        self.iter()
+    }
+}
