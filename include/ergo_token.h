@@ -66,7 +66,8 @@ uint32_t ergo_read_roll(const uint8_t *roll, size_t n, uint8_t *answer, size_t k
  *     at ERGO_STEP_AT_NEXT      the offset of the next record
  *     at ERGO_STEP_AT_VALUES    the values as the record has them from ERGO_RECORD_HEAD on, and zeros behind them
  *
- * On a refusal everything behind the place is 0, the offset of the next record too: whoever steps tests the number. With any other k the answer is 20 and the block keeps its values.
+ * On a refusal everything behind the place is 0, the offset of the next record too: whoever steps tests the number. With any other k the answer
+ * is 20 and the block keeps its values.
  *
  * To read a roll, begin with 0 as `at` and 0 as `previous`; after each token go on with the offset of the next record and the token's end;
  * stop at kind ERGO_EOF or at a refusal. That gives the tokens that ergo_read_roll counts, or its refusal. A host that steps sees tokens
@@ -193,7 +194,8 @@ enum ergo_number {
     ERGO_ANSWER_BLOCK = 20,      /* none, and the block is unchanged: lend a block of ERGO_ANSWER_BYTES bytes, or for ergo_read_record of
                                   * ERGO_STEP_BYTES */
     ERGO_TOKEN_TEXT = 21,        /* of ergo_token_text only: ask for a start and an end as they stand in a record of this script */
-    ERGO_SHORT_ROLL = 22,        /* the record: fewer bytes are left than it has. The roll was cut short, or its length damaged: fetch it again */
+    ERGO_SHORT_ROLL = 22,        /* the record: fewer bytes are left than it has. The roll was cut short, or a record's length damaged: fetch
+                                  * it again */
     ERGO_UNKNOWN_RECORD = 23,    /* the record: no such kind, or a length that is not the kind's. This is no roll, or one of another version: tokenize
                                   * the script again */
     ERGO_DAMAGED_ROLL = 24       /* the record: a field is out of its range, or it starts before the one before it ends; or the first byte after Eof; or

@@ -1,4 +1,4 @@
--- A test that is computed at a few codes, carried to carry-span code that is one of them.
+-- A test that is computed at a few codes, carried to each code that is one of them.
 use Prim.Native.Nat.{ℕ, zero, suc, _+_, _≤_, _<_}
 use mathlib.Core.Path.{_≡_, refl, sym, _∙_}
 use mathlib.Core.Bool.{Bool, true, false, not, _||_, and-eq-true-iff, or-true, or-false}
@@ -66,7 +66,7 @@ agree false y e = sym (not-true y e)
 pub each-same : (f g : ℕ → Bool) (a n c : ℕ) → every (λ x. alike (f x) (g x)) (span a n) ≡ true → a ≤ c → c < a + n → f c ≡ g c
 each-same f g a n c h p q = agree (f c) (g c) (carry-span (λ x. alike (f x) (g x)) a n c h p q)
 
--- ---- a set of ASCII characters as two masks: computed at carry-span code of ASCII, and empty past it
+-- ---- a set of ASCII characters as two masks: computed at each code of ASCII, and empty past it
 
 mask-none : (low high c : ℕ) → 0x80 ≤ c → bitIn low high c ≡ false
 unfolding bitIn
