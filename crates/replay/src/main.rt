@@ -11,135 +11,76 @@
 //
 // A case agrees when ergo_tokenize hands back the number, the block is the one listed, the records stand in the lent bytes, and every other
 // lent byte is as it was.
+use cases::UNTOUCHED;
+use cases::is_listed;
+use check::same;
 use libc::STDIN_FILENO;
 use libc::STDOUT_FILENO;
+use words::read::four;
 ghost use mathlib.Core.Path.{_≡_};
-ghost use Prim.Native.Nat.{_+_, _≤_, _<_, min};
+ghost use mathlib.Core.Bool.{true};
+ghost use mathlib.Core.Logic.{_↔_};
+ghost use Prim.Native.Nat.{_+_, _≤_, _<_};
 ghost use lib.ListN.{length};
-ghost use Rattle.replay.specs.Cases.{numberAt, untouched, zeros, standsAt, isUntouched, holdsRecords, listedBytes, agreesAt, lentAfter, nextAt, caseAt, bufferAt, placeOf, caseCount, differing, bufferAfter, Agreement};
+ghost use Rattle.entry.specs.paper.Host.{bufferSeen};
+ghost use Rattle.cases.specs.Cases.{untouched, Replays};
+ghost use Rattle.replay.specs.Cases.{recordsIn, listedBytes, seenOf, listedOf, CaseAgrees, nextAt};
 
 const HEAD_BYTES: usize = 24;
 
-// What each lent byte holds before a call.
-const UNTOUCHED: u8 = 0xA5;
+// The most bytes that a case lends.
+const ROOM_BYTES: usize = 4096;
 
-fn wide(x: u8) -> usize
-    ensures { λ r. ⌜ r ≡ x ⌝ }
-    ensures { λ r. ⌜ r < 256 ⌝ }
+fn untouched_space() -> [u8; ROOM_BYTES]
+    ensures { λ r. ⌜ r ≡ untouched 4096 ⌝ }
+    ensures { λ r. ⌜ 4096 ≡ length r ⌝ }
 {
-    x as usize
+    [UNTOUCHED; ROOM_BYTES]
 }
 
-// The number whose four bytes start at a place; 0 where they do not all stand there.
-fn number_at(list: &[u8], at: usize) -> usize
-    ensures { λ r. ⌜ r ≡ numberAt (now (list .entry)) at ⌝ }
+// Whether the lent bytes hold these records, and behind them what they held before.
+fn holds_records(lent: &[u8], records: &[u8]) -> bool
+    requires { ⌜ length (now lent) ≤ 4096 ⌝ }
+    ensures { λ r. ⌜ (r ≡ true) ↔ (now (lent .entry) ≡ recordsIn (now (records .entry)) (length (now (lent .entry)))) ⌝ }
 {
-    if list.len() < 4 {
-        return 0;
-    }
-    if at > list.len() - 4 {
-        return 0;
-    }
-    wide(list[at])
-        + wide(list[at + 1]) * 0x100
-        + wide(list[at + 2]) * 0x1_0000
-        + wide(list[at + 3]) * 0x100_0000
-}
-
-fn least(a: usize, b: usize) -> usize
-    ensures { λ r. ⌜ r ≡ min a b ⌝ }
-    ensures { λ r. ⌜ r ≤ b ⌝ }
-{
-    if a < b { a } else { b }
-}
-
-fn fill(lent: &mut [u8])
-    ensures { λ _. ⌜ now (lent .exit) ≡ untouched (length (now (lent .entry))) ⌝ }
-{
-    let mut i: usize = 0;
-    while i < lent.len() {
-        lent[i] = UNTOUCHED;
-        i += 1;
-    }
-}
-
-// Whether the bytes of the list from a place on are those of part.
-fn stands_at(list: &[u8], at: usize, part: &[u8]) -> bool
-    ensures { λ r. ⌜ r ≡ standsAt (now (list .entry)) at (now (part .entry)) ⌝ }
-{
-    if part.len() > list.len() {
-        return false;
-    }
-    if at > list.len() - part.len() {
-        return false;
-    }
-    let mut i: usize = 0;
-    while i < part.len() {
-        let place = at + i;
-        if list[place] != part[i] {
-            return false;
-        }
-        i += 1;
-    }
-    true
-}
-
-fn is_untouched(rest: &[u8]) -> bool
-    ensures { λ r. ⌜ r ≡ isUntouched (now (rest .entry)) ⌝ }
-{
-    let mut i: usize = 0;
-    while i < rest.len() {
-        if rest[i] != UNTOUCHED {
-            return false;
-        }
-        i += 1;
-    }
-    true
-}
-
-// Whether the lent bytes hold the records that the list has from a place on, and behind them what they held before.
-fn holds_records(list: &[u8], at: usize, bytes: usize, lent: &[u8]) -> bool
-    ensures { λ r. ⌜ r ≡ holdsRecords (now (list .entry)) at bytes (now (lent .entry)) ⌝ }
-{
+    let bytes = records.len();
     if bytes > lent.len() {
         return false;
     }
-    if !stands_at(list, at, &lent[..bytes]) {
+    if !same(&lent[..bytes], records) {
         return false;
     }
-    is_untouched(&lent[bytes..])
+    let rest = lent.len() - bytes;
+    let fresh = untouched_space();
+    same(&lent[bytes..], &fresh[..rest])
 }
 
 // How many record bytes the case at a place lists.
 fn listed_bytes(list: &[u8], at: usize) -> usize
-    requires { ⌜ at + 24 ≤ length (now list) ⌝ }
+    requires { ⌜ at + 24 ≤ 18446744073709551615 ⌝ }
     ensures { λ r. ⌜ r ≡ listedBytes (now (list .entry)) at ⌝ }
+    ensures { λ r. ⌜ r < 4294967296 ⌝ }
 {
-    if number_at(list, at + 8) == 0 {
-        return number_at(list, at + 20);
+    if four(list, at + 8) == 0 {
+        return four(list, at + 20) as usize;
     }
     0
 }
 
-// Whether the tokenizer answers the script as the case at a place says. The script stands before `end`, and the records from there on.
-fn agrees(list: &[u8], at: usize, end: usize, bytes: usize, lent: &mut [u8]) -> bool
-    requires { ⌜ at + 24 ≤ end ⌝ }
-    requires { ⌜ end ≤ length (now list) ⌝ }
-    ensures { λ r. ⌜ r ≡ agreesAt (now (list .entry)) at end bytes (length (now (lent .entry))) ⌝ }
-    ensures { λ r. ⌜ now (lent .exit) ≡ lentAfter (now (list .entry)) at end (length (now (lent .entry))) ⌝ }
-    ensures { λ r. ⌜ Agreement (now (list .entry)) at end bytes (length (now (lent .entry))) ⌝ }
+// Whether the tokenizer answers a script as the list says: the block stands at a place of it, and these are the records. The lent bytes are untouched.
+fn agrees(lent: &mut [u8], list: &[u8], at: usize, script: &[u8], records: &[u8]) -> bool
+    requires { ⌜ at + 16 ≤ length (now list) ⌝ }
+    requires { ⌜ length (now lent) ≤ 4096 ⌝ }
+    requires { ⌜ now lent ≡ untouched (length (now lent)) ⌝ }
+    ensures { λ r. ⌜ (r ≡ true) ↔ (seenOf (now (script .entry)) (length (now (lent .entry))) ≡ listedOf (now (list .entry)) at (now (records .entry)) (length (now (lent .entry)))) ⌝ }
+    ensures { λ r. ⌜ now (lent .exit) ≡ bufferSeen (seenOf (now (script .entry)) (length (now (lent .entry)))) ⌝ }
 {
-    let start = at + HEAD_BYTES;
     let mut block = [UNTOUCHED; 16];
-    fill(lent);
-    let number = ergo::ergo_tokenize(&list[start..end], lent, &mut block);
-    if number as usize != number_at(list, at + 8) {
+    let number = ergo::ergo_tokenize(script, lent, &mut block);
+    if !is_listed(list, at, number, &block) {
         return false;
     }
-    if !stands_at(list, at + 8, &block) {
-        return false;
-    }
-    holds_records(list, end, bytes, lent)
+    holds_records(lent, records)
 }
 
 // Where the next case starts, and whether this one agrees.
@@ -148,29 +89,39 @@ struct Replayed {
     agrees: bool,
 }
 
-// The case at a place. One that the end of the list cuts short does not agree.
-fn replay_case(list: &[u8], at: usize, records: &mut [u8]) -> Replayed
+// The case at a place. One that the end of the list cuts short, or that lends more than there is, does not agree.
+fn replay_case(list: &[u8], at: usize) -> Replayed
     requires { ⌜ at < length (now list) ⌝ }
     ensures { λ r. ⌜ r .next ≡ nextAt (now (list .entry)) at ⌝ }
     ensures { λ r. ⌜ (at < r .next) × (r .next ≤ length (now (list .entry))) ⌝ }
-    ensures { λ r. ⌜ r .agrees ≡ caseAt (now (list .entry)) at (length (now (records .entry))) ⌝ }
-    ensures { λ r. ⌜ now (records .exit) ≡ bufferAt (now (list .entry)) at (now (records .entry)) ⌝ }
+    ensures { λ r. ⌜ (r .agrees ≡ true) ↔ CaseAgrees (now (list .entry)) at ⌝ }
 {
-    let left = list.len() - at;
-    if left < HEAD_BYTES {
+    let start = at + HEAD_BYTES;
+    let end = start + four(list, at) as usize;
+    let next = end + listed_bytes(list, at);
+    if next > list.len() {
         return Replayed {
             next: list.len(),
             agrees: false,
         };
     }
-    let start = at + HEAD_BYTES;
-    let end = start + least(number_at(list, at), list.len() - start);
-    let bytes = least(listed_bytes(list, at), list.len() - end);
-    let lent = least(number_at(list, at + 4), records.len());
-    let same = agrees(list, at, end, bytes, &mut records[..lent]);
+    let room = four(list, at + 4) as usize;
+    if room > ROOM_BYTES {
+        return Replayed {
+            next: next,
+            agrees: false,
+        };
+    }
+    let mut lent = untouched_space();
     Replayed {
-        next: end + bytes,
-        agrees: same,
+        next: next,
+        agrees: agrees(
+            &mut lent[..room],
+            list,
+            at + 8,
+            &list[start..end],
+            &list[end..next],
+        ),
     }
 }
 
@@ -180,18 +131,15 @@ struct Counts {
     differ: u64,
 }
 
-// The cases of the list, from its start on. The third clause says that they reach to its end.
-fn replay(list: &[u8], records: &mut [u8]) -> Counts
-    ensures { λ r. ⌜ r .scripts ≡ caseCount (now (list .entry)) ⌝ }
-    ensures { λ r. ⌜ r .differ ≡ differing (now (list .entry)) (length (now (records .entry))) (r .scripts) ⌝ }
-    ensures { λ r. ⌜ placeOf (now (list .entry)) (r .scripts) ≡ length (now (list .entry)) ⌝ }
-    ensures { λ r. ⌜ now (records .exit) ≡ bufferAfter (now (list .entry)) (now (records .entry)) (r .scripts) ⌝ }
+// The cases of the list, from its start to its end.
+fn replay(list: &[u8]) -> Counts
+    ensures { λ r. ⌜ Replays (now (list .entry)) (nextAt (now (list .entry))) (CaseAgrees (now (list .entry))) (length (now (list .entry))) (r .scripts) (r .differ) ⌝ }
 {
     let mut at: usize = 0;
     let mut scripts: u64 = 0;
     let mut differ: u64 = 0;
     while at < list.len() {
-        let one = replay_case(list, at, records);
+        let one = replay_case(list, at);
         scripts += 1;
         if !one.agrees {
             differ += 1;
@@ -204,20 +152,11 @@ fn replay(list: &[u8], records: &mut [u8]) -> Counts
     }
 }
 
-// Room for the list.
-fn list_space() -> [u8; 1048576]
-    ensures { λ r. ⌜ r ≡ zeros 1048576 ⌝ }
-    ensures { λ r. ⌜ 1048576 ≡ length r ⌝ }
-{
-    [0; 1048576]
-}
-
 // No ensures: no contract can speak of what was written to standard output.
 fn main() {
-    let mut list = list_space();
-    let mut records = io::large_buffer();
+    let mut list = cases::list_space();
     let n = io::read_full(STDIN_FILENO, &mut list);
-    let counts = replay(&list[..n], &mut records);
+    let counts = replay(&list[..n]);
     io::print_decimal(STDOUT_FILENO, counts.scripts);
     io::write_all(STDOUT_FILENO, b" scripts replayed, ");
     io::print_decimal(STDOUT_FILENO, counts.differ);

@@ -1,5 +1,5 @@
-// Replays the answers of a second reader of rolls, which calls nothing of the crates. `rt check roll_replay` runs it on `stdin`, which `compare/rolls` wrote, and holds what
-// it prints to `stdout`.
+// Replays the answers of a second reader of rolls, which calls nothing of the crates. `rt check roll_replay` runs it on `stdin`, which
+// `compare/rolls` wrote, and holds what it prints to `stdout`.
 //
 // Standard input holds cases, one directly after the other, up to its end. Numbers are four bytes each, little-endian. A case is
 //
@@ -11,6 +11,8 @@
 //
 // A case agrees when ergo_read_roll hands back the number that the roll's block begins with and fills the block as it is listed, and
 // ergo_read_record does so for each record.
+use cases::UNTOUCHED;
+use cases::is_listed;
 use libc::STDIN_FILENO;
 use libc::STDOUT_FILENO;
 use words::read::four;
@@ -19,47 +21,16 @@ ghost use mathlib.Core.Bool.{true};
 ghost use mathlib.Core.Logic.{_↔_};
 ghost use Prim.Native.Nat.{_+_, _*_, _≤_, _<_};
 ghost use lib.ListN.{length};
-ghost use Rattle.roll_replay.specs.Cases.{same as sameBytes, isListed, rollAgrees, recordAgrees, recordsAgree, nextAt, caseAt, placeOf, caseCount, differing, zeros};
+ghost use Rattle.cases.specs.Cases.{Replays};
+ghost use Rattle.roll_replay.specs.Cases.{RollAgrees, RecordAgrees, RecordsAgree, CaseAgrees, nextAt};
 
 const HEAD_BYTES: usize = 24;
 
 const ASKED_BYTES: usize = 48;
 
-// What each byte of a block holds before a call.
-const UNTOUCHED: u8 = 0xA5;
-
-fn same(a: &[u8], b: &[u8]) -> bool
-    ensures { λ r. ⌜ r ≡ sameBytes (now (a .entry)) (now (b .entry)) ⌝ }
-    ensures { λ r. ⌜ (r ≡ true) ↔ (now (a .entry) ≡ now (b .entry)) ⌝ }
-{
-    if a.len() != b.len() {
-        return false;
-    }
-    let mut i: usize = 0;
-    while i < a.len() {
-        if a[i] != b[i] {
-            return false;
-        }
-        i += 1;
-    }
-    true
-}
-
-// Whether the list has this block at a place, and the number first in it.
-fn is_listed(list: &[u8], at: usize, number: u32, block: &[u8]) -> bool
-    requires { ⌜ at + length (now block) ≤ length (now list) ⌝ }
-    ensures { λ r. ⌜ r ≡ isListed (now (list .entry)) at number (now (block .entry)) ⌝ }
-{
-    if number as u64 != four(list, at) {
-        return false;
-    }
-    let end = at + block.len();
-    same(&list[at..end], block)
-}
-
 fn roll_agrees(list: &[u8], at: usize, roll: &[u8]) -> bool
     requires { ⌜ at + 16 ≤ length (now list) ⌝ }
-    ensures { λ r. ⌜ r ≡ rollAgrees (now (list .entry)) at (now (roll .entry)) ⌝ }
+    ensures { λ r. ⌜ (r ≡ true) ↔ RollAgrees (now (list .entry)) at (now (roll .entry)) ⌝ }
 {
     let mut block = [UNTOUCHED; 16];
     let number = ergo::ergo_read_roll(roll, &mut block);
@@ -67,9 +38,9 @@ fn roll_agrees(list: &[u8], at: usize, roll: &[u8]) -> bool
 }
 
 // The record that is asked for at a place of the list.
-fn record_agrees(list: &[u8], at: usize, roll: &[u8]) -> bool
+fn record_agrees(list: &[u8], roll: &[u8], at: usize) -> bool
     requires { ⌜ at + 48 ≤ length (now list) ⌝ }
-    ensures { λ r. ⌜ r ≡ recordAgrees (now (list .entry)) at (now (roll .entry)) ⌝ }
+    ensures { λ r. ⌜ (r ≡ true) ↔ RecordAgrees (now (list .entry)) (now (roll .entry)) at ⌝ }
 {
     let offset = four(list, at) as u32;
     let previous = four(list, at + 4) as u32;
@@ -79,18 +50,16 @@ fn record_agrees(list: &[u8], at: usize, roll: &[u8]) -> bool
 }
 
 // So many records asked for, from a place on.
-fn records_agree(list: &[u8], from: usize, count: usize, roll: &[u8]) -> bool
+fn records_agree(list: &[u8], roll: &[u8], from: usize, count: usize) -> bool
     requires { ⌜ from + 48 * count ≤ length (now list) ⌝ }
-    ensures { λ r. ⌜ r ≡ recordsAgree count (now (list .entry)) from (now (roll .entry)) ⌝ }
+    ensures { λ r. ⌜ (r ≡ true) ↔ RecordsAgree (now (list .entry)) (now (roll .entry)) from count ⌝ }
 {
-    let mut at = from;
-    let mut left = count;
-    while left > 0 {
-        if !record_agrees(list, at, roll) {
+    let mut k: usize = 0;
+    while k < count {
+        if !record_agrees(list, roll, from + ASKED_BYTES * k) {
             return false;
         }
-        at += ASKED_BYTES;
-        left -= 1;
+        k += 1;
     }
     true
 }
@@ -106,7 +75,7 @@ fn replay_case(list: &[u8], at: usize) -> Replayed
     requires { ⌜ at < length (now list) ⌝ }
     ensures { λ r. ⌜ r .next ≡ nextAt (now (list .entry)) at ⌝ }
     ensures { λ r. ⌜ (at < r .next) × (r .next ≤ length (now (list .entry))) ⌝ }
-    ensures { λ r. ⌜ r .agrees ≡ caseAt (now (list .entry)) at ⌝ }
+    ensures { λ r. ⌜ (r .agrees ≡ true) ↔ CaseAgrees (now (list .entry)) at ⌝ }
 {
     let start = at + HEAD_BYTES;
     let end = start + four(list, at) as usize;
@@ -126,7 +95,7 @@ fn replay_case(list: &[u8], at: usize) -> Replayed
     }
     Replayed {
         next: next,
-        agrees: records_agree(list, end, count, &list[start..end]),
+        agrees: records_agree(list, &list[start..end], end, count),
     }
 }
 
@@ -136,11 +105,9 @@ struct Counts {
     differ: u64,
 }
 
-// The cases of the list, from its start on. The third clause says that they reach to its end.
+// The cases of the list, from its start to its end.
 fn replay(list: &[u8]) -> Counts
-    ensures { λ r. ⌜ r .rolls ≡ caseCount (now (list .entry)) ⌝ }
-    ensures { λ r. ⌜ r .differ ≡ differing (now (list .entry)) (r .rolls) ⌝ }
-    ensures { λ r. ⌜ placeOf (now (list .entry)) (r .rolls) ≡ length (now (list .entry)) ⌝ }
+    ensures { λ r. ⌜ Replays (now (list .entry)) (nextAt (now (list .entry))) (CaseAgrees (now (list .entry))) (length (now (list .entry))) (r .rolls) (r .differ) ⌝ }
 {
     let mut at: usize = 0;
     let mut rolls: u64 = 0;
@@ -159,17 +126,9 @@ fn replay(list: &[u8]) -> Counts
     }
 }
 
-// Room for the list.
-fn list_space() -> [u8; 524288]
-    ensures { λ r. ⌜ r ≡ zeros 524288 ⌝ }
-    ensures { λ r. ⌜ 524288 ≡ length r ⌝ }
-{
-    [0; 524288]
-}
-
 // No ensures: no contract can speak of what was written to standard output.
 fn main() {
-    let mut list = list_space();
+    let mut list = cases::list_space();
     let n = io::read_full(STDIN_FILENO, &mut list);
     let counts = replay(&list[..n]);
     io::print_decimal(STDOUT_FILENO, counts.rolls);

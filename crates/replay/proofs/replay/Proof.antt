@@ -1,22 +1,25 @@
 -- `replay::replay` meets its contract: what it has counted is that of the cases passed. Each case starts behind the one before it.
 -- Assumes nothing.
-use Prim.Native.Nat.{_-_}
+use Prim.Native.Nat.{_-_, _≤_}
 use lib.ListN.{length}
 use native.Mathlib.Omega.{arith}
 use borrow.Author.Needs.{needs}
 use borrow.Author.Tests.{not-true, not-false}
-use Rattle.replay.proofs.Laws.{Turn, turn-start, turn-differ, turn-agree, turn-end}
+use Rattle.cases.specs.Cases.{Replays}
+use Rattle.cases.proofs.Laws.{replays-agree, replays-differ, replays-end}
+use Rattle.replay.specs.Cases.{CaseAgrees, nextAt}
 use Rattle.replay.proofs.replay.Statement.{statement}
 use Rattle.replay.proofs.replay.Tie as tie
 
 abbrev Inv-loop : tie.InvT-loop
-Inv-loop list records₀ at₀ scripts₀ differ₀ records at scripts differ = Turn list records₀ records at scripts differ
+Inv-loop list at₀ scripts₀ differ₀ at scripts differ =
+    Replays list (nextAt list) (CaseAgrees list) at scripts differ × (scripts ≤ at) × (differ ≤ scripts) × (at ≤ length list)
 
 abbrev μ-loop : tie.MeasureT-loop
-μ-loop list records₀ at₀ scripts₀ differ₀ records at scripts differ = length list - at
+μ-loop list at₀ scripts₀ differ₀ at scripts differ = length list - at
 
 loop-holds : tie.Need-loop-holds Inv-loop μ-loop
-loop-holds c = turn-start (c .before .before .args .list .now) (c .before .before .args .records .now)
+loop-holds c = (Replays.begun, omega arith, omega arith, omega arith)
 
 replay-case-requires : tie.Need-replay-case-requires Inv-loop μ-loop
 replay-case-requires c κs = search needs
@@ -32,33 +35,27 @@ loop-less c = omega arith
 
 loop-again : tie.Need-loop-again Inv-loop μ-loop
 loop-again c =
-    let call = c .before .before .before .before in
-    let turn = call .before .before .before in
-    let next = call .replay-case .ensures in
-    let one = next .1 .1 in
-    turn-differ (turn .loop .inv) (call .before .before .loop-test .taken) (next .0) (next .1 .0 .0) (next .1 .0 .1) (one .0) (one .1) (search needs)
-    (not-true _ (c .if1 .taken))
+    let call = c .before .before in
+    let one = call .replay-case .ensures in
+    let test = call .before in
+    let turn = replays-differ (test .before .loop .inv .0) (test .loop-test .taken) (one .0) (one .1 .1) (not-true _ (c .if1 .taken)) in
+    (turn, omega arith, omega arith, omega arith)
 
 loop-less-2 : tie.Need-loop-less-2 Inv-loop μ-loop
 loop-less-2 c = omega arith
 
 loop-again-2 : tie.Need-loop-again-2 Inv-loop μ-loop
 loop-again-2 c =
-    let call = c .before .before .before .before in
-    let turn = call .before .before .before in
-    let next = call .replay-case .ensures in
-    let one = next .1 .1 in
-    turn-agree (turn .loop .inv) (call .before .before .loop-test .taken) (next .0) (next .1 .0 .0) (next .1 .0 .1) (one .0) (one .1) (search needs)
-    (not-false _ (c .if1 .left))
-
-same-length : tie.Need-same-length Inv-loop μ-loop
-same-length c = search needs
+    let call = c .before .before in
+    let one = call .replay-case .ensures in
+    let test = call .before in
+    let turn = replays-agree (test .before .loop .inv .0) (test .loop-test .taken) (one .0) (one .1 .1) (not-false _ (c .if1 .left)) in
+    (turn, omega arith, omega arith, omega arith)
 
 returns : tie.Need-returns Inv-loop μ-loop
 returns c =
     let inv = c .before .loop .inv in
-    let end = turn-end inv (c .loop-test .left) in
-    (end .0, (inv .differs, (end .1, inv .buffer)))
+    replays-end (inv .0) (c .loop-test .left) (inv .3)
 
 pub replay-spec : {M : Type 1} → statement M
 replay-spec =
@@ -74,5 +71,4 @@ replay-spec =
     loop-again
     loop-less-2
     loop-again-2
-    same-length
     returns)

@@ -1,25 +1,31 @@
--- `roll_replay::records_agree` meets its contract: the answer for the records left is the answer for all.
+-- `roll_replay::records_agree` meets its contract: those that the loop has passed agree.
 -- Assumes nothing.
-use Prim.Native.Nat.{_+_, _*_, _≤_}
+use Prim.Native.Nat.{_-_, _≤_}
 use borrow.Author.Needs.{needs}
 use borrow.Author.Tests.{not-true, not-false}
-use lib.ListN.{length}
-use mathlib.Core.Path.{_≡_, refl, sym, _∙_}
+use mathlib.Core.Bool.{false≢true}
+use mathlib.Core.Path.{refl, sym, _∙_}
 use native.Mathlib.Omega.{arith}
-use Rattle.roll_replay.proofs.Laws.{records-on, records-off, records-end}
-use Rattle.roll_replay.specs.Cases.{recordsAgree}
+use Rattle.cases.proofs.Laws.{says-no}
+use Rattle.roll_replay.proofs.Laws.{records-on}
+use Rattle.roll_replay.specs.Cases.{RecordsAgree}
 use Rattle.roll_replay.proofs.records_agree.Statement.{statement}
 use Rattle.roll_replay.proofs.records_agree.Tie as tie
 
 abbrev Inv-loop : tie.InvT-loop
-Inv-loop list from count roll at₀ left₀ at left =
-    (at + 48 * left ≤ length list) × (recordsAgree left list at roll ≡ recordsAgree count list from roll)
+Inv-loop list roll from count k₀ k = (k ≤ count) × RecordsAgree list roll from k
 
 abbrev μ-loop : tie.MeasureT-loop
-μ-loop list from count roll at₀ left₀ at left = left
+μ-loop list roll from count k₀ k = count - k
 
 loop-holds : tie.Need-loop-holds Inv-loop μ-loop
-loop-holds c = (search needs, refl)
+loop-holds c = (omega arith, λ k h. absurd (omega arith))
+
+mul-record-agrees : tie.Need-mul-record-agrees Inv-loop μ-loop
+mul-record-agrees c = omega arith
+
+add-record-agrees : tie.Need-add-record-agrees Inv-loop μ-loop
+add-record-agrees c = omega arith
 
 record-agrees-requires : tie.Need-record-agrees-requires Inv-loop μ-loop
 record-agrees-requires c κs = omega arith
@@ -27,14 +33,10 @@ record-agrees-requires c κs = omega arith
 returns : tie.Need-returns Inv-loop μ-loop
 returns c =
     let test = c .before .before in
-    let one = sym (c .before .record-agrees .ensures) ∙ not-true _ (c .if1 .taken) in
-    sym (records-off _ _ _ (test .loop-test .taken) one) ∙ test .before .loop .inv .1
+    says-no (λ all. false≢true (sym (not-true _ (c .if1 .taken)) ∙ c .before .record-agrees .ensures .1 (all _ (test .loop-test .taken))))
 
-add-at : tie.Need-add-at Inv-loop μ-loop
-add-at c = omega arith
-
-sub-left : tie.Need-sub-left Inv-loop μ-loop
-sub-left c = search needs
+add-k : tie.Need-add-k Inv-loop μ-loop
+add-k c = omega arith
 
 loop-less : tie.Need-loop-less Inv-loop μ-loop
 loop-less c = omega arith
@@ -42,11 +44,12 @@ loop-less c = omega arith
 loop-again : tie.Need-loop-again Inv-loop μ-loop
 loop-again c =
     let test = c .before .before in
-    let one = sym (c .before .record-agrees .ensures) ∙ not-false _ (c .if1 .left) in
-    (omega arith, records-on _ _ _ (test .loop-test .taken) one ∙ test .before .loop .inv .1)
+    (omega arith, records-on _ _ _ _ (c .before .record-agrees .ensures) (not-false _ (c .if1 .left)) (test .before .loop .inv .1))
 
 returns-2 : tie.Need-returns-2 Inv-loop μ-loop
-returns-2 c = sym (records-end _ _ _ (c .loop-test .left)) ∙ c .before .loop .inv .1
+returns-2 c =
+    let inv = c .before .loop .inv in
+    (λ e k h. inv .1 k (omega arith), λ all. refl)
 
 pub records-agree-spec : {M : Type 1} → statement M
 records-agree-spec =
@@ -55,10 +58,11 @@ records-agree-spec =
     Inv-loop
     μ-loop
     loop-holds
+    mul-record-agrees
+    add-record-agrees
     record-agrees-requires
     returns
-    add-at
-    sub-left
+    add-k
     loop-less
     loop-again
     returns-2)

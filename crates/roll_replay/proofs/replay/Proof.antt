@@ -1,22 +1,25 @@
 -- `roll_replay::replay` meets its contract: what it has counted is that of the cases passed. Each case starts behind the one before it.
 -- Assumes nothing.
-use Prim.Native.Nat.{_-_}
+use Prim.Native.Nat.{_-_, _≤_}
 use lib.ListN.{length}
 use native.Mathlib.Omega.{arith}
 use borrow.Author.Needs.{needs}
 use borrow.Author.Tests.{not-true, not-false}
-use Rattle.roll_replay.proofs.Laws.{Turn, turn-start, turn-differ, turn-agree, turn-end}
+use Rattle.cases.specs.Cases.{Replays}
+use Rattle.cases.proofs.Laws.{replays-agree, replays-differ, replays-end}
+use Rattle.roll_replay.specs.Cases.{CaseAgrees, nextAt}
 use Rattle.roll_replay.proofs.replay.Statement.{statement}
 use Rattle.roll_replay.proofs.replay.Tie as tie
 
 abbrev Inv-loop : tie.InvT-loop
-Inv-loop list at₀ rolls₀ differ₀ at rolls differ = Turn list at rolls differ
+Inv-loop list at₀ rolls₀ differ₀ at rolls differ =
+    Replays list (nextAt list) (CaseAgrees list) at rolls differ × (rolls ≤ at) × (differ ≤ rolls) × (at ≤ length list)
 
 abbrev μ-loop : tie.MeasureT-loop
 μ-loop list at₀ rolls₀ differ₀ at rolls differ = length list - at
 
 loop-holds : tie.Need-loop-holds Inv-loop μ-loop
-loop-holds c = turn-start _
+loop-holds c = (Replays.begun, omega arith, omega arith, omega arith)
 
 replay-case-requires : tie.Need-replay-case-requires Inv-loop μ-loop
 replay-case-requires c κs = search needs
@@ -35,7 +38,8 @@ loop-again c =
     let call = c .before .before in
     let one = call .replay-case .ensures in
     let test = call .before in
-    turn-differ (test .before .loop .inv) (test .loop-test .taken) (one .0) (one .1 .0 .0) (one .1 .0 .1) (one .1 .1) (not-true _ (c .if1 .taken))
+    let turn = replays-differ (test .before .loop .inv .0) (test .loop-test .taken) (one .0) (one .1 .1) (not-true _ (c .if1 .taken)) in
+    (turn, omega arith, omega arith, omega arith)
 
 loop-less-2 : tie.Need-loop-less-2 Inv-loop μ-loop
 loop-less-2 c = omega arith
@@ -45,13 +49,13 @@ loop-again-2 c =
     let call = c .before .before in
     let one = call .replay-case .ensures in
     let test = call .before in
-    turn-agree (test .before .loop .inv) (test .loop-test .taken) (one .0) (one .1 .0 .0) (one .1 .0 .1) (one .1 .1) (not-false _ (c .if1 .left))
+    let turn = replays-agree (test .before .loop .inv .0) (test .loop-test .taken) (one .0) (one .1 .1) (not-false _ (c .if1 .left)) in
+    (turn, omega arith, omega arith, omega arith)
 
 returns : tie.Need-returns Inv-loop μ-loop
 returns c =
     let inv = c .before .loop .inv in
-    let end = turn-end inv (c .loop-test .left) in
-    (end .0, (inv .differs, end .1))
+    replays-end (inv .0) (c .loop-test .left) (inv .3)
 
 pub replay-spec : {M : Type 1} → statement M
 replay-spec =

@@ -2,9 +2,8 @@
 -- Assumes nothing.
 use borrow.Author.Needs.{needs}
 use borrow.Author.Tests.{not-true, not-false}
-use mathlib.Core.Path.{sym, _∙_}
 use native.Mathlib.Omega.{arith}
-use Rattle.roll_replay.proofs.Laws.{cut-next, cut-case, next-is, roll-off, case-is}
+use Rattle.roll_replay.proofs.Laws.{next-is, case-cut, roll-off, case-is}
 use Rattle.roll_replay.proofs.replay_case.Statement.{statement}
 use Rattle.roll_replay.proofs.replay_case.Tie as tie
 
@@ -32,10 +31,11 @@ add-next c = search needs
 returns : tie.Need-returns
 returns c =
     let args = c .before .before .before .before .args in
+    let list = args .list .now in
+    let at = args .at in
     let first = c .before .before .four .ensures .0 in
     let second = c .before .four2 .ensures .0 in
-    let short = c .if1 .taken in
-    (cut-next (args .list .now) (args .at) first second short, ((omega arith, omega arith), cut-case (args .list .now) (args .at) first second short))
+    (next-is list at first second (omega arith), ((omega arith, omega arith), case-cut list at first second (c .if1 .taken)))
 
 add-roll-agrees : tie.Need-add-roll-agrees
 add-roll-agrees c = search needs
@@ -56,13 +56,12 @@ returns-2 : tie.Need-returns-2
 returns-2 c =
     let test = c .before .before .before in
     let args = test .before .before .before .before .args in
-    let first = test .before .before .four .ensures .0 in
-    let second = test .before .four2 .ensures .0 in
-    let fits = test .if1 .left in
-    let off = sym (c .before .roll-agrees .ensures) ∙ not-true _ (c .if2 .taken) in
     let list = args .list .now in
     let at = args .at in
-    (next-is list at first second fits, ((omega arith, omega arith), roll-off list at first second fits off))
+    let first = test .before .before .four .ensures .0 in
+    let second = test .before .four2 .ensures .0 in
+    let off = roll-off list at first second (c .before .roll-agrees .ensures) (not-true _ (c .if2 .taken)) in
+    (next-is list at first second (omega arith), ((omega arith, omega arith), off))
 
 sub-records-agree : tie.Need-sub-records-agree
 sub-records-agree c = search needs
@@ -81,13 +80,13 @@ returns-3 c =
     let roll = c .before .before in
     let test = roll .before .before .before in
     let args = test .before .before .before .before .args in
-    let first = test .before .before .four .ensures .0 in
-    let second = test .before .four2 .ensures .0 in
-    let fits = test .if1 .left in
-    let on = sym (roll .before .roll-agrees .ensures) ∙ not-false _ (roll .if2 .left) in
     let list = args .list .now in
     let at = args .at in
-    (next-is list at first second fits, ((omega arith, omega arith), case-is list at first second fits on (c .records-agree .ensures)))
+    let first = test .before .before .four .ensures .0 in
+    let second = test .before .four2 .ensures .0 in
+    let on = not-false _ (roll .if2 .left) in
+    let agrees = case-is list at first second (roll .before .roll-agrees .ensures) (test .if1 .left) on (c .records-agree .ensures) in
+    (next-is list at first second (omega arith), ((omega arith, omega arith), agrees))
 
 pub replay-case-spec : {M : Type 1} → statement M
 replay-case-spec =

@@ -1,16 +1,15 @@
--- `roll_replay::is_listed` meets its contract, by its callees'.
+-- `cases::is_listed` meets its contract, by its callees'.
 -- Assumes nothing.
 use borrow.Author.Needs.{needs}
-use mathlib.Core.Path.{sym}
-use Rattle.roll_replay.proofs.Laws.{listed-off, listed-is}
-use Rattle.roll_replay.proofs.is_listed.Statement.{statement}
-use Rattle.roll_replay.proofs.is_listed.Tie as tie
+use Rattle.cases.proofs.Laws.{listed-off, listed-is}
+use Rattle.cases.proofs.is_listed.Statement.{statement}
+use Rattle.cases.proofs.is_listed.Tie as tie
 
 four-requires : tie.Need-four-requires
 four-requires c κs = search needs
 
 returns : tie.Need-returns
-returns c = sym (listed-off _ _ _ (c .before .four .ensures .0) (c .if1 .taken))
+returns c = listed-off _ _ _ (c .before .four .ensures .0) (c .if1 .taken)
 
 add-end : tie.Need-add-end
 add-end c = search needs
@@ -30,7 +29,7 @@ same-requires c κs = search needs
 returns-2 : tie.Need-returns-2
 returns-2 c =
     let test = c .before .before in
-    listed-is _ _ _ (test .before .four .ensures .0) (test .if1 .left) (c .same .ensures .0)
+    listed-is _ _ _ (test .before .four .ensures .0) (test .if1 .left) (c .same .ensures)
 
 pub is-listed-spec : {M : Type 1} → statement M
 is-listed-spec =

@@ -1,0 +1,2 @@
+-- Laws of lists of cases.
+pub mod Laws
