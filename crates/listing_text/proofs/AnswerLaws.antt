@@ -103,7 +103,7 @@ seen-text {script} {buffer} (Sees.accepted {ts} r l) b s m =
     ap (λ k. recordLines (take k held)) (block-bytes 0 0 (tokenCount ts) size (omega arith))
     ∙ ap recordLines (take-at (records ts) (drop size buffer) size (records-length ts))
     ∙ records-shown (length script) (omega arith) ts (all-bounded script ts (r .tokensOf))
-    ∙ listed-answer script (r .clean .utf8) (Answer.accepted ts) e
+    ∙ listed-answer script (r .clean .utf8) (Answer.tokenized ts) e
 
 pub long-text : (script : List ℕ) → mostScript < length script → codes "long\n" ≡ printed script
 unfolding printed
