@@ -30,7 +30,7 @@ extern "C" {
  * The buffer: ERGO_RECORD_BOUND(n) bytes are enough for every script of n bytes. To learn the exact need, call with m = 0: an acceptable
  * script is answered 19, with token count and record bytes in the block. A second call with that many bytes is then accepted.
  *
- * Length 0 with any pointer, NULL included, is passed as an empty slice. That was run from C; nothing in the proof speaks of pointers. The
+ * Length 0 with any pointer, NULL included, is passed as an empty slice. That was run from C; no exported contract speaks of pointers. The
  * three parts of memory must be readable, the last two also writable, for their lengths, and must not overlap: the proof takes that from
  * the caller. */
 uint32_t ergo_tokenize(const uint8_t *script, size_t n, uint8_t *records, size_t m, uint8_t *answer, size_t k);

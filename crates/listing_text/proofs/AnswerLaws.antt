@@ -7,7 +7,7 @@ use lib.ListN.{length, take, drop, length-replicate}
 use lib.Dec.{leb}
 use lib.Seq.{take-all, take-at}
 use native.Mathlib.Omega.{arith}
-use borrow.Author.Tests.{le-leb, lt-leb, leb-true, leb-false, le-ltb, lt-ltb, eq-eqb, ne-eqb}
+use borrow.Author.Tests.{le-leb, lt-leb, leb-true, leb-false, eq-eqb, ne-eqb}
 use Rattle.words.specs.Words.{le4, fourAt, blockOf}
 use Rattle.words.proofs.Joins.{four-drop, four-le4}
 use Rattle.chars.specs.paper.Quoted.{codes}
@@ -15,15 +15,17 @@ use Rattle.chars.specs.paper.Utf8.{WellFormed}
 use Rattle.chars.specs.computed.Valid.{validPrefix}
 use Rattle.chars.specs.promises.Utf8.{ValidLaws}
 use Rattle.chars.proofs.theorems.Promises.{valid-laws}
-use Rattle.token.specs.paper.Records.{mostNeed, records, tokenCount, recordBytes}
-use Rattle.token.specs.computed.Answer.{Answer, answer}
-use Rattle.token.specs.computed.Listing.{refusedAt, listing}
+use Rattle.token.specs.paper.Kinds.{Token}
+use Rattle.token.specs.paper.Records.{mostBytes, mostNeed, records, tokenCount, recordBytes}
+use Rattle.token.specs.computed.Answer.{tokenized, refused, answer}
+use Rattle.token.specs.computed.Listing.{shown, refusedAt}
 use Rattle.token.proofs.theorems.Alone.{records-length}
 use Rattle.token.proofs.theorems.Bounded.{all-bounded, refused-within}
 use Rattle.token.proofs.theorems.Theorems.{refusal, need, answer-tokens}
 use Rattle.entry.specs.paper.Host.{Seen, seen, Sees}
-use Rattle.entry.specs.computed.Host.{hostOf}
-use Rattle.entry.specs.computed.Listing.{listingOf}
+use Rattle.entry.specs.computed.Host.{byRoom, verdict, hostOf}
+use Rattle.entry.specs.computed.Listing.{verdictText, listingOf}
+use Rattle.entry.proofs.host.Verdicts.{verdict-18, verdict-rest, room-granted, room-rejected}
 use Rattle.entry.proofs.theorems.Hosts.{met-range, sees-host}
 use Rattle.listing_text.specs.Lines.{recordLines, answerText, zeros, mostScript, recordsRoom, printed}
 use Rattle.listing_text.proofs.TokenLines.{records-shown}
@@ -67,31 +69,39 @@ block-bytes j a count bytes h = four-drop (blockOf j a count bytes) 12 ∙ four-
 
 -- over tokens, case by case
 module _ (script : List ℕ) where
-  listed-18 : validPrefix script < length script → refusedAt 18 (validPrefix script) ≡ listingOf script
-  unfolding listingOf
-  listed-18 l = sym (rw (lt-ltb (validPrefix script) (length script) l))
+  abbrev room : ℕ
+  room = mostNeed (length script)
 
-  listed-answer : WellFormed script → (w : Answer) → answer script ≡ w → listing w ≡ listingOf script
-  unfolding listingOf
-  listed-answer u w e =
-      let v = valid-all script u in
-      sym (rw (le-ltb (validPrefix script) (length script) (omega arith), e))
+  listed-18 : length script ≤ mostBytes → validPrefix script < length script → refusedAt 18 (validPrefix script) ≡ listingOf script
+  unfolding listingOf verdictText
+  listed-18 l v = sym (ap verdictText (verdict-18 script room l v))
+
+  verdict-answer : length script ≤ mostBytes → WellFormed script → verdict script room ≡ byRoom room (answer script)
+  verdict-answer l u = let v = valid-all script u in verdict-rest script room l (omega arith)
+
+  listed-refused : length script ≤ mostBytes → WellFormed script → (j a : ℕ) → answer script ≡ refused j a → refusedAt j a ≡ listingOf script
+  unfolding listingOf verdictText
+  listed-refused l u j a e = sym (ap verdictText (verdict-answer l u ∙ room-rejected room (answer script) j a e))
+
+  listed-tokens : length script ≤ mostBytes → WellFormed script → (ts : List Token) → answer script ≡ tokenized ts → shown ts ≡ listingOf script
+  unfolding listingOf verdictText
+  listed-tokens l u ts e = sym (ap verdictText (verdict-answer l u ∙ room-granted room (answer script) ts e (need script ts e)))
 
 -- What the host sees that lends enough for a short script gives the listing over its tokens.
 seen-text : {script buffer block : List ℕ} {x : Seen} → Sees script buffer block x → length block ≡ 16 → length script ≤ mostScript
     → mostNeed (length script) ≤ length buffer → answerText x ≡ listingOf script
-unfolding answerText listing
+unfolding answerText
 seen-text (Sees.twenty z) b s m = absurd (z b)
 seen-text (Sees.seventeen e l) b s m = absurd (omega arith)
 seen-text {script} (Sees.eighteen {n} z v l) b s m =
     let e : n ≡ validPrefix script = longest-one v (valid script) in
-    ap (refusedAt 18) (block-place 18 n 0 0 (omega arith) ∙ e) ∙ listed-18 script (omega arith)
+    ap (refusedAt 18) (block-place 18 n 0 0 (omega arith) ∙ e) ∙ listed-18 script (omega arith) (omega arith)
 seen-text {script} {buffer} (Sees.refused {j} {a} c h) b s m =
     let place = refused-within script j a h in
     let least = met-range (h .first .met) .0 in
     sym (refused-text j (fourAt (blockOf j a 0 0) 4) buffer (blockOf j a 0 0) (λ z. omega arith) refl)
     ∙ ap (refusedAt j) (block-place j a 0 0 (omega arith))
-    ∙ listed-answer script (c .utf8) (Answer.refused j a) (refusal script j a .1 h)
+    ∙ listed-refused script (omega arith) (c .utf8) j a (refusal script j a .1 h)
 seen-text {script} (Sees.nineteen {ts} r l) b s m =
     let n = need script ts (answer-tokens script ts (r .tokensOf)) in
     absurd (omega arith)
@@ -103,7 +113,7 @@ seen-text {script} {buffer} (Sees.accepted {ts} r l) b s m =
     ap (λ k. recordLines (take k held)) (block-bytes 0 0 (tokenCount ts) size (omega arith))
     ∙ ap recordLines (take-at (records ts) (drop size buffer) size (records-length ts))
     ∙ records-shown (length script) (omega arith) ts (all-bounded script ts (r .tokensOf))
-    ∙ listed-answer script (r .clean .utf8) (Answer.accepted ts) e
+    ∙ listed-tokens script (omega arith) (r .clean .utf8) ts e
 
 pub long-text : (script : List ℕ) → mostScript < length script → codes "long\n" ≡ printed script
 unfolding printed

@@ -10,7 +10,7 @@ use borrow.Author.Tests.{le-leb}
 use Rattle.words.specs.Words.{twoAt}
 use Rattle.chars.specs.paper.Quoted.{codes}
 use Rattle.token.specs.paper.Kinds.{kwNumber, kindNumber, Token}
-use Rattle.token.specs.paper.Records.{bit, valuesOf, headLength, mostBytes, recordLength as lengthOf, recordOf, records}
+use Rattle.token.specs.paper.Records.{bit, valuesOf, headLength, mostBytes, recordLength, recordOf, records}
 use Rattle.token.specs.computed.Listing.{decimal, spaced, valueNumbers, shown}
 use Rattle.token.specs.code.Form.{joined, formOf, heldAt}
 use Rattle.token.specs.declared.kinds.Kw.{Kw}
@@ -20,8 +20,8 @@ use Rattle.token.specs.declared.kinds.TokenKind.the-variants as tk
 use Rattle.token.specs.declared.form.Held.{Held}
 use Rattle.token.proofs.form.Laws.{known-least}
 use Rattle.token.proofs.form.Stores.{length-record}
-use Rattle.token.proofs.theorems.Bounded.{Within, Bounded, AllBounded, storable, token-back}
-use Rattle.listing_text.specs.Fields.{recordLength, valueCount, firstValue, lineOf}
+use Rattle.token.proofs.theorems.Bounded.{ValuesWithin, Bounded, AllBounded, storable, token-back}
+use Rattle.listing_text.specs.Fields.{lengthHere, valueCount, firstValue, lineOf}
 use Rattle.listing_text.specs.Lines.{headText, valuesText, lineText, linesFor, recordLines}
 use Rattle.listing_text.proofs.LineLaws.{lines-turn}
 
@@ -59,7 +59,7 @@ two-places b c h k =
     let second : v / 4294967296 ≡ c = high ∙ mod-eq-of-lt (omega arith) in
     rw (first, second)
 
-values-shown : (a e : ℕ) (k : TokenKind) → Within a e k → e ≤ mostBytes → lineValues (kindNumber k) (joined (valuesOf k)) ≡ valueNumbers (valuesOf k)
+values-shown : (a e : ℕ) (k : TokenKind) → ValuesWithin a e k → e ≤ mostBytes → lineValues (kindNumber k) (joined (valuesOf k)) ≡ valueNumbers (valuesOf k)
 unfolding valueCount firstValue
 values-shown a e tk.Ident h l = refl
 values-shown a e tk.OpId h l = refl
@@ -103,14 +103,14 @@ module _ (n : ℕ) (short : n ≤ mostBytes) (t : Token) (h : Bounded n t) (rest
       (append-assoc kind (spaced front) (spaced (valueNumbers (valuesOf (t .kind))))
       ∙ ap (λ l. kind ++ l) (spaced-on front (valueNumbers (valuesOf (t .kind))))))
 
-  own-length : recordLength (recordOf t ++ rest) ≡ lengthOf (t .kind)
-  unfolding recordLength heldAt formOf
+  own-length : lengthHere (recordOf t ++ rest) ≡ recordLength (t .kind)
+  unfolding lengthHere heldAt formOf
   own-length =
-      let size : twoAt (recordOf t ++ rest) 0 ≡ lengthOf (t .kind) = ap (λ (r : Held). r .length) (token-back n short t h rest) in
+      let size : twoAt (recordOf t ++ rest) 0 ≡ recordLength (t .kind) = ap (λ (r : Held). r .length) (token-back n short t h rest) in
       let least = known-least (storable n short t h .known) in
       let whole = length-append (recordOf t) rest in
       let own = length-record t in
-      rw (size, le-leb headLength (lengthOf (t .kind)) least, le-leb (lengthOf (t .kind)) (length (recordOf t ++ rest)) (omega arith))
+      rw (size, le-leb headLength (recordLength (t .kind)) least, le-leb (recordLength (t .kind)) (length (recordOf t ++ rest)) (omega arith))
 
 -- ---- all of them
 
@@ -120,7 +120,7 @@ records-shown n short [] h = refl
 records-shown n short (t ∷ ts) h =
     let own = own-length n short t (h .0) (records ts) in
     let least = known-least (storable n short t (h .0) .known) in
-    let longer : recordLength (recordOf t ++ records ts) ≡ 0 → ⊥ = λ z. omega arith in
+    let longer : lengthHere (recordOf t ++ records ts) ≡ 0 → ⊥ = λ z. omega arith in
     sym (lines-turn (recordOf t ++ records ts) longer)
     ∙ ap (λ l. lineText (lineOf (heldAt (recordOf t ++ records ts) 0)) ++ recordLines l) (drop-at (recordOf t) (records ts) _ (length-record t ∙ sym own))
     ∙ ap (λ l. l ++ recordLines (records ts)) (line-shown n short t (h .0) (records ts))

@@ -12,8 +12,8 @@ use Rattle.token.specs.declared.form.Held.{Held}
 use Rattle.listing_text.specs.declared.fields.Line.{Line}
 
 -- length (2 bytes, whole record); 0 where no whole record stands at the start
-unfoldable pub recordLength : List ℕ → ℕ
-recordLength bytes =
+unfoldable pub lengthHere : List ℕ → ℕ
+lengthHere bytes =
     let n = twoAt bytes 0 in
     cond (leb headLength n) (cond (leb n (length bytes)) n 0) 0
 

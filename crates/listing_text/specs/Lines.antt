@@ -13,7 +13,7 @@ use Rattle.token.specs.code.Form.{heldAt}
 use Rattle.token.specs.computed.Listing.{decimal, spaced, refusedAt}
 use Rattle.entry.specs.paper.Host.{Seen, seen}
 use Rattle.entry.specs.computed.Listing.{listingOf}
-use Rattle.listing_text.specs.Fields.{recordLength, lineOf}
+use Rattle.listing_text.specs.Fields.{lengthHere, lineOf}
 use Rattle.listing_text.specs.declared.fields.Line.{Line}
 
 -- The text stands at the place `at` of what was `old`, and the rest is as it was; `next` is the place behind it.
@@ -36,7 +36,7 @@ lineText line = headText line ++ valuesText line ++ codes "\n"
 unfoldable pub linesFor : ℕ → List ℕ → List ℕ
 linesFor zero bytes = []
 linesFor (suc most) bytes =
-    let n = recordLength bytes in
+    let n = lengthHere bytes in
     let lines = lineText (lineOf (heldAt bytes 0)) ++ linesFor most (drop n bytes) in
     cond (eqb n 0) [] lines
 

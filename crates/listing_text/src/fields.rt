@@ -6,11 +6,11 @@ ghost use mathlib.Core.Path.{_≡_};
 ghost use lib.ListN.{length};
 ghost use Prim.Native.Nat.{_≤_};
 ghost use Rattle.token.specs.code.Form.{heldAt};
-ghost use Rattle.listing_text.specs.Fields.{recordLength, valueCount, firstValue, lineOf};
+ghost use Rattle.listing_text.specs.Fields.{lengthHere, valueCount, firstValue, lineOf};
 
 // The length of the record at the start; 0 where no whole one stands there.
 pub fn record_length(bytes: &[u8]) -> usize
-    ensures { λ r. ⌜ r ≡ recordLength (now (bytes .entry)) ⌝ }
+    ensures { λ r. ⌜ r ≡ lengthHere (now (bytes .entry)) ⌝ }
     ensures { λ r. ⌜ r ≤ length (now (bytes .entry)) ⌝ }
 {
     let length = two(bytes, 0) as usize;

@@ -18,7 +18,7 @@ pub record RollTheorems (roll : List ℕ) : Type 0 where
   -- A token that is yielded brings the reader on, within the roll, and its end fits 4 bytes: so whoever steps by the numbers of an answer block, in a
   -- roll of less than 2³² bytes, makes just these steps, and they end.
   pub onward : (at previous next : ℕ) (t : Token) → readAt roll at previous ≡ yielded t next → (at < next) × (next ≤ length roll) × (t .end < 4294967296)
-  -- "Every roll that the writer makes is read to the same tokens": for every accepted script.
+  -- "Every roll that the writer makes is read to the same tokens": for every script of at most 16,777,216 bytes that has a reading.
   pub written : (script : List ℕ) (ts : List Token) → length script ≤ mostBytes → TokensOf script ts → readRoll (records ts) ≡ tokens ts
   -- "and writing those tokens gives the same bytes": for every roll that is read, whoever made it.
   pub back : (ts : List Token) → readRoll roll ≡ tokens ts → records ts ≡ roll

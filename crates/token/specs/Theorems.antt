@@ -10,18 +10,18 @@ use Rattle.token.specs.paper.Kinds.{Token}
 use Rattle.token.specs.paper.Reading.{Piece, Reading, Tokens, TokensOf}
 use Rattle.token.specs.paper.Refusals.{Refused}
 use Rattle.token.specs.paper.Records.{mostNeed, records, recordBytes}
-use Rattle.token.specs.computed.Answer.{answer, accepted, refused}
+use Rattle.token.specs.computed.Answer.{answer, tokenized, refused}
 
 -- Of a script.
 pub record Theorems (script : List ℕ) : Type 0 where
   -- Refusal 18: the prefix that is measured is the longest valid one.
   pub longest-valid : LongestValid script (validPrefix script)
-  -- "A reading of a script": the script has one exactly when it is accepted.
-  pub read-exactly : ((ps : List Piece) × Reading script ps) ↔ ((ts : List Token) × (answer script ≡ accepted ts))
+  -- "A reading of a script": the script has one exactly when the computed answer has tokens.
+  pub read-exactly : ((ps : List Piece) × Reading script ps) ↔ ((ts : List Token) × (answer script ≡ tokenized ts))
   -- Two readings are the same, in every kind, start and end.
   pub one-reading : (ps qs : List Piece) → Reading script ps → Reading script qs → ps ≡ qs
   -- "The records of a reading": the tokens of a reading, with their values, marks and cuts, are those of the answer, and it has one list of them.
-  pub tokens : (ps : List Piece) (ts : List Token) → Reading script ps → (Tokens script [] ps ts ↔ (answer script ≡ accepted ts))
+  pub tokens : (ps : List Piece) (ts : List Token) → Reading script ps → (Tokens script [] ps ts ↔ (answer script ≡ tokenized ts))
   pub one-tokens : (ps : List Piece) (ts us : List Token) → Tokens script [] ps ts → Tokens script [] ps us → ts ≡ us
   -- The refusal table, 1 to 16: the answer refuses with this number and place exactly where the table does.
   pub refuses : (j a : ℕ) → (answer script ≡ refused j a) ↔ Refused script j a

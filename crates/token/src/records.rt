@@ -171,7 +171,7 @@ pub fn measure(scratch: &mut [u8], s: &[u8]) -> Measured
     walk_script(scratch, s, &CLASSES)
 }
 
-// The records of a script that is accepted, from the buffer's start on: copied, where `scratch` has them, else by another walk.
+// The records of a script that has tokens, from the buffer's start on: copied, where `scratch` has them, else by another walk.
 pub fn write(out: &mut [u8], s: &[u8], scratch: &[u8], bytes: usize)
     requires { ⌜ (length (now s) ≤ mostBytes) × Fits (answer (now s)) (length (now out)) × (bytes ≡ recordBytes (tokensIn (answer (now s)))) ⌝ }
     requires { ⌜ (bytes ≤ length (now scratch) → take bytes (now scratch) ≡ records (tokensIn (answer (now s)))) ⌝ }

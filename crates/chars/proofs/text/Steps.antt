@@ -16,16 +16,16 @@ use Rattle.chars.proofs.utf8.Codes.{code-one}
 use Rattle.chars.proofs.utf8.Widths.{width-within}
 
 -- what is decoded at i, by the width there
-pub record Stands (s : List ℕ) (i code w : ℕ) : Type 0 where
+pub record CharStands (s : List ℕ) (i code w : ℕ) : Type 0 where
   pub width-is : width (drop i s) ≡ w
   pub code-is : codeOf w (drop i s) ≡ code
   pub least : 1 ≤ w
 
-pub char-stands : (s : List ℕ) (i code w : ℕ) → decoded.Char code w ≡ decodeAt s i → Stands s i code w
+pub char-stands : (s : List ℕ) (i code w : ℕ) → decoded.Char code w ≡ decodeAt s i → CharStands s i code w
 unfolding decodeAt
 char-stands s i code w e = go (eqb (width (drop i s)) 0) refl e
   where
-    go : (b : Bool) → eqb (width (drop i s)) 0 ≡ b → decoded.Char code w ≡ cond b decoded.Nothing (decoded.Char (codeOf (width (drop i s)) (drop i s)) (width (drop i s))) → Stands s i code w
+    go : (b : Bool) → eqb (width (drop i s)) 0 ≡ b → decoded.Char code w ≡ cond b decoded.Nothing (decoded.Char (codeOf (width (drop i s)) (drop i s)) (width (drop i s))) → CharStands s i code w
     go true z e = absurd (let q : _≡_ {A = ℕ} 0 1 = cc in omega arith)
     go false z e =
         let a : w ≡ width (drop i s) = cc in
@@ -42,7 +42,7 @@ nothing-stands s i e = go (eqb (width (drop i s)) 0) refl e
     go false z e = absurd (let q : _≡_ {A = ℕ} 0 1 = cc in omega arith)
 
 -- the step over a character, over a byte alone, and at the end
-pub step-char : (s : List ℕ) (i code w : ℕ) → i < length s → Stands s i code w → (i + w ≤ length s) × (step.Char code (i + w) ≡ stepAt s i)
+pub step-char : (s : List ℕ) (i code w : ℕ) → i < length s → CharStands s i code w → (i + w ≤ length s) × (step.Char code (i + w) ≡ stepAt s i)
 unfolding stepAt charEnd
 step-char s i code w h d =
     let a = width-within s i (omega arith) in

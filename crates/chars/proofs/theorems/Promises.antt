@@ -20,7 +20,7 @@ use Rattle.chars.specs.declared.utf8.Decoded.the-variants as decoded
 use Rattle.chars.proofs.utf8.Rows.{here, inside, row-00, none-low, none-high}
 use Rattle.chars.proofs.utf8.Codes.{code-one}
 use Rattle.chars.proofs.utf8.Widths.{width-most, width-within}
-use Rattle.chars.proofs.text.Steps.{Stands, char-stands}
+use Rattle.chars.proofs.text.Steps.{CharStands, char-stands}
 use Rattle.chars.proofs.utf8.Valid as valids
 use Rattle.chars.proofs.text.Places as places
 use Rattle.chars.proofs.text.Texts as texts
@@ -43,7 +43,7 @@ all-ascending (u ∷ ts) e t m =
 
 -- ---- decoding
 
-next-end : (s : List ℕ) (i c w : ℕ) → Stands s i c w → charEnd s i ≡ i + w
+next-end : (s : List ℕ) (i c w : ℕ) → CharStands s i c w → charEnd s i ≡ i + w
 unfolding charEnd
 next-end s i c w h = let a = h .width-is in let b = h .least in omega arith
 

@@ -11,7 +11,7 @@ use native.Mathlib.Omega.{arith}
 use borrow.Author.Tests.{eq-eqb, ne-eqb, ltb-true, ltb-false}
 use Rattle.chars.specs.computed.Valid.{validPrefix}
 use Rattle.token.specs.paper.Kinds.{Token}
-use Rattle.token.specs.computed.Answer.{Answer, accepted, refused, answer}
+use Rattle.token.specs.computed.Answer.{Answer, tokenized, refused, answer}
 use Rattle.token.specs.paper.Records.{records, recordBytes, mostBytes}
 use Rattle.token.specs.code.Records.{measuredOf, tokensIn, Fits}
 use Rattle.entry.specs.code.Host.{judgedOf, Holds}
@@ -28,9 +28,9 @@ use Rattle.entry.proofs.host.Verdicts.{verdict-17, verdict-18, verdict-
 
 -- ---- back from measuring
 
-was-total : (v : Answer) (n b : ℕ) → measured.Total n b ≡ measuredOf 0 0 v → (ts : List Token) × (v ≡ accepted ts) × (n ≡ length ts) × (b ≡ recordBytes ts)
+was-total : (v : Answer) (n b : ℕ) → measured.Total n b ≡ measuredOf 0 0 v → (ts : List Token) × (v ≡ tokenized ts) × (n ≡ length ts) × (b ≡ recordBytes ts)
 unfolding measuredOf
-was-total (accepted ts) n b e =
+was-total (tokenized ts) n b e =
     let x : n ≡ 0 + length ts = cc in
     let y : b ≡ 0 + recordBytes ts = cc in
     (ts, refl, x ∙ zero-add (length ts), y ∙ zero-add (recordBytes ts))
@@ -39,7 +39,7 @@ was-total (refused j a) n b e = zero-one (cc)
 was-stopped : (v : Answer) (j a : ℕ) → measured.Refused j a ≡ measuredOf 0 0 v → v ≡ refused j a
 unfolding measuredOf
 was-stopped (refused i b) j a e = cc
-was-stopped (accepted ts) j a e = zero-one (cc)
+was-stopped (tokenized ts) j a e = zero-one (cc)
 
 -- ---- judging: 17, 18, 1 to 16, 19
 
@@ -91,7 +91,7 @@ holds-fits s scratch next n b q k f l =
     let ts = w .0 in
     let y = records-length ts in
     let z : recordBytes ts ≤ length scratch = omega (arith, w .3) in
-    let o = f (rw (w .1) (record { is-accepted = refl; fits = z })) ∙ ap (λ v. sets scratch 0 (records (tokensIn v))) (w .1) ∙ sets-front scratch (records ts) (omega arith) in
+    let o = f (rw (w .1) (record { is-tokenized = refl; fits = z })) ∙ ap (λ v. sets scratch 0 (records (tokensIn v))) (w .1) ∙ sets-front scratch (records ts) (omega arith) in
     ap (take b) o ∙ take-at (records ts) _ b (y ∙ sym (w .3)) ∙ sym (ap (λ v. records (tokensIn v)) (w .1))
 
 pub held : (r : Judged) (n b : ℕ) (s scratch : List ℕ) → r ≡ judged.Fits n b → Holds r s scratch → b ≤ length scratch → take b scratch ≡ records (tokensIn (answer s))
@@ -163,7 +163,7 @@ module _ (s : List ℕ) (room n b : ℕ) (e : judged.Fits n b ≡ judgedOf (verd
   entry-fits =
       let w = was-fits _ n b e in
       let g = verdict-granted s room (w .0) (w .1) in
-      rw (g .0) (record { is-accepted = refl; fits = g .1 })
+      rw (g .0) (record { is-tokenized = refl; fits = g .1 })
 
   pub entry-bytes : b ≡ recordBytes (tokensIn (answer s))
   entry-bytes =

@@ -91,7 +91,7 @@ module _ (script buffer block : List ℕ) where
       lent {ts} r false h = put (Sees.nineteen r (leb-false (recordBytes ts) (length buffer) h))
 
       read : Clean script block → (a : Answer) → answer script ≡ a → Sees script buffer block (hostOf script buffer block)
-      read c (Answer.accepted ts) q = lent (record { clean = c; tokensOf = tokens-answer script ts q }) (leb (recordBytes ts) (length buffer)) refl
+      read c (Answer.tokenized ts) q = lent (record { clean = c; tokensOf = tokens-answer script ts q }) (leb (recordBytes ts) (length buffer)) refl
       read c (Answer.refused j a) q = put (Sees.refused c (refusal script j a .0 q))
 
       utf8 : Sized script block → (b : Bool) → ltb (validPrefix script) (length script) ≡ b → Sees script buffer block (hostOf script buffer block)

@@ -19,7 +19,7 @@ pub data Verdict : Type 0 where
 
 -- 19: records need more than lent
 unfoldable pub byRoom : ℕ → Answer → Verdict
-byRoom room (Answer.accepted ts) = cond (leb (recordBytes ts) room) (granted ts) (lacking ts)
+byRoom room (Answer.tokenized ts) = cond (leb (recordBytes ts) room) (granted ts) (lacking ts)
 byRoom room (Answer.refused j a) = rejected j a
 
 unfoldable pub verdict : List ℕ → ℕ → Verdict

@@ -12,7 +12,7 @@ use Rattle.chars.specs.paper.Quoted.{between}
 abbrev pub insideCharacter : List ℕ → ℕ → Bool
 insideCharacter script i = ltb i (length script) && between 0x80 0xBF (getD script i 0)
 
--- 21: start past end, end past script, or either inside a character. The separate yes or no.
+-- none of 21's conditions: start past end, end past script, or either inside a character. The separate yes or no.
 unfoldable pub hasText : List ℕ → ℕ → ℕ → Bool
 hasText script a e = leb a e && leb e (length script) && not (insideCharacter script a) && not (insideCharacter script e)
 

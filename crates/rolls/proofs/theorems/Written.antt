@@ -16,7 +16,7 @@ use Rattle.token.specs.declared.kinds.TokenKind.{TokenKind}
 use Rattle.token.specs.declared.kinds.TokenKind.the-variants as tk
 use Rattle.token.proofs.form.Stores.{length-record}
 use Rattle.token.proofs.form.ReadBack.{record-form}
-use Rattle.token.proofs.theorems.Bounded.{Within, Bounded, AllBounded, InOrder, token-back}
+use Rattle.token.proofs.theorems.Bounded.{ValuesWithin, Bounded, AllBounded, InOrder, token-back}
 use Rattle.rolls.specs.paper.Roll.{lengthAt, kindAt, of-kind, yielded, tokens, prepend}
 use Rattle.rolls.specs.computed.Roll.{lengthFor, badValues, isWrong, stepHeld, readAt, isEof, readIn, readFrom, readRoll}
 use Rattle.rolls.proofs.theorems.Kinds.{Carries, int, long, content, mark, nothing, carries, known-least, is-kind, Fit, bit-most, lower, upper}
@@ -30,7 +30,7 @@ open RecordForm record-form using (held-on)
 -- ---- values within their limits
 
 -- they fit
-within-fit : (a e : ℕ) {k : TokenKind} → Carries k → e ≤ mostBytes → Within a e k → Fit (valuesOf k)
+within-fit : (a e : ℕ) {k : TokenKind} → Carries k → e ≤ mostBytes → ValuesWithin a e k → Fit (valuesOf k)
 within-fit a e (int v) s h = (omega arith, tt)
 within-fit a e (long v) s h = (omega arith, tt)
 within-fit a e (content b c) s h = let x = h .1 in let y = h .2 in (omega arith, (omega arith, tt))
@@ -52,7 +52,7 @@ bare-good n size v a e c l =
     (no 17 (λ z. omega arith))
 
 -- the same of any kind
-within-good : (a e c : ℕ) {k : TokenKind} → Carries k → e ≤ mostBytes → Within a e k
+within-good : (a e c : ℕ) {k : TokenKind} → Carries k → e ≤ mostBytes → ValuesWithin a e k
     → badValues (record { number = kindNumber k; length = recordLength k; values = joined (valuesOf k); start = a; end = e; cut = c }) ≡ false
 unfolding badValues
 within-good a e c (int v) s h = le-ltb 2147483647 v h

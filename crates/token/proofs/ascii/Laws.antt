@@ -171,7 +171,7 @@ module _ (s : List ℕ) (i e : ℕ) (h : i < length s) where
     pub found : piece.Token kind (cursorAt e) ≡ here
 
   pub told : AsciiToken s i e → Told
-  told (AsciiToken.single a q) = record { kind = _; bare = sign-bare _; found = ap (λ j. piece.Token (signOf (signText a)) (cursorAt j)) q ∙ sign-found a }
+  told (AsciiToken.sign a q) = record { kind = _; bare = sign-bare _; found = ap (λ j. piece.Token (signOf (signText a)) (cursorAt j)) q ∙ sign-found a }
   told (AsciiToken.letters a l r z) = record { kind = _; bare = word-bare (wordOf (codesTo (from s i) (from s e))); found = word-found a l r z _ refl }
   told (AsciiToken.signs a l r y z) = record { kind = _; bare = run-bare (runOf (codesTo (from s i) (from s e))); found = run-found a l r y z _ refl }
 
@@ -180,23 +180,23 @@ module _ (s : List ℕ) (i e : ℕ) (h : i < length s) where
   pub direct-word : AsciiToken s i e → isStart (getD s i 0) ≡ true
       → (e ≤ n) × (from s e ≡ afterIdent false (from s (i + 1))) × (quote (from s e) ≡ false)
   direct-word (AsciiToken.letters a l r z) b = (l, r, z)
-  direct-word (AsciiToken.single a q) b =
+  direct-word (AsciiToken.sign a q) b =
       clash (sym (carry-not isIdStart (codes "()[]{},;.") (getD s i 0) (start-not "()[]{},;." refl) a) ∙ and-both (ltb (getD s i 0) 0x80) (isIdStart (getD s i 0)) b .1)
   direct-word (AsciiToken.signs a l r y z) b =
       clash (sym (sign-no-start (getD s i 0) (and-both (ltb (getD s i 0) 0x80) (isOpSign (getD s i 0)) a .1)) ∙ and-both (ltb (getD s i 0) 0x80) (isIdStart (getD s i 0)) b .1)
 
-  pub record Run : Type 0 where
+  pub record OperatorRun : Type 0 where
     pub sign : ltb (getD s i 0) 0x80 && isOpSign (getD s i 0) ≡ true
     pub within : e ≤ n
     pub rest : from s e ≡ afterRun freeSign (from s i)
     pub clear : opensComment (from s i) ≡ false
     pub alone : opensComment (from s e) ≡ false
 
-  pub direct-run : AsciiToken s i e → isStart (getD s i 0) ≡ false → signNumber (getD s i 0) ≡ 0 → Run
+  pub direct-run : AsciiToken s i e → isStart (getD s i 0) ≡ false → signNumber (getD s i 0) ≡ 0 → OperatorRun
   unfolding signNumber
   direct-run (AsciiToken.signs a l r y z) b c = record { sign = a; within = l; rest = r; clear = y; alone = z }
   direct-run (AsciiToken.letters a l r z) b c = clash (sym b ∙ a)
-  direct-run (AsciiToken.single a q) b c = let z = rw a at c in let k = sign-counts (record { code = getD s i 0; at = 0 } ∷ []) in absurd (omega arith)
+  direct-run (AsciiToken.sign a q) b c = let z = rw a at c in let k = sign-counts (record { code = getD s i 0; at = 0 } ∷ []) in absurd (omega arith)
 
 -- a byte whose sign number is not 0 is a sign
 pub counted-sign : (b : ℕ) → (signNumber b ≡ 0 → ⊥) → oneOf "()[]{},;." b ≡ true
@@ -214,7 +214,7 @@ ascii-of s i e (inr p) l = p
 
 -- it begins within the script
 pub ascii-inside : (s : List ℕ) (i e : ℕ) → AsciiToken s i e → i < e → i < length s
-ascii-inside s i e (AsciiToken.single a q) l = inside s i (sign-low (getD s i 0) a .0)
+ascii-inside s i e (AsciiToken.sign a q) l = inside s i (sign-low (getD s i 0) a .0)
 ascii-inside s i e (AsciiToken.letters a w r z) l = omega arith
 ascii-inside s i e (AsciiToken.signs a w r y z) l = omega arith
 

@@ -16,7 +16,7 @@ use Rattle.chars.proofs.Bools.{clash, and-both}
 use Rattle.chars.specs.promises.Texts.{TextLaws, AsciiClass}
 use Rattle.chars.specs.promises.Codes.{CodeLaws}
 use Rattle.chars.proofs.theorems.Promises.{code-laws, text-laws}
-use Rattle.token.specs.paper.Tests.{isDigit, isHexDigit, digitValue, begins, hexDigit, hexAhead, longSuffix}
+use Rattle.token.specs.paper.Tests.{isDigit, isHexDigit, digitValue, begins, hexDigit, hexAhead, letterL}
 use Rattle.token.specs.computed.Answer.{Found, numeral, readDigits, numberOf, scanNumber}
 use Rattle.token.specs.code.Cursor.{cursorAt}
 use Rattle.token.specs.code.Piece.{pieceOf}
@@ -259,7 +259,7 @@ module _ (s : List ℕ) (start end v : ℕ) (h : start ≤ length s) where
   unfolding pieceOf
   long-piece k e =
       let c = class-at (oneOf "Ll") (ascii-list (codes "Ll") refl) s end e in
-      let q : longSuffix (from s end) ≡ true = any-byte "Ll" refl s end ∙ e in
+      let q : letterL (from s end) ≡ true = any-byte "Ll" refl s end ∙ e in
       let r : place (length s) (drop 1 (from s end)) ≡ end + 1 = ap (λ t. place (length s) (drop 1 t)) (c .1) ∙ place-from s (end + 1) (omega arith) in
       rw (q, le-leb v 9223372036854775807 k, r)
 
@@ -267,7 +267,7 @@ module _ (s : List ℕ) (start end v : ℕ) (h : start ≤ length s) where
       → intOr start v (cursorAt end) ≡ pieceOf (length s) (numberOf (from s start) (numeral v (from s end)))
   unfolding pieceOf intOr
   int-piece k e =
-      let q : longSuffix (from s end) ≡ false = any-byte "Ll" refl s end ∙ e in
+      let q : letterL (from s end) ≡ false = any-byte "Ll" refl s end ∙ e in
       rw q (go (leb v 2147483647))
     where
       go : (b : Bool) → cond b (piece.Token (tk.IntLit v) (cursorAt end)) (piece.Refused 6 start)
@@ -278,7 +278,7 @@ module _ (s : List ℕ) (start end v : ℕ) (h : start ≤ length s) where
 module _ (s : List ℕ) (start : ℕ) (h : start ≤ length s) where
   over-piece : (v : ℕ) (r : Text) → 9223372036854775807 < v → piece.Refused 6 start ≡ pieceOf (length s) (numberOf (from s start) (numeral v r))
   unfolding pieceOf
-  over-piece v r k = rw (lt-leb v 9223372036854775807 k, lt-leb v 2147483647 (omega arith)) (go (longSuffix r))
+  over-piece v r k = rw (lt-leb v 9223372036854775807 k, lt-leb v 2147483647 (omega arith)) (go (letterL r))
     where
       go : (b : Bool) → piece.Refused 6 start ≡ pieceOf (length s) (cond b (Found.stuck 6 (from s start)) (Found.stuck 6 (from s start)))
       go true = rw (place-from s start h)

@@ -17,7 +17,7 @@ use Rattle.chars.proofs.Bools.{clash, and-both}
 use Rattle.chars.specs.promises.Codes.{CodeLaws, every}
 use Rattle.chars.specs.promises.Texts.{TextLaws, AsciiClass}
 use Rattle.chars.proofs.theorems.Promises.{code-laws, text-laws}
-use Rattle.token.specs.paper.Tests.{isAny, begins, digit, isDigit, quote, apostrophe, opSign, opensLine, opensBlock, opensComment, isHexDigit, hexAhead, longSuffix, notBacktick, freeSign, backslash, plainChar, endOfLine}
+use Rattle.token.specs.paper.Tests.{isAny, begins, digit, isDigit, quote, apostrophe, opSign, opensLine, opensBlock, opensComment, isHexDigit, hexAhead, letterL, notBacktick, freeSign, backslash, plainChar, endOfLine}
 use Rattle.token.specs.code.Lexer.{wordless, seek, nextOf, passedOf}
 use Rattle.token.specs.computed.Flags.{GapKind, push, cutOf}
 use Rattle.token.specs.computed.Answer.{Found, Start, startOf, signOf, scan, scanAs, scanReturn, scanLine, scanBlock, blockOr, close, Numeral, numeral, readDigits, numberOf, scanNumber, Closing, closed, wrong, closeString, prefixedOf, plainOf, orPrefixed, afterIdent, codesTo, wordOr, scanIdent, runOr, scanOperator, backtickOr, scanBacktick, scanString, Esc, unbroken, broken, afterSlash, escapedOf, scanCharSym}
@@ -177,7 +177,7 @@ unfolding scanNumber
 number-gapless s = go (cond (hexAhead s) (readDigits isHexDigit 16 0 (drop 2 s)) (readDigits isDigit 10 0 s))
   where
     go : (x : Numeral) → gapless (numberOf s x) ≡ true
-    go (numeral v r) = pick-gapless (longSuffix r) _ _ (pick-gapless (leb v 9223372036854775807) _ _ refl refl) (pick-gapless (leb v 2147483647) _ _ refl refl)
+    go (numeral v r) = pick-gapless (letterL r) _ _ (pick-gapless (leb v 9223372036854775807) _ _ refl refl) (pick-gapless (leb v 2147483647) _ _ refl refl)
 
 prefixed-gapless : (n : ℕ) (s : Text) (x : Closing) → gapless (prefixedOf n s x) ≡ true
 prefixed-gapless n s (closed r) = refl

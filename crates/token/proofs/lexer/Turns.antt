@@ -12,7 +12,7 @@ use Rattle.chars.specs.promises.Texts.{TextLaws, Suffix}
 use Rattle.chars.proofs.theorems.Promises.{text-laws}
 use Rattle.token.specs.paper.Kinds.{Token}
 use Rattle.token.specs.computed.Flags.{GapKind, fresh, push}
-use Rattle.token.specs.computed.Answer.{Found, scan, accepted, refused, prepend, walk}
+use Rattle.token.specs.computed.Answer.{Found, scan, tokenized, refused, prepend, walk}
 use Rattle.token.specs.code.Cursor.{cursorAt}
 use Rattle.token.specs.code.Lexer.{Sought, seek, nextOf}
 use Rattle.token.specs.declared.gap.Gap.{Gap}
@@ -35,7 +35,7 @@ pub data Meets (n : ℕ) (g : Gap) (s : Text) : Sought → Type 0 where
       → walk n 0 g s ≡ prepend (record { kind = k; start = place n a; end = place n r; cut = cut }) (walk n 0 fresh r) → Meets n g s (Sought.token k a r cut)
   lineEnd : {a r : Text} {mark : Bool} {h : Gap} → Suffix a s → Strict r s
       → walk n 0 g s ≡ prepend (record { kind = tk.Newline mark; start = place n a; end = place n r; cut = false }) (walk n 0 h r) → Meets n g s (Sought.lineEnd a r mark h)
-  ends : {cut : Bool} → walk n 0 g s ≡ accepted (record { kind = tk.Eof; start = n; end = n; cut = cut } ∷ []) → Meets n g s (Sought.ends cut)
+  ends : {cut : Bool} → walk n 0 g s ≡ tokenized (record { kind = tk.Eof; start = n; end = n; cut = cut } ∷ []) → Meets n g s (Sought.ends cut)
   stuck : {j : ℕ} {q : Text} → walk n 0 g s ≡ refused j (place n q) → Meets n g s (Sought.stuck j q)
 
 -- past a gap piece without a token
@@ -152,12 +152,12 @@ module _ (s : List ℕ) (i : ℕ) (g : Gap) where
       go (Sought.ends d) w q = zero-one (cc)
       go (Sought.stuck j p) w q = zero-one (cc)
 
-  pub turn-end : (cut : Bool) → next.End cut ≡ nextOf n (seek n 0 g (from s i)) → walk n 0 g (from s i) ≡ accepted (record { kind = tk.Eof; start = n; end = n; cut = cut } ∷ [])
+  pub turn-end : (cut : Bool) → next.End cut ≡ nextOf n (seek n 0 g (from s i)) → walk n 0 g (from s i) ≡ tokenized (record { kind = tk.Eof; start = n; end = n; cut = cut } ∷ [])
   unfolding nextOf
   turn-end cut q = go (seek n 0 g (from s i)) found q
     where
-      go : (x : Sought) → Meets n g (from s i) x → next.End cut ≡ nextOf n x → walk n 0 g (from s i) ≡ accepted (record { kind = tk.Eof; start = n; end = n; cut = cut } ∷ [])
-      go (Sought.ends d) (Meets.ends w) q = let b : d ≡ cut = cc in w ∙ ap (λ z. accepted (record { kind = tk.Eof; start = n; end = n; cut = z } ∷ [])) b
+      go : (x : Sought) → Meets n g (from s i) x → next.End cut ≡ nextOf n x → walk n 0 g (from s i) ≡ tokenized (record { kind = tk.Eof; start = n; end = n; cut = cut } ∷ [])
+      go (Sought.ends d) (Meets.ends w) q = let b : d ≡ cut = cc in w ∙ ap (λ z. tokenized (record { kind = tk.Eof; start = n; end = n; cut = z } ∷ [])) b
       go (Sought.token y p r d) w q = zero-one (cc)
       go (Sought.lineEnd p r m h) w q = zero-one (cc)
       go (Sought.stuck j p) w q = zero-one (cc)

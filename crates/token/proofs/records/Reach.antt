@@ -11,7 +11,7 @@ use Rattle.chars.specs.computed.Runs.{afterRun}
 use Rattle.token.specs.paper.Tests.{isAny}
 use Rattle.token.specs.paper.Kinds.{Token}
 use Rattle.token.specs.computed.Flags.{GapKind, fresh, cutOf}
-use Rattle.token.specs.computed.Answer.{accepted, refused, walk, scan}
+use Rattle.token.specs.computed.Answer.{tokenized, refused, walk, scan}
 use Rattle.token.specs.paper.Records.{intLength, longLength, recordLength, recordOf}
 use Rattle.token.specs.code.Form.{mostLength}
 use Rattle.token.specs.code.Records.{storedIf, measuredOf, Writing, Reaches}
@@ -109,7 +109,7 @@ module _ {s : List ℕ} {i : ℕ} {g : Gap} {n b : ℕ} {out : List ℕ} where
         })
 
     -- the end of script
-    module _ (t : Token) (e : walk (length s) 0 h (from s j) ≡ accepted (t ∷ [])) where
+    module _ (t : Token) (e : walk (length s) 0 h (from s j) ≡ tokenized (t ∷ [])) where
       pub reach-end : (l : ℕ) → l ≡ recordLength (t .kind) → measured.Total (m + 1) (d + l) ≡ measuredOf n b (walk (length s) 0 g (from s i))
       reach-end l p = measured-end _ t m d l e p ∙ r .counted
 

@@ -212,8 +212,8 @@ module _ (s : List ℕ) (a b : ℕ) where
 
 -- one turn: a first quote, and a last one if one is left
 module _ (s : List ℕ) (start end a b : ℕ) (h : Left s start end a b) (k : a < b) (byte : getD s a 0 ≡ 0x22) where
-  abbrev Content : ℕ → ℕ → Type 0
-  Content e f = Left s start end e f
+  abbrev LeftBetween : ℕ → ℕ → Type 0
+  LeftBetween e f = Left s start end e f
 
   inner : a < length s
   inner = let w = h .within in omega arith
@@ -228,7 +228,7 @@ module _ (s : List ℕ) (start end a b : ℕ) (h : Left s start end a b) (k : a 
   Same t = strip (length t) (t ++ h .behind) (reverseAux t (h .ahead)) b ≡ plainContent (length s) (from s start) (from s end)
 
   -- the quote was all that was left
-  left-last : (c : Char) → from s a ≡ c ∷ from s b → Same (c ∷ []) → Content (a + 1) (lastOff s (a + 1) b)
+  left-last : (c : Char) → from s a ≡ c ∷ from s b → Same (c ∷ []) → LeftBetween (a + 1) (lastOff s (a + 1) b)
   left-last c x y =
       let t = tail c [] x in
       let z : a + 1 ≡ b = same-place s b (a + 1) (h .within) (omega (arith, inner)) t in
@@ -269,7 +269,7 @@ module _ (s : List ℕ) (start end a b : ℕ) (h : Left s start end a b) (k : a 
             let z : a + 1 ≡ b = omega (arith, ltb-false (a + 1) b e) in
             absurd (let l : length (from s b) ≡ length (w ++ (d ∷ from s b)) = ap length (ap (from s) (sym z) ∙ rest) in let m = length-append w (d ∷ from s b) in omega arith)
 
-    left-two : quote (d ∷ []) ≡ true → Content (a + 1) (lastOff s (a + 1) b)
+    left-two : quote (d ∷ []) ≡ true → LeftBetween (a + 1) (lastOff s (a + 1) b)
     left-two q =
         let at = last-at s b (h .within) d stands q in
         let e = eqb-true (getD s (b - 1) 0) 0x22 (sym (last-byte s b (h .within) d stands) ∙ q) in
@@ -288,7 +288,7 @@ module _ (s : List ℕ) (start end a b : ℕ) (h : Left s start end a b) (k : a 
           same = ap (strip (length w) (w ++ (d ∷ h .behind)) (reverseAux w (c ∷ h .ahead))) (sym at) ∙ g ∙ y;
         })
 
-    left-one : quote (d ∷ []) ≡ false → Content (a + 1) (lastOff s (a + 1) b)
+    left-one : quote (d ∷ []) ≡ false → LeftBetween (a + 1) (lastOff s (a + 1) b)
     left-one q =
         let e = eqb-false (getD s (b - 1) 0) 0x22 (sym (last-byte s b (h .within) d stands) ∙ q) in
         let n : suc (length v) - 1 ≡ length v = omega arith in
@@ -307,15 +307,15 @@ module _ (s : List ℕ) (start end a b : ℕ) (h : Left s start end a b) (k : a 
               ∙ sym (strip-one (length v) c (v ++ h .behind) b (reverseAux v (c ∷ h .ahead)) (quoted c v _ x) (rw back (and-false (leb 2 (suc (length v)))))) ∙ y;
         })
 
-  pub left-next : Content (a + 1) (lastOff s (a + 1) b)
+  pub left-next : LeftBetween (a + 1) (lastOff s (a + 1) b)
   left-next = go (h .text) (h .split) (h .same)
     where
-      go : (t : Text) → from s a ≡ t ++ from s b → Same t → Content (a + 1) (lastOff s (a + 1) b)
+      go : (t : Text) → from s a ≡ t ++ from s b → Same t → LeftBetween (a + 1) (lastOff s (a + 1) b)
       go [] x y = absurd (let z = same-place s b a (h .within) (omega (arith, inner)) x in omega arith)
       go (c ∷ []) x y = left-last c x y
       go (c ∷ u ∷ v) x y = let n = snoc u v in by (quote (n .1 ∷ [])) refl
         where
-          by : (q : Bool) → quote (snoc u v .1 ∷ []) ≡ q → Content (a + 1) (lastOff s (a + 1) b)
+          by : (q : Bool) → quote (snoc u v .1 ∷ []) ≡ q → LeftBetween (a + 1) (lastOff s (a + 1) b)
           by true q = let n = snoc u v in left-two c (n .0) (n .1) (u ∷ v) (n .2) x y q
           by false q = let n = snoc u v in left-one c (n .0) (n .1) (u ∷ v) (n .2) x y q
 

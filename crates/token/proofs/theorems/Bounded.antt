@@ -121,32 +121,32 @@ content-order (Content.quoted q d w) h =
 -- ---- tokens
 
 -- the values of a token from a to e: a number's limit; a string's content, not before a and not past e
-abbrev pub Within : ℕ → ℕ → TokenKind → Type 0
-Within a e tk.Ident = Unit {0}
-Within a e tk.OpId = Unit {0}
-Within a e tk.BacktickId = Unit {0}
-Within a e (tk.IntLit v) = v ≤ limit false
-Within a e (tk.LongLit v) = v ≤ limit true
-Within a e (tk.Str b c) = (a ≤ b) × (b ≤ c) × (c ≤ e)
-Within a e tk.CharSym = Unit {0}
-Within a e tk.LParen = Unit {0}
-Within a e tk.RParen = Unit {0}
-Within a e tk.LBracket = Unit {0}
-Within a e tk.RBracket = Unit {0}
-Within a e tk.LBrace = Unit {0}
-Within a e tk.RBrace = Unit {0}
-Within a e tk.Comma = Unit {0}
-Within a e tk.Semi = Unit {0}
-Within a e tk.Dot = Unit {0}
-Within a e (tk.Newline mark) = Unit {0}
-Within a e tk.Eof = Unit {0}
-Within a e (tk.Kw k) = Unit {0}
+abbrev pub ValuesWithin : ℕ → ℕ → TokenKind → Type 0
+ValuesWithin a e tk.Ident = Unit {0}
+ValuesWithin a e tk.OpId = Unit {0}
+ValuesWithin a e tk.BacktickId = Unit {0}
+ValuesWithin a e (tk.IntLit v) = v ≤ limit false
+ValuesWithin a e (tk.LongLit v) = v ≤ limit true
+ValuesWithin a e (tk.Str b c) = (a ≤ b) × (b ≤ c) × (c ≤ e)
+ValuesWithin a e tk.CharSym = Unit {0}
+ValuesWithin a e tk.LParen = Unit {0}
+ValuesWithin a e tk.RParen = Unit {0}
+ValuesWithin a e tk.LBracket = Unit {0}
+ValuesWithin a e tk.RBracket = Unit {0}
+ValuesWithin a e tk.LBrace = Unit {0}
+ValuesWithin a e tk.RBrace = Unit {0}
+ValuesWithin a e tk.Comma = Unit {0}
+ValuesWithin a e tk.Semi = Unit {0}
+ValuesWithin a e tk.Dot = Unit {0}
+ValuesWithin a e (tk.Newline mark) = Unit {0}
+ValuesWithin a e tk.Eof = Unit {0}
+ValuesWithin a e (tk.Kw k) = Unit {0}
 
 -- a token of a script of n bytes
 pub record Bounded (n : ℕ) (t : Token) : Type 0 where
   pub start : t .start ≤ t .end
   pub end : t .end ≤ n
-  pub values : Within (t .start) (t .end) (t .kind)
+  pub values : ValuesWithin (t .start) (t .end) (t .kind)
 
 abbrev pub AllBounded : ℕ → List Token → Type 0
 AllBounded n [] = Unit {0}
@@ -158,11 +158,11 @@ InOrder p [] = Unit {0}
 InOrder p (t ∷ ts) = (p ≤ t .start) × InOrder (t .end) ts
 
 -- a kind that carries nothing
-abbrev WithinIf : ℕ → ℕ → Option TokenKind → Type 0
-WithinIf a e none = Unit {0}
-WithinIf a e (some k) = Within a e k
+abbrev ValuesWithinIf : ℕ → ℕ → Option TokenKind → Type 0
+ValuesWithinIf a e none = Unit {0}
+ValuesWithinIf a e (some k) = ValuesWithin a e k
 
-bare-within : (a e : ℕ) (y : TokenType) → WithinIf a e (withoutValues y)
+bare-within : (a e : ℕ) (y : TokenType) → ValuesWithinIf a e (withoutValues y)
 bare-within a e TokenType.ident = tt
 bare-within a e TokenType.opId = tt
 bare-within a e TokenType.backtickId = tt
@@ -182,7 +182,7 @@ bare-within a e TokenType.dot = tt
 bare-within a e (TokenType.key k) = tt
 
 valued-within : {n : ℕ} {s r : Text} {y : TokenType} {k : TokenKind} → Rising n s → Stands (Kind.token y) s r → Valued n s r y k
-    → Within (place n s) (place n r) k
+    → ValuesWithin (place n s) (place n r) k
 unfolding Stands HasShape TokenShape
 valued-within h w (Valued.intLit x) = let k = w .0 in rw (one-value false x (k .1)) (k .2)
 valued-within h w (Valued.longLit x) = let k = w .0 in rw (one-value true x (k .1)) (k .2)
@@ -305,7 +305,7 @@ bit-byte true = omega arith
 bit-byte false = omega arith
 
 -- a kind's number fits two bytes, and its values as many as they have
-kind-fits : (a e : ℕ) (k : TokenKind) → Within a e k → (kindNumber k < 65536) × (joined (valuesOf k) < 256 ^ (recordLength k - headLength))
+kind-fits : (a e : ℕ) (k : TokenKind) → ValuesWithin a e k → (kindNumber k < 65536) × (joined (valuesOf k) < 256 ^ (recordLength k - headLength))
 unfolding recordLength values le4 le8
 kind-fits a e tk.Ident h = (omega arith, omega arith)
 kind-fits a e tk.OpId h = (omega arith, omega arith)

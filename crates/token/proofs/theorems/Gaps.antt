@@ -85,29 +85,29 @@ line-found s r h = go (h .0) (h .1)
 -- ---- block comments
 
 -- `/*` and `*/`
-abbrev Opening : Shape
-Opening s r = (One (isAny "/") then One (isAny "*")) s r
+abbrev SlashStar : Shape
+SlashStar s r = (One (isAny "/") then One (isAny "*")) s r
 
-abbrev Closing : Shape
-Closing s r = (One (isAny "*") then One (isAny "/")) s r
+abbrev StarSlash : Shape
+StarSlash s r = (One (isAny "*") then One (isAny "/")) s r
 
-opening : (s : Text) → opensBlock s ≡ true → Opening s (drop 2 s)
+opening : (s : Text) → opensBlock s ≡ true → SlashStar s (drop 2 s)
 unfolding begins
 opening s e =
     let h = two-codes 47 42 s e in
     rw (h .3) (both (One.one {c = h .0} {s = h .1 ∷ h .2} (rw (h .4))) (One.one {c = h .1} {s = h .2} (rw (h .5))))
 
-closing : (s : Text) → closesBlock s ≡ true → Closing s (drop 2 s)
+closing : (s : Text) → closesBlock s ≡ true → StarSlash s (drop 2 s)
 unfolding begins
 closing s e =
     let h = two-codes 42 47 s e in
     rw (h .3) (both (One.one {c = h .0} {s = h .1 ∷ h .2} (rw (h .4))) (One.one {c = h .1} {s = h .2} (rw (h .5))))
 
-opening-opens : {s r : Text} → Opening s r → (opensBlock s ≡ true) × (r ≡ drop 2 s)
+opening-opens : {s r : Text} → SlashStar s r → (opensBlock s ≡ true) × (r ≡ drop 2 s)
 unfolding begins
 opening-opens (both (One.one {c = a} e) (One.one {c = b} f)) = (rw (or-none (eqb (a .code) 47) e, or-none (eqb (b .code) 42) f), refl)
 
-closing-closes : {s r : Text} → Closing s r → (closesBlock s ≡ true) × (r ≡ drop 2 s)
+closing-closes : {s r : Text} → StarSlash s r → (closesBlock s ≡ true) × (r ≡ drop 2 s)
 unfolding begins
 closing-closes (both (One.one {c = a} e) (One.one {c = b} f)) = (rw (or-none (eqb (a .code) 42) e, or-none (eqb (b .code) 47) f), refl)
 
@@ -126,25 +126,25 @@ close-char : (d : ℕ) (c : Char) (s : Text) → opensBlock (c ∷ s) ≡ false 
 unfolding close
 close-char d c s o k = rw (k, o)
 
-close-open : (d : ℕ) {s r : Text} → Opening s r → close d 0 s ≡ close (suc d) 0 r
+close-open : (d : ℕ) {s r : Text} → SlashStar s r → close d 0 s ≡ close (suc d) 0 r
 unfolding close
 close-open d o = go o (opening-opens o .0)
   where
-    go : {s r : Text} → Opening s r → opensBlock s ≡ true → close d 0 s ≡ close (suc d) 0 r
+    go : {s r : Text} → SlashStar s r → opensBlock s ≡ true → close d 0 s ≡ close (suc d) 0 r
     go (both (One.one {c = a} e) (One.one {c = b} {s} f)) z = rw (open-no-close (a ∷ b ∷ s) z, z) (close-skip (suc d) 0 s)
 
-close-last : {s r : Text} → Closing s r → close 0 0 s ≡ some r
+close-last : {s r : Text} → StarSlash s r → close 0 0 s ≡ some r
 unfolding close
 close-last k = go k (closing-closes k .0)
   where
-    go : {s r : Text} → Closing s r → closesBlock s ≡ true → close 0 0 s ≡ some r
+    go : {s r : Text} → StarSlash s r → closesBlock s ≡ true → close 0 0 s ≡ some r
     go (both (One.one {c = a} e) (One.one {c = b} {s} f)) z = rw z
 
-close-more : (d : ℕ) {s r : Text} → Closing s r → close (suc d) 0 s ≡ close d 0 r
+close-more : (d : ℕ) {s r : Text} → StarSlash s r → close (suc d) 0 s ≡ close d 0 r
 unfolding close
 close-more d k = go k (closing-closes k .0)
   where
-    go : {s r : Text} → Closing s r → closesBlock s ≡ true → close (suc d) 0 s ≡ close d 0 r
+    go : {s r : Text} → StarSlash s r → closesBlock s ≡ true → close (suc d) 0 s ≡ close d 0 r
     go (both (One.one {c = a} e) (One.one {c = b} {s} f)) z = rw z
 
 -- inside of open comments a block comment, an item and items are passed
@@ -172,14 +172,14 @@ block-found s r h = (opens h, ap (blockOr s) (block-close h))
 
 -- the closings of (suc d) comments, one after another
 data Closes : ℕ → Text → Text → Type 0 where
-  last : {s m r : Text} → Items s m → Closing m r → Closes 0 s r
-  more : {d : ℕ} {s m t r : Text} → Items s m → Closing m t → Closes d t r → Closes (suc d) s r
+  last : {s m r : Text} → Items s m → StarSlash m r → Closes 0 s r
+  more : {d : ℕ} {s m t r : Text} → Items s m → StarSlash m t → Closes d t r → Closes (suc d) s r
 
 closes-item : {d : ℕ} {s m r : Text} → Item s m → Closes d m r → Closes d s r
 closes-item i (Closes.last j k) = Closes.last (Items.item i j) k
 closes-item i (Closes.more j k w) = Closes.more (Items.item i j) k w
 
-closes-open : {d : ℕ} {s m r : Text} → Opening s m → Closes (suc d) m r → Closes d s r
+closes-open : {d : ℕ} {s m r : Text} → SlashStar s m → Closes (suc d) m r → Closes d s r
 closes-open o (Closes.more i k w) = closes-item (Item.comment (Block.block o i k)) w
 
 abbrev Outcome : ℕ → Text → Type 0
@@ -202,11 +202,11 @@ close-finds (suc f) d (c ∷ s) l = go (closesBlock (c ∷ s)) (opensBlock (c �
     char o k (inl n) = inl (close-char d c s o k ∙ n)
     char o k (inr (r, q, w)) = inr (r, close-char d c s o k ∙ q, closes-item (Item.char o k) w)
 
-    opened : {s t : Text} → Opening s t → Outcome (suc d) t → Outcome d s
+    opened : {s t : Text} → SlashStar s t → Outcome (suc d) t → Outcome d s
     opened o (inl n) = inl (close-open d o ∙ n)
     opened o (inr (r, q, w)) = inr (r, close-open d o ∙ q, closes-open o w)
 
-    shut : (d : ℕ) {s t : Text} → Closing s t → ((e : ℕ) → Outcome e t) → Outcome d s
+    shut : (d : ℕ) {s t : Text} → StarSlash s t → ((e : ℕ) → Outcome e t) → Outcome d s
     shut zero {t} k below = inr (t, close-last k, Closes.last Items.done k)
     shut (suc d) {s} {t} k below = by (below d)
       where

@@ -129,7 +129,7 @@ pub within-suffix : {p : Bool} {s m : Text} → WithinSingle p s m → Suffix m 
 within-suffix WithinSingle.here = suffix-refl _
 within-suffix (WithinSingle.char {c} e b w) = suffix-cons c (within-suffix w)
 within-suffix (WithinSingle.escape e w) = suffix-trans (within-suffix w) (escape-suffix e)
-within-suffix (WithinSingle.slash {c} e n w) = suffix-cons c (within-suffix w)
+within-suffix (WithinSingle.wrong-escape {c} e n w) = suffix-cons c (within-suffix w)
 
 -- a character that does not stop is passed
 step : (c : Char) (s : Text) {m : Text} → stops (c ∷ s) ≡ false → stops m ≡ true → WithinSingle false (c ∷ s) m → WithinSingle false s m
@@ -139,7 +139,7 @@ step c s e h w = go w refl h
     go WithinSingle.here q h = clash (sym e ∙ sym (ap stops q) ∙ h)
     go (WithinSingle.char x b w) q h = rw (← ap (drop 1) q) w
     go (WithinSingle.escape {s = t} {m = k} x w) q h = clash (sym (no-slash c s e) ∙ sym (ap backslash q) ∙ slash-found t k x .0)
-    go (WithinSingle.slash x n w) q h = rw (← ap (drop 1) q) w
+    go (WithinSingle.wrong-escape x n w) q h = rw (← ap (drop 1) q) w
 
 times-past : {n : ℕ} {t q m : Text} → Times hexDigit n t q → WithinSingle false t m → stops m ≡ true → Suffix m q
 unfolding isHexDigit isDigit
@@ -184,7 +184,7 @@ plain-past (WithinSingle.escape {s} {m = k} {r = m} e w) h = go (plain-past w h)
         → Single false s m ⊎ ((i : ℕ) × (q : Text) × (closePlain 0 s ≡ wrong i q) × Past i q m)
     go (inl v) = inl (Single.escape e v)
     go (inr (i, q, g, d)) = inr (i, q, single-pass false (Single.escape e Single.done) ∙ g, d)
-plain-past (WithinSingle.slash {c} {s} {r = m} b n w) h = go (slash-finds (c ∷ s) b)
+plain-past (WithinSingle.wrong-escape {c} {s} {r = m} b n w) h = go (slash-finds (c ∷ s) b)
   where
     go : Good (c ∷ s) ⊎ Bad (c ∷ s) → Single false (c ∷ s) m ⊎ ((i : ℕ) × (q : Text) × (closePlain 0 (c ∷ s) ≡ wrong i q) × Past i q m)
     go (inl g) = absurd (n _ (g .escape))

@@ -13,7 +13,7 @@ use Rattle.chars.specs.paper.Quoted.{codes}
 use Rattle.chars.specs.paper.Text.{Text, headIs}
 use Rattle.chars.specs.computed.Runs.{afterRun}
 use Rattle.chars.proofs.Bools.{clash, and-both}
-use Rattle.token.specs.paper.Tests.{isDigit, isHexDigit, begins, startsWith, digit, hexDigit, digitValue, hexAhead, longSuffix}
+use Rattle.token.specs.paper.Tests.{isDigit, isHexDigit, begins, startsWith, digit, hexDigit, digitValue, hexAhead, letterL}
 use Rattle.token.specs.paper.Kinds.{TokenType}
 use Rattle.token.specs.paper.Shapes.{One, both, codesOf, valueOfDigits, Digits, limit, NumberText, Number, TokenShape}
 use Rattle.token.specs.paper.Reading.{Valued}
@@ -103,12 +103,12 @@ digits-found (Digits.dec {s} e h) =
     (run1-found digit h .0, q ∙ rw e, ap (λ t. valueOfDigits 10 (codesOf s t)) q ∙ rw e)
 
 -- the two outcomes
-pub number-long : (s : Text) → longSuffix (digitsEnd s) ≡ true
+pub number-long : (s : Text) → letterL (digitsEnd s) ≡ true
     → scanNumber s ≡ cond (leb (digitsValue s) 9223372036854775807) (Found.token (tk.LongLit (digitsValue s)) (drop 1 (digitsEnd s)))
     (Found.stuck 6 s)
 number-long s e = scan-number s ∙ rw e
 
-pub number-int : (s : Text) → longSuffix (digitsEnd s) ≡ false
+pub number-int : (s : Text) → letterL (digitsEnd s) ≡ false
     → scanNumber s ≡ cond (leb (digitsValue s) 2147483647) (Found.token (tk.IntLit (digitsValue s)) (digitsEnd s)) (Found.stuck 6 s)
 number-int s e = scan-number s ∙ rw e
 
@@ -122,18 +122,18 @@ one-found p s r (One.one e) = (e, refl)
 -- what it finds stands, or refusal 6 is met
 pub number-stands : (n : ℕ) (s : Text) → digit s ≡ true → Stood n s (scanNumber s) ⊎ ((scanNumber s ≡ Found.stuck 6 s) × Met s 6 s)
 unfolding TokenShape
-number-stands n s d = go (longSuffix (digitsEnd s)) refl
+number-stands n s d = go (letterL (digitsEnd s)) refl
   where
     text : Digits (digitsValue s) s (digitsEnd s)
     text = digits-stand s d
 
-    long-text : longSuffix (digitsEnd s) ≡ true → NumberText true (digitsValue s) s (drop 1 (digitsEnd s))
-    long-text e = both text (one-drop longSuffix (digitsEnd s) e refl)
+    long-text : letterL (digitsEnd s) ≡ true → NumberText true (digitsValue s) s (drop 1 (digitsEnd s))
+    long-text e = both text (one-drop letterL (digitsEnd s) e refl)
 
-    int-text : longSuffix (digitsEnd s) ≡ false → NumberText false (digitsValue s) s (digitsEnd s)
+    int-text : letterL (digitsEnd s) ≡ false → NumberText false (digitsValue s) s (digitsEnd s)
     int-text e = both text (refl, e)
 
-    long : (b : Bool) → longSuffix (digitsEnd s) ≡ true → leb (digitsValue s) 9223372036854775807 ≡ b
+    long : (b : Bool) → letterL (digitsEnd s) ≡ true → leb (digitsValue s) 9223372036854775807 ≡ b
         → Stood n s (scanNumber s) ⊎ ((scanNumber s ≡ Found.stuck 6 s) × Met s 6 s)
     long true e f =
         inl (record {
@@ -146,7 +146,7 @@ number-stands n s d = go (longSuffix (digitsEnd s)) refl
         })
     long false e f = inr (number-long s e ∙ rw f, Met.m6 true (long-text e) (leb-false _ _ f))
 
-    int : (b : Bool) → longSuffix (digitsEnd s) ≡ false → leb (digitsValue s) 2147483647 ≡ b
+    int : (b : Bool) → letterL (digitsEnd s) ≡ false → leb (digitsValue s) 2147483647 ≡ b
         → Stood n s (scanNumber s) ⊎ ((scanNumber s ≡ Found.stuck 6 s) × Met s 6 s)
     int true e f =
         inl (record {
@@ -159,7 +159,7 @@ number-stands n s d = go (longSuffix (digitsEnd s)) refl
         })
     int false e f = inr (number-int s e ∙ rw f, Met.m6 false (int-text e) (leb-false _ _ f))
 
-    go : (b : Bool) → longSuffix (digitsEnd s) ≡ b → Stood n s (scanNumber s) ⊎ ((scanNumber s ≡ Found.stuck 6 s) × Met s 6 s)
+    go : (b : Bool) → letterL (digitsEnd s) ≡ b → Stood n s (scanNumber s) ⊎ ((scanNumber s ≡ Found.stuck 6 s) × Met s 6 s)
     go true e = long (leb (digitsValue s) 9223372036854775807) e refl
     go false e = int (leb (digitsValue s) 2147483647) e refl
 
@@ -168,10 +168,10 @@ numberToken true v = tk.LongLit v
 numberToken false v = tk.IntLit v
 
 pub text-found : (long : Bool) {v : ℕ} (s r : Text) → NumberText long v s r
-    → (digit s ≡ true) × (longSuffix (digitsEnd s) ≡ long) × (r ≡ elim long [ true ↦ drop 1 (digitsEnd s) | false ↦ digitsEnd s ]) × (v ≡ digitsValue s)
+    → (digit s ≡ true) × (letterL (digitsEnd s) ≡ long) × (r ≡ elim long [ true ↦ drop 1 (digitsEnd s) | false ↦ digitsEnd s ]) × (v ≡ digitsValue s)
 text-found true s r (both {m} h k) =
     let q = digits-found h in
-    let o = one-found longSuffix m r k in
+    let o = one-found letterL m r k in
     (q .0, rw (← q .1) (o .0), rw (← q .1) (o .1), q .2)
 text-found false s r (both {m} h k) = let q = digits-found h in (q .0, rw (← q .1) (k .1), sym (k .0) ∙ q .1, q .2)
 

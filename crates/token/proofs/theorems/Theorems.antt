@@ -15,7 +15,7 @@ use Rattle.token.specs.paper.Kinds.{Kind, Token}
 use Rattle.token.specs.paper.Shapes.{Stands}
 use Rattle.token.specs.paper.Reading.{Piece, Pieces, Reading, Tokens, TokensOf}
 use Rattle.token.specs.paper.Refusals.{Met, First, Refused}
-use Rattle.token.specs.computed.Answer.{Answer, accepted, refused, answer}
+use Rattle.token.specs.computed.Answer.{Answer, tokenized, refused, answer}
 use Rattle.token.specs.paper.Records.{mostNeed, recordBytes}
 use Rattle.token.specs.Theorems.{Theorems}
 use Rattle.token.proofs.theorems.Unique.{one-kind, none-end, one-reading}
@@ -26,12 +26,12 @@ open ValidLaws valid-laws using (valid)
 open TextLaws text-laws using (from-length)
 
 abbrev tokensIn : Answer → List Token
-tokensIn (accepted ts) = ts
+tokensIn (tokenized ts) = ts
 tokensIn (refused j a) = []
 
-abbrev isAccepted : Answer → Bool
-isAccepted (accepted ts) = true
-isAccepted (refused j a) = false
+abbrev isTokenized : Answer → Bool
+isTokenized (tokenized ts) = true
+isTokenized (refused j a) = false
 
 no-cons : {A : Type 0} (c : Char) (s : Text) → [] ≡ c ∷ s → A
 no-cons c s e = absurd (let z : _≡_ {A = ℕ} 0 (suc (length s)) = ap length e in omega arith)
@@ -59,27 +59,27 @@ stop-same {n} (Pieces.piece {k} {s} {m} g w) e (Pieces.piece {k = l} {m = o} {r 
     stop-same w e v′ f
 
 abbrev numberIn : Answer → ℕ
-numberIn (accepted ts) = 0
+numberIn (tokenized ts) = 0
 numberIn (refused j a) = j
 
 abbrev placeIn : Answer → ℕ
-placeIn (accepted ts) = 0
+placeIn (tokenized ts) = 0
 placeIn (refused j a) = a
 
 module _ (script : List ℕ) where
-  -- what is accepted has a reading, and its tokens are the answer
-  pub sound : (ts : List Token) → answer script ≡ accepted ts → (ps : List Piece) × Reading script ps × Tokens script [] ps ts
+  -- where the answer has tokens, there is a reading, and these are its tokens
+  pub sound : (ts : List Token) → answer script ≡ tokenized ts → (ps : List Piece) × Reading script ps × Tokens script [] ps ts
   sound ts e = go (answer-finds script)
     where
       go : Walked script [] (from script 0) (answer script) → (ps : List Piece) × Reading script ps × Tokens script [] ps ts
       go (Walked.reads ps us f x y b) = let q : us ≡ ts = ap tokensIn (sym f ∙ e) in (ps, x, rw (← q) y)
-      go (Walked.stops ps c t z f x y) = clash (ap isAccepted (sym f ∙ e))
+      go (Walked.stops ps c t z f x y) = clash (ap isTokenized (sym f ∙ e))
 
-  -- what has a reading is accepted with that reading's tokens
-  pub complete : (ps : List Piece) → Reading script ps → (ts : List Token) × (answer script ≡ accepted ts) × Tokens script [] ps ts
+  -- where there is a reading, the answer has its tokens
+  pub complete : (ps : List Piece) → Reading script ps → (ts : List Token) × (answer script ≡ tokenized ts) × Tokens script [] ps ts
   complete ps h = go (answer-finds script)
     where
-      go : Walked script [] (from script 0) (answer script) → (ts : List Token) × (answer script ≡ accepted ts) × Tokens script [] ps ts
+      go : Walked script [] (from script 0) (answer script) → (ts : List Token) × (answer script ≡ tokenized ts) × Tokens script [] ps ts
       go (Walked.reads qs ts f x y b) = (ts, f, rw (one-reading script ps qs h x) y)
       go (Walked.stops qs c t z f x y) = absurd (no-both c t h refl x refl y)
 
@@ -88,7 +88,7 @@ module _ (script : List ℕ) where
   refusal j a = ((λ e. there e (answer-finds script)), λ h. back h (answer-finds script))
     where
       there : answer script ≡ refused j a → Walked script [] (from script 0) (answer script) → Refused script j a
-      there e (Walked.reads ps ts f x y b) = clash (ap isAccepted (sym e ∙ f))
+      there e (Walked.reads ps ts f x y b) = clash (ap isTokenized (sym e ∙ f))
       there e (Walked.stops ps c t z f x y) =
           let k : z .number ≡ j = ap numberIn (sym f ∙ e) in
           let p : place (length script) (z .rest) ≡ a = ap placeIn (sym f ∙ e) in
@@ -109,21 +109,21 @@ module _ (script : List ℕ) where
           ∙ ap (refused j) (h .place-is)
 
   -- a script of n bytes needs at most 17 times n plus 13 bytes
-  pub need : (ts : List Token) → answer script ≡ accepted ts → recordBytes ts ≤ mostNeed (length script)
+  pub need : (ts : List Token) → answer script ≡ tokenized ts → recordBytes ts ≤ mostNeed (length script)
   need ts e = go (answer-finds script)
     where
       go : Walked script [] (from script 0) (answer script) → recordBytes ts ≤ mostNeed (length script)
       go (Walked.reads ps us f x y b) = let q : us ≡ ts = ap tokensIn (sym f ∙ e) in let l = from-length script in rw (← q) (omega arith)
-      go (Walked.stops ps c t z f x y) = clash (ap isAccepted (sym f ∙ e))
+      go (Walked.stops ps c t z f x y) = clash (ap isTokenized (sym f ∙ e))
 
   -- the tokens of a reading are the answer's
-  pub answer-tokens : (ts : List Token) → TokensOf script ts → answer script ≡ accepted ts
-  answer-tokens ts h = let c = complete (h .pieces) (h .reading) in c .1 ∙ ap accepted (tokens-one (c .2) (h .tokens))
+  pub answer-tokens : (ts : List Token) → TokensOf script ts → answer script ≡ tokenized ts
+  answer-tokens ts h = let c = complete (h .pieces) (h .reading) in c .1 ∙ ap tokenized (tokens-one (c .2) (h .tokens))
 
-  pub tokens-answer : (ts : List Token) → answer script ≡ accepted ts → TokensOf script ts
+  pub tokens-answer : (ts : List Token) → answer script ≡ tokenized ts → TokensOf script ts
   tokens-answer ts e = let h = sound ts e in record { pieces = h .0; reading = h .1; tokens = h .2 }
 
-  tokens : (ps : List Piece) (ts : List Token) → Reading script ps → (Tokens script [] ps ts ↔ (answer script ≡ accepted ts))
+  tokens : (ps : List Piece) (ts : List Token) → Reading script ps → (Tokens script [] ps ts ↔ (answer script ≡ tokenized ts))
   tokens ps ts h = (
     (λ t. answer-tokens ts (record { pieces = ps; reading = h; tokens = t })),
     λ e. let k = sound ts e in rw (one-reading script ps (k .0) h (k .1)) (k .2),
@@ -136,11 +136,11 @@ module _ (script : List ℕ) where
   decided = go (answer script) refl
     where
       go : (w : Answer) → answer script ≡ w → ((ps : List Piece) × Reading script ps) ⊎ ((j : ℕ) × (a : ℕ) × Refused script j a)
-      go (accepted ts) e = let h = sound ts e in inl (h .0, h .1)
+      go (tokenized ts) e = let h = sound ts e in inl (h .0, h .1)
       go (refused j a) e = inr (j, a, refusal j a .0 e)
 
   never-both : (ps : List Piece) (j a : ℕ) → Reading script ps → Refused script j a → ⊥
-  never-both ps j a h k = clash (ap isAccepted (sym (refusal j a .1 k) ∙ complete ps h .1))
+  never-both ps j a h k = clash (ap isTokenized (sym (refusal j a .1 k) ∙ complete ps h .1))
 
   pub theorems : Theorems script
   theorems =

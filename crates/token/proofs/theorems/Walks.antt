@@ -16,7 +16,7 @@ use Rattle.token.specs.paper.Records.{values, recordLength, perByte, mos
 use Rattle.words.specs.Words.{le4, le8}
 use Rattle.token.specs.computed.Flags.{GapKind, fresh, push, cutOf}
 use Rattle.token.specs.declared.gap.Gap.{Gap}
-use Rattle.token.specs.computed.Answer.{Found, scan, Answer, accepted, refused, prepend, gapBefore, walk, answer}
+use Rattle.token.specs.computed.Answer.{Found, scan, Answer, tokenized, refused, prepend, gapBefore, walk, answer}
 use Rattle.token.specs.declared.kinds.TokenKind.{TokenKind}
 use Rattle.token.specs.declared.kinds.TokenKind.the-variants as tk
 use Rattle.token.proofs.theorems.Ticks.{Fell}
@@ -55,7 +55,7 @@ pub walk-stuck : (n : ℕ) (f : Gap) (c : Char) (s q : Text) (j : ℕ) → scan 
 unfolding walk
 walk-stuck n f c s q j e = rw (e, walk)
 
-pub walk-end : (n : ℕ) (f : Gap) → walk n 0 f [] ≡ accepted (record { kind = tk.Eof; start = n; end = n; cut = cutOf f } ∷ [])
+pub walk-end : (n : ℕ) (f : Gap) → walk n 0 f [] ≡ tokenized (record { kind = tk.Eof; start = n; end = n; cut = cutOf f } ∷ [])
 unfolding walk
 walk-end n f = refl
 
@@ -63,7 +63,7 @@ walk-end n f = refl
 
 -- the rest is read, and its tokens are the answer; or it is refused where nothing stands
 pub data Walked (script : List ℕ) (gap : List Piece) (s : Text) (w : Answer) : Type 0 where
-  reads : (ps : List Piece) (ts : List Token) → w ≡ accepted ts → Pieces (length script) s ps [] → Tokens script gap ps ts
+  reads : (ps : List Piece) (ts : List Token) → w ≡ tokenized ts → Pieces (length script) s ps [] → Tokens script gap ps ts
       → recordBytes ts ≤ mostNeed (length s) → Walked script gap s w
   stops : (ps : List Piece) (c : Char) (t : Text) (h : Fell (c ∷ t) (scan (length script) (c ∷ t)))
       → w ≡ refused (h .number) (place (length script) (h .rest))

@@ -17,7 +17,7 @@ use Rattle.token.specs.computed.Answer.{afterIdent, signOf}
 -- A token without values that stands from i to e: one of the nine signs; an identifier or keyword that begins with an ASCII byte and prefixes
 -- no string; or a run of operator signs that begins with an ASCII byte, opens no comment, and before none ends.
 pub data AsciiToken (s : List ℕ) (i e : ℕ) : Type 0 where
-  single : oneOf "()[]{},;." (getD s i 0) ≡ true → e ≡ i + 1 → AsciiToken s i e
+  sign : oneOf "()[]{},;." (getD s i 0) ≡ true → e ≡ i + 1 → AsciiToken s i e
   letters : ltb (getD s i 0) 0x80 && isIdStart (getD s i 0) ≡ true → e ≤ length s → from s e ≡ afterIdent false (from s (i + 1))
       → quote (from s e) ≡ false → AsciiToken s i e
   signs : ltb (getD s i 0) 0x80 && isOpSign (getD s i 0) ≡ true → e ≤ length s → from s e ≡ afterRun freeSign (from s i)

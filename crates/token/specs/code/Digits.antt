@@ -1,4 +1,5 @@
 -- What `digits` answers.
+-- `Value` and `Piece` here are the code's enums (`src/digits.rt`, `src/piece.rt`), not the paper's `Value` (`paper/Records`) and `Piece` (`paper/Reading`).
 use Prim.Native.Nat.{ℕ, zero, suc}
 use mathlib.Core.Bool.{Bool, cond}
 use mathlib.Core.List.{[], _∷_}

@@ -1,4 +1,5 @@
 -- What `piece` answers: a piece by the places of its texts.
+-- `Piece` here is the code's enum (`src/piece.rt`), not the paper's `Piece` (`paper/Reading`).
 use Prim.Native.Nat.{ℕ}
 use Rattle.chars.specs.paper.Text.{place}
 use Rattle.token.specs.paper.Kinds.{kindNumber}

@@ -9,7 +9,7 @@ use lib.Dec.{leb}
 use Rattle.chars.specs.paper.Text.{from}
 use Rattle.token.specs.paper.Kinds.{Token}
 use Rattle.token.specs.declared.kinds.TokenKind.the-variants as tk
-use Rattle.token.specs.computed.Answer.{Answer, accepted, refused, walk}
+use Rattle.token.specs.computed.Answer.{Answer, tokenized, refused, walk}
 use Rattle.token.specs.paper.Records.{records, recordBytes}
 use Rattle.token.specs.code.Form.{mostLength}
 use Rattle.token.specs.declared.gap.Gap.{Gap}
@@ -39,25 +39,25 @@ total c b = measured.Total c b
 
 -- token count and record bytes after c tokens and b bytes that were counted before, or the refusal
 unfoldable pub measuredOf : ℕ → ℕ → Answer → Measured
-measuredOf c b (accepted ts) = measured.Total (c + length ts) (b + recordBytes ts)
+measuredOf c b (tokenized ts) = measured.Total (c + length ts) (b + recordBytes ts)
 measuredOf c b (refused j a) = measured.Refused j a
 
-abbrev pub isAccepted : Answer → Bool
-isAccepted (accepted ts) = true
-isAccepted (refused j a) = false
+abbrev pub isTokenized : Answer → Bool
+isTokenized (tokenized ts) = true
+isTokenized (refused j a) = false
 
 abbrev pub tokensIn : Answer → List Token
-tokensIn (accepted ts) = ts
+tokensIn (tokenized ts) = ts
 tokensIn (refused j a) = []
 
--- the script is accepted, and its records fit into so many bytes
+-- the answer has tokens, and their records fit into so many bytes
 pub record Fits (w : Answer) (room : ℕ) : Type 0 where
-  pub is-accepted : isAccepted w ≡ true
+  pub is-tokenized : isTokenized w ≡ true
   pub fits : recordBytes (tokensIn w) ≤ room
 
 -- what is still to be written fits, and brings the buffer to `all`
 pub record Writing (v : Answer) (all out : List ℕ) (w : ℕ) : Type 0 where
-  pub is-accepted : isAccepted v ≡ true
+  pub is-tokenized : isTokenized v ≡ true
   pub room : w + recordBytes (tokensIn v) ≤ length out
   pub brings : sets out w (records (tokensIn v)) ≡ all
 

@@ -11,7 +11,7 @@ use lib.Dec.{eqb, leb}
 use Rattle.chars.specs.paper.Text.{Char, Text, from, place, headIs}
 use Rattle.chars.specs.computed.Runs.{afterRun}
 use Rattle.chars.specs.paper.Classes.{isIdStart, isIdChar}
-use Rattle.token.specs.paper.Tests.{isDigit, isHexDigit, isAny, begins, opensLine, opensBlock, closesBlock, opensComment, endOfLine, quote, threeQuotes, backslash, dollarBrace, digit, digitValue, hexAhead, longSuffix, opSign, freeSign, notBacktick, apostrophe, plainChar}
+use Rattle.token.specs.paper.Tests.{isDigit, isHexDigit, isAny, begins, opensLine, opensBlock, closesBlock, opensComment, endOfLine, quote, threeQuotes, backslash, dollarBrace, digit, digitValue, hexAhead, letterL, opSign, freeSign, notBacktick, apostrophe, plainChar}
 use Rattle.token.specs.computed.Flags.{GapKind, fresh, push, cutOf}
 use Rattle.token.specs.declared.gap.Gap.{Gap}
 use Rattle.token.specs.paper.Kinds.{wordOf, runOf, Token}
@@ -68,7 +68,7 @@ readDigits p b v (c ∷ s) =
 
 abbrev pub numberOf : Text → Numeral → Found
 numberOf s (numeral v r) =
-    cond (longSuffix r)
+    cond (letterL r)
     (cond (leb v 9223372036854775807) (Found.token (tk.LongLit v) (drop 1 r)) (Found.stuck 6 s))
     (cond (leb v 2147483647) (Found.token (tk.IntLit v) r) (Found.stuck 6 s))
 
@@ -296,12 +296,13 @@ scan n s = scanAs n (startOf s) s
 
 -- ---- the whole script
 
+-- the script's tokens, or a refusal's number and place
 pub data Answer : Type 0 where
-  accepted : List Token → Answer
+  tokenized : List Token → Answer
   refused : ℕ → ℕ → Answer
 
 abbrev pub prepend : Token → Answer → Answer
-prepend t (accepted ts) = accepted (t ∷ ts)
+prepend t (tokenized ts) = tokenized (t ∷ ts)
 prepend t (refused j a) = refused j a
 
 -- only a line end has a token
@@ -313,7 +314,7 @@ gapBefore GapKind.blockComment a e mark w = w
 
 -- the answer from the text on, after k characters that are passed, in a script of n bytes
 unfoldable pub walk : ℕ → ℕ → Gap → Text → Answer
-walk n k g [] = accepted (record { kind = tk.Eof; start = n; end = n; cut = cutOf g } ∷ [])
+walk n k g [] = tokenized (record { kind = tk.Eof; start = n; end = n; cut = cutOf g } ∷ [])
 walk n (suc k) g (c ∷ s) = walk n k g s
 walk n zero g (c ∷ s) =
     elim (scan n (c ∷ s)) [

@@ -12,7 +12,7 @@ use Rattle.chars.specs.paper.Text.{charsAt, from}
 use Rattle.chars.specs.computed.Runs.{afterRun}
 use Rattle.token.specs.paper.Tests.{same, isDigit, isHexDigit, begins}
 use Rattle.token.specs.paper.Kinds.{wordOf, runOf, kindNumber, Token}
-use Rattle.token.specs.computed.Answer.{codesTo, scanReturn, scanLine, close, scanBlock, readDigits, scanNumber, exactHexes, digitsUpTo, afterSlash, closePlain, closePrefixed, closeTriple, closeString, strip, plainContent, scanString, orPrefixed, afterIdent, scanIdent, scanOperator, scanBacktick, scanCharSym, startOf, signOf, scan, walk, Answer, accepted, refused, answer}
+use Rattle.token.specs.computed.Answer.{codesTo, scanReturn, scanLine, close, scanBlock, readDigits, scanNumber, exactHexes, digitsUpTo, afterSlash, closePlain, closePrefixed, closeTriple, closeString, strip, plainContent, scanString, orPrefixed, afterIdent, scanIdent, scanOperator, scanBacktick, scanCharSym, startOf, signOf, scan, walk, Answer, tokenized, refused, answer}
 use Rattle.token.specs.paper.Records.{Value, one, four, eight, valuesOf, bit}
 
 -- a number in base ten, before the text t; the first argument bounds its digits
@@ -45,7 +45,7 @@ unfoldable pub refusedAt : ℕ → ℕ → List ℕ
 refusedAt j a = codes "refused " ++ decimal j ++ codes " at " ++ decimal a ++ codes "\n"
 
 unfoldable pub listing : Answer → List ℕ
-listing (accepted ts) = shown ts
+listing (tokenized ts) = shown ts
 listing (refused j a) = refusedAt j a
 
 -- a script and its listing

@@ -3,7 +3,7 @@
 -- Five types go by kinds. Two are the paper's, both below:
 --   `Kind`       of a piece: blank, line end, line comment, block comment, or a token of a type
 --   `TokenType`  of a piece that is a token, without its values. Line ends are a `Kind` of their own, and Eof is no piece.
--- One is the code's enum (`src/kinds.rt`), on all sides what a token or record is:
+-- One is the code's enum (`src/kinds.rt`), used on every side for what a token or record is:
 --   `TokenKind`  with its values, Newline and Eof among them; `kindNumber` is its number under Records
 -- Two are the computed side's own:
 --   `GapKind`    (`computed/Flags`) the four of `Kind` that are no token
@@ -59,7 +59,7 @@ kindNumber (tk.Newline b) = 17
 kindNumber tk.Eof = 18
 kindNumber (tk.Kw k) = kwNumber k
 
--- a list of keywords with their texts
+-- a keyword with its text
 pub data Word : Type 0 where
   word : String → Kw → Word
 

@@ -13,7 +13,7 @@ use Rattle.token.specs.paper.Shapes.{One, Run, Times, _then_, Block, Num
 use Rattle.token.specs.paper.Reading.{Piece, Pieces}
 
 -- A shape of the piece table starts with the character of code x: some list of characters that begins with it, of this script or not, has a kind's
--- shape. So what is said of the text that follows a piece takes no start away.
+-- shape. Any text may follow, so what is said of the text after a piece excludes no first character.
 pub data StartsShape (x : ℕ) : Type 0 where
   shape : (k : Kind) (c : Char) (s r : Text) → c .code ≡ x → HasShape k (c ∷ s) r → StartsShape x
 
@@ -33,7 +33,7 @@ pub data WithinSingle : Bool → Text → Text → Type 0 where
       → WithinSingle p (c ∷ s) r
   -- in a plain one it opens an escape: a valid one is passed as a whole, of another the backslash alone
   escape : {s m r : Text} → Escape s m → WithinSingle false m r → WithinSingle false s r
-  slash : {c : Char} {s r : Text} → backslash (c ∷ s) ≡ true → ((m : Text) → Escape (c ∷ s) m → ⊥) → WithinSingle false s r
+  wrong-escape : {c : Char} {s r : Text} → backslash (c ∷ s) ≡ true → ((m : Text) → Escape (c ∷ s) m → ⊥) → WithinSingle false s r
       → WithinSingle false (c ∷ s) r
 
 -- q is reached inside a single string of the piece that starts at s

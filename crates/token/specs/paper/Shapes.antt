@@ -9,7 +9,7 @@ use mathlib.Core.Option.{none, some}
 use lib.ListN.{length, take, drop}
 use Rattle.chars.specs.paper.Text.{Char, Text, headIs, idChar}
 use Rattle.chars.specs.paper.Classes.{isIdStart}
-use Rattle.token.specs.paper.Tests.{isAny, opensBlock, closesBlock, opensComment, endOfLine, quote, threeQuotes, backslash, dollarBrace, digit, hexDigit, digitValue, hexAhead, longSuffix, opSign, freeSign, notBacktick, apostrophe, plainChar}
+use Rattle.token.specs.paper.Tests.{isAny, opensBlock, closesBlock, opensComment, endOfLine, quote, threeQuotes, backslash, dollarBrace, digit, hexDigit, digitValue, hexAhead, letterL, opSign, freeSign, notBacktick, apostrophe, plainChar}
 use Rattle.token.specs.paper.Kinds.{Kind, TokenType, isComment, wordOf, runOf}
 
 -- ---- words of the section
@@ -101,8 +101,8 @@ pub data Digits : ℕ → Text → Text → Type 0 where
 
 -- then `L` or `l` if it stands there (true), else nothing
 abbrev pub LongSuffix : Bool → Shape
-LongSuffix true s r = One longSuffix s r
-LongSuffix false s r = (s ≡ r) × (longSuffix s ≡ false)
+LongSuffix true s r = One letterL s r
+LongSuffix false s r = (s ≡ r) × (letterL s ≡ false)
 
 -- LongLit, at most 9223372036854775807; else IntLit, at most 2147483647
 abbrev pub limit : Bool → ℕ

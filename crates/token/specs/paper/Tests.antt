@@ -83,8 +83,8 @@ abbrev pub hexAhead : Text → Bool
 hexAhead s = begins "0x" s && hexDigit (drop 2 s)
 
 -- `L` or `l`
-abbrev pub longSuffix : Text → Bool
-longSuffix s = isAny "Ll" s
+abbrev pub letterL : Text → Bool
+letterL s = isAny "Ll" s
 
 -- a digit's value: 0 to 9, then a to f or A to F
 abbrev pub digitValue : ℕ → ℕ

@@ -4,7 +4,7 @@ use native.Mathlib.Omega.{arith}
 use borrow.Author.Tests.{le-leb, lt-leb}
 use Rattle.words.specs.Words.{twoAt}
 use Rattle.token.specs.paper.Records.{headLength}
-use Rattle.listing_text.specs.Fields.{recordLength}
+use Rattle.listing_text.specs.Fields.{lengthHere}
 use borrow.Author.Needs.{needs}
 use Rattle.listing_text.proofs.fields.record_length.Statement.{statement}
 use Rattle.listing_text.proofs.fields.record_length.Tie as tie
@@ -16,21 +16,21 @@ cast-if1 : tie.Need-cast-if1
 cast-if1 c = search needs
 
 returns : tie.Need-returns
-unfolding recordLength
+unfolding lengthHere
 returns c =
     let bytes = c .before .before .before .args .bytes .now in
     let e = c .before .two .ensures .0 in
     (simp (lt-leb headLength (twoAt bytes 0) (omega (arith, e))), omega arith)
 
 returns-2 : tie.Need-returns-2
-unfolding recordLength
+unfolding lengthHere
 returns-2 c =
     let bytes = c .before .before .before .before .args .bytes .now in
     let e = c .before .before .two .ensures .0 in
     (simp (le-leb headLength (twoAt bytes 0) (omega (arith, e)), lt-leb (twoAt bytes 0) (length bytes) (omega (arith, e))), omega arith)
 
 returns-3 : tie.Need-returns-3
-unfolding recordLength
+unfolding lengthHere
 returns-3 c =
     let bytes = c .before .before .before .before .args .bytes .now in
     let e = c .before .before .two .ensures .0 in

@@ -31,7 +31,7 @@ add-result : tie.Need-add-result
 add-result c = search needs
 
 returns-3 : tie.Need-returns-3
-returns-3 c = inr (AsciiToken.single (sym (c .before .is-sign .ensures) ∙ c .if3 .taken) refl)
+returns-3 c = inr (AsciiToken.sign (sym (c .before .is-sign .ensures) ∙ c .if3 .taken) refl)
 
 in-run-requires : tie.Need-in-run-requires
 in-run-requires c κs = search needs
