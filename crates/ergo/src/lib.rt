@@ -5,7 +5,8 @@ ghost use Rattle.entry.specs.paper.Host.{seen};
 ghost use Rattle.entry.specs.computed.Host.{hostOf};
 ghost use Rattle.entry.specs.paper.TokenText.{textNumber};
 ghost use Rattle.entry.specs.Theorems.{HostTheorems};
-ghost use Rattle.rolls.specs.computed.Host.{rollNumber, rollBlock, recordNumber, recordBlock};
+ghost use Rattle.rolls.specs.paper.Host.{told};
+ghost use Rattle.rolls.specs.computed.Host.{rollTold, recordTold};
 ghost use Rattle.rolls.specs.Theorems.{RollTheorems};
 
 #[no_mangle]
@@ -25,8 +26,7 @@ pub extern "C" fn ergo_token_text(script: &[u8], start: u32, end: u32) -> u32
 
 #[no_mangle]
 pub extern "C" fn ergo_read_roll(roll: &[u8], answer: &mut [u8]) -> u32
-    ensures { λ r. ⌜ r ≡ rollNumber (now (roll .entry)) (now (answer .entry)) ⌝ }
-    ensures { λ r. ⌜ now (answer .exit) ≡ rollBlock (now (roll .entry)) (now (answer .entry)) ⌝ }
+    ensures { λ r. ⌜ told r (now (answer .exit)) ≡ rollTold (now (roll .entry)) (now (answer .entry)) ⌝ }
     ensures { λ r. ⌜ RollTheorems (now (roll .entry)) ⌝ }
 {
     rolls::host::answer_roll(roll, answer)
@@ -34,8 +34,7 @@ pub extern "C" fn ergo_read_roll(roll: &[u8], answer: &mut [u8]) -> u32
 
 #[no_mangle]
 pub extern "C" fn ergo_read_record(roll: &[u8], at: u32, previous: u32, answer: &mut [u8]) -> u32
-    ensures { λ r. ⌜ r ≡ recordNumber (now (roll .entry)) at previous (now (answer .entry)) ⌝ }
-    ensures { λ r. ⌜ now (answer .exit) ≡ recordBlock (now (roll .entry)) at previous (now (answer .entry)) ⌝ }
+    ensures { λ r. ⌜ told r (now (answer .exit)) ≡ recordTold (now (roll .entry)) at previous (now (answer .entry)) ⌝ }
     ensures { λ r. ⌜ RollTheorems (now (roll .entry)) ⌝ }
 {
     rolls::host::answer_record(roll, at, previous, answer)

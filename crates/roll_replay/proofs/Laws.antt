@@ -9,24 +9,23 @@ use lib.ListN.{length, take, drop, replicate}
 use native.Mathlib.Omega.{arith}
 use borrow.Author.Tests.{ltb-true, ltb-false}
 use Rattle.words.specs.Words.{fourAt}
-use Rattle.rolls.specs.computed.Host.{rollNumber, rollBlock, recordNumber, recordBlock}
+use Rattle.rolls.specs.paper.Host.{told}
+use Rattle.rolls.specs.computed.Host.{rollTold, recordTold}
 use Rattle.cases.specs.Cases.{untouched, Listed, nextIn}
 use Rattle.cases.proofs.Laws.{says-no, says}
 use Rattle.roll_replay.specs.Cases.{rollAt, rollEnd, caseEnd, nextAt, RollAgrees, RecordAgrees, RecordsAgree, CaseAgrees}
 
 -- what was handed back, of a roll and of a record
 pub roll-is : (list : List ℕ) (at : ℕ) (roll : List ℕ) {number : ℕ} {block : List ℕ} {r : Bool}
-    → number ≡ rollNumber roll (replicate 16 0xA5) → block ≡ rollBlock roll (replicate 16 0xA5) → (r ≡ true) ↔ Listed list at number block
-    → (r ≡ true) ↔ RollAgrees list at roll
+    → told number block ≡ rollTold roll (replicate 16 0xA5) → (r ≡ true) ↔ Listed list at number block → (r ≡ true) ↔ RollAgrees list at roll
 unfolding untouched
-roll-is list at roll e f is = rw (← e, ← f) is
+roll-is list at roll e is = rw (← e) is
 
 pub record-is : (list : List ℕ) (at : ℕ) (roll : List ℕ) {offset previous number : ℕ} {block : List ℕ} {r : Bool}
-    → offset ≡ fourAt list at → previous ≡ fourAt list (at + 4)
-    → number ≡ recordNumber roll offset previous (replicate 40 0xA5) → block ≡ recordBlock roll offset previous (replicate 40 0xA5)
+    → offset ≡ fourAt list at → previous ≡ fourAt list (at + 4) → told number block ≡ recordTold roll offset previous (replicate 40 0xA5)
     → (r ≡ true) ↔ Listed list (at + 8) number block → (r ≡ true) ↔ RecordAgrees list roll at
 unfolding RecordAgrees untouched
-record-is list at roll o p e f is = rw (← o, ← p, ← e, ← f) is
+record-is list at roll o p e is = rw (← o, ← p, ← e) is
 
 -- ---- one more record, in the loop of records_agree
 

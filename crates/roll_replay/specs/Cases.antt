@@ -3,7 +3,8 @@ use Prim.Native.Nat.{ℕ, _+_, _*_, _≤_, _<_}
 use mathlib.Core.List.{List}
 use lib.ListN.{length, take, drop}
 use Rattle.words.specs.Words.{fourAt}
-use Rattle.rolls.specs.computed.Host.{rollNumber, rollBlock, recordNumber, recordBlock}
+use Rattle.rolls.specs.paper.Host.{Told, numberTold, blockTold}
+use Rattle.rolls.specs.computed.Host.{rollTold, recordTold}
 use Rattle.cases.specs.Cases.{untouched, Listed, nextIn}
 
 -- the roll of the case at a place, and where it ends
@@ -20,16 +21,17 @@ caseEnd list at = rollEnd list at + 48 * fourAt list (at + 4)
 unfoldable pub nextAt : List ℕ → ℕ → ℕ
 nextAt list at = nextIn list (caseEnd list at)
 
--- a host that reads the roll sees what the list has at a place
-abbrev pub RollAgrees : List ℕ → ℕ → List ℕ → Type 0
-RollAgrees list at roll = Listed list at (rollNumber roll (untouched 16)) (rollBlock roll (untouched 16))
+-- what a host is told is what the list has at a place
+abbrev pub AsListed : List ℕ → ℕ → Told → Type 0
+AsListed list at x = Listed list at (numberTold x) (blockTold x)
 
--- a host that reads the record which the list asks for at a place, by its offset and the previous end, sees what the list has behind these two
+-- so it is with a host that reads the roll
+abbrev pub RollAgrees : List ℕ → ℕ → List ℕ → Type 0
+RollAgrees list at roll = AsListed list at (rollTold roll (untouched 16))
+
+-- and with one that reads the record which the list asks for at a place, by its offset and the previous end; the answer stands behind these two
 unfoldable pub RecordAgrees : List ℕ → List ℕ → ℕ → Type 0
-RecordAgrees list roll at =
-    let offset = fourAt list at in
-    let previous = fourAt list (at + 4) in
-    Listed list (at + 8) (recordNumber roll offset previous (untouched 40)) (recordBlock roll offset previous (untouched 40))
+RecordAgrees list roll at = AsListed list (at + 8) (recordTold roll (fourAt list at) (fourAt list (at + 4)) (untouched 40))
 
 -- so many records, asked for from a place on
 abbrev pub RecordsAgree : List ℕ → List ℕ → ℕ → ℕ → Type 0

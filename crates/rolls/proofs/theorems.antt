@@ -5,6 +5,7 @@ pub mod Rules
 pub mod Eofs
 pub mod Steps
 pub mod Reading
+pub mod Tells
 pub mod Back
 pub mod Written
 pub mod Rolls

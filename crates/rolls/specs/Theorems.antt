@@ -4,20 +4,28 @@ use mathlib.Core.Path.{_≡_}
 use mathlib.Core.Logic.{_↔_}
 use mathlib.Core.List.{List}
 use lib.ListN.{length}
+use Rattle.words.specs.Words.{fourAt}
 use Rattle.token.specs.paper.Kinds.{Token}
 use Rattle.token.specs.paper.Reading.{TokensOf, OnlyLastEof}
 use Rattle.token.specs.paper.Records.{mostBytes, records}
-use Rattle.rolls.specs.paper.Roll.{Stepped, yielded, Steps, Outcome, tokens, Reads}
+use Rattle.rolls.specs.paper.Roll.{Stepped, yielded, Steps, Outcome, tokens, ReadsRoll}
+use Rattle.rolls.specs.paper.Host.{Told, TellsRoll, TellsRecord, tokenBlock}
 use Rattle.rolls.specs.computed.Roll.{readAt, readRoll}
+use Rattle.rolls.specs.computed.Host.{rollTold, recordTold}
 use Rattle.rolls.specs.computed.Examples.{RollExamples}
 
 pub record RollTheorems (roll : List ℕ) : Type 0 where
   -- The answer is what document 02 declares, and nothing else: of one record, wherever it is asked for, and of the roll.
   pub steps : (at previous : ℕ) (x : Stepped) → (readAt roll at previous ≡ x) ↔ Steps roll at previous x
-  pub reads : (x : Outcome) → (readRoll roll ≡ x) ↔ Reads roll 0 0 x
-  -- A token that is yielded brings the reader on, within the roll, and its end fits 4 bytes: so whoever steps by the numbers of an answer block, in a
-  -- roll of less than 2³² bytes, makes just these steps, and they end.
+  pub reads : (x : Outcome) → (readRoll roll ≡ x) ↔ ReadsRoll roll x
+  -- So is what a host is told, with any block.
+  pub tells-record : (at previous : ℕ) (block : List ℕ) (x : Told) → (recordTold roll at previous block ≡ x) ↔ TellsRecord roll at previous block x
+  pub tells-roll : (block : List ℕ) (x : Told) → (rollTold roll block ≡ x) ↔ TellsRoll roll block x
+  -- A token that is yielded brings the reader on, within the roll, and its end fits 4 bytes. In a roll of less than 2³² bytes its block has the next offset
+  -- and the token's end as they are: so whoever steps by the numbers of the block makes just these steps, and they end.
   pub onward : (at previous next : ℕ) (t : Token) → readAt roll at previous ≡ yielded t next → (at < next) × (next ≤ length roll) × (t .end < 4294967296)
+  pub by-block : (t : Token) (next : ℕ) → next < 4294967296 → t .end < 4294967296
+      → (fourAt (tokenBlock t next) 28 ≡ next) × (fourAt (tokenBlock t next) 16 ≡ t .end)
   -- "Every roll that the writer makes is read to the same tokens": for every script of at most 16,777,216 bytes that has a reading.
   pub written : (script : List ℕ) (ts : List Token) → length script ≤ mostBytes → TokensOf script ts → readRoll (records ts) ≡ tokens ts
   -- "and writing those tokens gives the same bytes": for every roll that is read, whoever made it.

@@ -7,21 +7,17 @@ use crate::roll::read_roll;
 use token::kinds::TokenKind;
 use token::kinds::bit_of;
 use words::write::put_block;
-use words::write::put4;
+use words::write::put_numbers;
 use words::write::put8;
 ghost use mathlib.Core.Path.{_≡_};
-ghost use Prim.Native.Nat.{_+_, _≤_};
 ghost use lib.ListN.{length};
-ghost use lib.Seq.{sets};
-ghost use Rattle.words.specs.Words.{blockOf};
-ghost use Rattle.rolls.specs.paper.Host.{tokenBlock, stopBlock};
-ghost use Rattle.rolls.specs.computed.Host.{rollNumber, rollBlock, recordNumber, recordBlock};
+ghost use Rattle.rolls.specs.paper.Host.{told, tokenBlock, stopBlock};
+ghost use Rattle.rolls.specs.computed.Host.{rollTold, recordTold};
 ghost use Rattle.rolls.specs.Theorems.{RollTheorems};
 
 // 16 bytes: refusal, place, token count, bytes of the roll; unused ones 0. The last clause says what holds of every roll.
 pub fn answer_roll(roll: &[u8], answer: &mut [u8]) -> u32
-    ensures { λ r. ⌜ r ≡ rollNumber (now (roll .entry)) (now (answer .entry)) ⌝ }
-    ensures { λ r. ⌜ now (answer .exit) ≡ rollBlock (now (roll .entry)) (now (answer .entry)) ⌝ }
+    ensures { λ r. ⌜ told r (now (answer .exit)) ≡ rollTold (now (roll .entry)) (now (answer .entry)) ⌝ }
     ensures { λ r. ⌜ RollTheorems (now (roll .entry)) ⌝ }
 {
     if answer.len() != 16 {
@@ -38,17 +34,6 @@ pub fn answer_roll(roll: &[u8], answer: &mut [u8]) -> u32
             return 0;
         }
     }
-}
-
-// Four numbers of four bytes, from w on.
-fn put_numbers(out: &mut [u8], w: usize, first: usize, second: usize, third: usize, fourth: usize)
-    requires { ⌜ w + 16 ≤ length (now out) ⌝ }
-    ensures { λ r. ⌜ now (out .exit) ≡ sets (now (out .entry)) w (blockOf first second third fourth) ⌝ }
-{
-    put4(out, w, first);
-    put4(out, w + 4, second);
-    put4(out, w + 8, third);
-    put4(out, w + 12, fourth);
 }
 
 // The block of a token.
@@ -74,8 +59,7 @@ fn put_stop(answer: &mut [u8], number: usize, place: usize)
 
 // 40 bytes: refusal, place, kind, start, end, cut, 0, offset of the next record, and the values in 8 bytes.
 pub fn answer_record(roll: &[u8], at: u32, previous: u32, answer: &mut [u8]) -> u32
-    ensures { λ r. ⌜ r ≡ recordNumber (now (roll .entry)) at previous (now (answer .entry)) ⌝ }
-    ensures { λ r. ⌜ now (answer .exit) ≡ recordBlock (now (roll .entry)) at previous (now (answer .entry)) ⌝ }
+    ensures { λ r. ⌜ told r (now (answer .exit)) ≡ recordTold (now (roll .entry)) at previous (now (answer .entry)) ⌝ }
     ensures { λ r. ⌜ RollTheorems (now (roll .entry)) ⌝ }
 {
     if answer.len() != 40 {

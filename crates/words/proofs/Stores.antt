@@ -62,7 +62,7 @@ put-eight l m n w x = put-fours l m n w (x % 4294967296) (x / 4294967296)
 
 -- ---- the answer block
 
-pub block-parts : (j a count bytes : ℕ) → le4 j ++ (le4 a ++ (le4 count ++ le4 bytes)) ≡ blockOf j a count bytes
+block-parts : (j a count bytes : ℕ) → le4 j ++ (le4 a ++ (le4 count ++ le4 bytes)) ≡ blockOf j a count bytes
 unfolding blockOf le4
 block-parts j a count bytes = refl
 
@@ -70,15 +70,19 @@ pub length-block : (j a count bytes : ℕ) → length (blockOf j a count bytes) 
 unfolding blockOf le4
 length-block j a count bytes = refl
 
-pub put-sixteen : (l m n o p : List ℕ) (j a count bytes : ℕ) → length l ≡ 16
-    → m ≡ sets l 0 (le4 j) → n ≡ sets m 4 (le4 a) → o ≡ sets n 8 (le4 count) → p ≡ sets o 12 (le4 bytes) → p ≡ blockOf j a count bytes
-put-sixteen l m n o p j a count bytes h p1 p2 p3 p4 =
-    let n1 = length-four j in
-    let n2 = length-four a in
-    let n3 = length-four count in
+-- four numbers of four bytes, one after another
+pub put-four-numbers : (l m n o p : List ℕ) (w a b c d : ℕ) → m ≡ sets l w (le4 a) → n ≡ sets m (w + 4) (le4 b) → o ≡ sets n (w + 8) (le4 c)
+    → p ≡ sets o (w + 12) (le4 d) → p ≡ sets l w (blockOf a b c d)
+put-four-numbers l m n o p w a b c d p1 p2 p3 p4 =
+    let n1 = length-four a in
+    let n2 = length-four b in
+    let n3 = length-four c in
     p4
-    ∙ after (le4 count) (le4 bytes) n o 8 12 p3 (omega arith)
-    ∙ after (le4 a) (le4 count ++ le4 bytes) m n 4 8 p2 (omega arith)
-    ∙ after (le4 j) (le4 a ++ (le4 count ++ le4 bytes)) l m 0 4 p1 (omega arith)
-    ∙ ap (sets l 0) (block-parts j a count bytes)
-    ∙ whole l (blockOf j a count bytes) (h ∙ sym (length-block j a count bytes))
+    ∙ after (le4 c) (le4 d) n o (w + 8) (w + 12) p3 (omega arith)
+    ∙ after (le4 b) (le4 c ++ le4 d) m n (w + 4) (w + 8) p2 (omega arith)
+    ∙ after (le4 a) (le4 b ++ (le4 c ++ le4 d)) l m w (w + 4) p1 (omega arith)
+    ∙ ap (sets l w) (block-parts a b c d)
+
+-- over the whole block
+pub put-sixteen : (l m : List ℕ) (j a count bytes : ℕ) → length l ≡ 16 → m ≡ sets l 0 (blockOf j a count bytes) → m ≡ blockOf j a count bytes
+put-sixteen l m j a count bytes h p = p ∙ whole l (blockOf j a count bytes) (h ∙ sym (length-block j a count bytes))

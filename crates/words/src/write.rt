@@ -43,13 +43,28 @@ pub fn copy(out: &mut [u8], src: &[u8], n: usize)
     }
 }
 
+// Four numbers of four bytes, from w on.
+pub fn put_numbers(
+    out: &mut [u8],
+    w: usize,
+    first: usize,
+    second: usize,
+    third: usize,
+    fourth: usize,
+)
+    requires { ⌜ w + 16 ≤ length (now out) ⌝ }
+    ensures { λ r. ⌜ now (out .exit) ≡ sets (now (out .entry)) w (blockOf first second third fourth) ⌝ }
+{
+    put4(out, w, first);
+    put4(out, w + 4, second);
+    put4(out, w + 8, third);
+    put4(out, w + 12, fourth);
+}
+
 // The answer block, whole: refusal, place, token count, record bytes.
 pub fn put_block(out: &mut [u8], number: usize, place: usize, count: usize, bytes: usize)
     requires { ⌜ length (now out) ≡ 16 ⌝ }
     ensures { λ r. ⌜ now (out .exit) ≡ blockOf number place count bytes ⌝ }
 {
-    put4(out, 0, number);
-    put4(out, 4, place);
-    put4(out, 8, count);
-    put4(out, 12, bytes);
+    put_numbers(out, 0, number, place, count, bytes);
 }

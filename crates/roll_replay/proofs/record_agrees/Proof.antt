@@ -39,8 +39,7 @@ returns : tie.Need-returns
 returns c =
     let call = c .before .before .before in
     let asked = call .before .before in
-    let read = call .ergo-read-record .ensures in
-    record-is _ _ _ (asked .before .four .ensures .0) (asked .four2 .ensures .0) (read .0) (read .1 .0) (c .is-listed .ensures)
+    record-is _ _ _ (asked .before .four .ensures .0) (asked .four2 .ensures .0) (call .ergo-read-record .ensures .0) (c .is-listed .ensures)
 
 pub record-agrees-spec : {M : Type 1} → statement M
 record-agrees-spec =

@@ -19,8 +19,7 @@ is-listed-requires c κs = search needs
 
 returns : tie.Need-returns
 returns c =
-    let read = c .before .before .before .ergo-read-roll .ensures in
-    roll-is _ _ _ (read .0) (read .1 .0) (c .is-listed .ensures)
+    roll-is _ _ _ (c .before .before .before .ergo-read-roll .ensures .0) (c .is-listed .ensures)
 
 pub roll-agrees-spec : {M : Type 1} → statement M
 roll-agrees-spec =

@@ -2,17 +2,17 @@
 use Prim.Native.Nat.{ℕ, _+_, _/_, _%_, _<_}
 use mathlib.Core.Path.{_≡_, refl, sym, _∙_, ap}
 use mathlib.Core.Bool.{Bool, true, false}
-use mathlib.Core.List.{List, [], _∷_, _++_}
+use mathlib.Core.List.{List, _∷_, _++_}
 use lib.ListN.{length, take, drop, replicate, length-append}
 use lib.Seq.{sets}
 use native.Mathlib.Nat.{zero-add}
 use native.Mathlib.Omega.{arith}
-use borrow.Author.Tests.{ne-eqb}
+use borrow.Author.Tests.{eq-eqb, ne-eqb}
 use denote.Laws.{Is}
 use denote.Enum.Declared.{row}
 use denote.Enum.Laws.{owed, vals}
 use Rattle.words.specs.Words.{le2, le4, le8, blockOf}
-use Rattle.words.proofs.Stores.{after, whole, length-four, block-parts, length-block}
+use Rattle.words.proofs.Stores.{after, whole, length-block}
 use Rattle.words.proofs.Joins.{eights}
 use Rattle.token.specs.paper.Kinds.{Token, kindNumber}
 use Rattle.token.specs.paper.Records.{bit, valuesOf, values, recordLength, fieldsOf, headOf, recordOf}
@@ -23,10 +23,10 @@ use Rattle.token.specs.declared.kinds.TokenKind.the-variants as tk
 use Rattle.token.proofs.form.Laws.{form-record}
 use Rattle.token.proofs.kinds.TokenKind.{the-type}
 use Rattle.token.proofs.kinds.TokenKind.Laws.{the-laws}
-use Rattle.rolls.specs.paper.Roll.{Outcome, tokens, refused}
+use Rattle.rolls.specs.paper.Roll.{Stepped, Outcome, tokens, refused}
 use Rattle.rolls.specs.computed.Roll.{readAt, readRoll}
-use Rattle.rolls.specs.paper.Host.{tokenBlock, stopBlock}
-use Rattle.rolls.specs.computed.Host.{rollNumber, rollBlock, recordNumber, recordBlock}
+use Rattle.rolls.specs.paper.Host.{told, outcomeTold, steppedTold, tokenBlock, stopBlock}
+use Rattle.rolls.specs.computed.Host.{rollTold, recordTold}
 use Rattle.rolls.specs.code.Record.{yieldOf}
 use Rattle.rolls.specs.code.Roll.{countedOf}
 use Rattle.rolls.specs.declared.record.RollCursor.{RollCursor}
@@ -36,19 +36,6 @@ use Rattle.rolls.proofs.record.Laws.{was-stopped, was-token}
 use Rattle.rolls.proofs.theorems.Kinds.{Carries, int, long, content, mark, nothing, carries}
 
 -- ---- stores
-
--- four numbers of four bytes, one after another
-pub put-four-numbers : (l m n o p : List ℕ) (w a b c d : ℕ) → m ≡ sets l w (le4 a) → n ≡ sets m (w + 4) (le4 b) → o ≡ sets n (w + 8) (le4 c)
-    → p ≡ sets o (w + 12) (le4 d) → p ≡ sets l w (blockOf a b c d)
-put-four-numbers l m n o p w a b c d p1 p2 p3 p4 =
-    let n1 = length-four a in
-    let n2 = length-four b in
-    let n3 = length-four c in
-    p4
-    ∙ after (le4 c) (le4 d) n o (w + 8) (w + 12) p3 (omega arith)
-    ∙ after (le4 b) (le4 c ++ le4 d) m n (w + 4) (w + 8) p2 (omega arith)
-    ∙ after (le4 a) (le4 b ++ (le4 c ++ le4 d)) l m w (w + 4) p1 (omega arith)
-    ∙ ap (sets l w) (block-parts a b c d)
 
 -- two blocks of 16 bytes and a number of eight cover 40 bytes
 put-forty : (l m n o : List ℕ) (a b c d e f g h x : ℕ) → length l ≡ 40 → m ≡ sets l 0 (blockOf a b c d) → n ≡ sets m 16 (blockOf e f g h)
@@ -90,7 +77,7 @@ eight-values (int v) h =
 eight-values (long v) h = refl
 eight-values (content a e) h = ap (drop 13) (form-record (record { kind = tk.Str a e; start = 0; end = 0; cut = false }))
 eight-values (mark b) h = eight-bit b
-eight-values (nothing k n l b e) h = rw n
+eight-values (nothing k n l b) h = rw n
 
 -- ---- the block of a record
 
@@ -118,7 +105,7 @@ put-token-block l m n o t next f b h e c k p q r =
     ∙ ap (λ v. blockOf 0 0 (kindNumber (t .kind)) (t .start) ++ (blockOf (t .end) (bit (t .cut)) 0 next ++ v)) (eight-values (carries (t .kind)) h)
     ∙ token-parts t next
 
--- ---- each return of `roll`
+-- ---- each return of `answer_roll`
 
 was-refused : (x : Outcome) (j a : ℕ) → counted.Refused j a ≡ countedOf 0 x → x ≡ refused j a
 unfolding countedOf
@@ -132,40 +119,43 @@ was-tokens (refused j a) n e = let z : _≡_ {A = ℕ} 0 1 = cc in absurd (omega
 
 module _ (roll block : List ℕ) where
   -- a block of another length
-  pub roll-other : (length block ≡ 16 → ⊥) → (20 ≡ rollNumber roll block) × (block ≡ rollBlock roll block)
-  unfolding rollNumber rollBlock
-  roll-other h = (simp (ne-eqb (length block) 16 h), simp (ne-eqb (length block) 16 h))
+  pub roll-other : (length block ≡ 16 → ⊥) → told 20 block ≡ rollTold roll block
+  unfolding rollTold
+  roll-other h = simp (ne-eqb (length block) 16 h)
 
   module _ (h : length block ≡ 16) where
-    pub roll-refused : (out : List ℕ) (j a : ℕ) → counted.Refused j a ≡ countedOf 0 (readRoll roll) → out ≡ blockOf j a 0 0
-        → (j ≡ rollNumber roll block) × (out ≡ rollBlock roll block)
-    unfolding rollNumber rollBlock
-    roll-refused out j a e p = let w = was-refused (readRoll roll) j a e in (simp (h, w), p ∙ simp (h, w))
+    -- what is read is told
+    roll-told : {x : Outcome} → readRoll roll ≡ x → outcomeTold (length roll) x ≡ rollTold roll block
+    unfolding rollTold
+    roll-told e = rw (eq-eqb (length block) 16 h, e)
+
+    pub roll-refused : (out : List ℕ) (j a : ℕ) → counted.Refused j a ≡ countedOf 0 (readRoll roll) → out ≡ blockOf j a 0 0 → told j out ≡ rollTold roll block
+    roll-refused out j a e p = ap (told j) p ∙ roll-told (was-refused (readRoll roll) j a e)
 
     pub roll-tokens : (out : List ℕ) (n : ℕ) → counted.Tokens n ≡ countedOf 0 (readRoll roll) → out ≡ blockOf 0 0 n (length roll)
-        → (0 ≡ rollNumber roll block) × (out ≡ rollBlock roll block)
-    unfolding rollNumber rollBlock
+        → told 0 out ≡ rollTold roll block
     roll-tokens out n e p =
         let w = was-tokens (readRoll roll) n e in
-        (simp (h, w .1), p ∙ ap (λ k. blockOf 0 0 k (length roll)) (w .2) ∙ simp (h, w .1))
+        ap (told 0) (p ∙ ap (λ k. blockOf 0 0 k (length roll)) (w .2)) ∙ roll-told (w .1)
 
--- ---- each return of `record`
+-- ---- each return of `answer_record`
 
 module _ (roll : List ℕ) (at previous : ℕ) (block : List ℕ) where
   -- a block of another length
-  pub record-other : (length block ≡ 40 → ⊥) → (20 ≡ recordNumber roll at previous block) × (block ≡ recordBlock roll at previous block)
-  unfolding recordNumber recordBlock
-  record-other h = (simp (ne-eqb (length block) 40 h), simp (ne-eqb (length block) 40 h))
+  pub record-other : (length block ≡ 40 → ⊥) → told 20 block ≡ recordTold roll at previous block
+  unfolding recordTold
+  record-other h = simp (ne-eqb (length block) 40 h)
 
   module _ (h : length block ≡ 40) where
+    record-told : {x : Stepped} → readAt roll at previous ≡ x → steppedTold x ≡ recordTold roll at previous block
+    unfolding recordTold
+    record-told e = rw (eq-eqb (length block) 40 h, e)
+
     pub record-refused : (out : List ℕ) (j a : ℕ) → yield.Refused j a ≡ yieldOf (readAt roll at previous) → out ≡ stopBlock j a
-        → (j ≡ recordNumber roll at previous block) × (out ≡ recordBlock roll at previous block)
-    unfolding recordNumber recordBlock
-    record-refused out j a e p = let w = was-stopped (readAt roll at previous) j a e in (simp (h, w), p ∙ simp (h, w))
+        → told j out ≡ recordTold roll at previous block
+    record-refused out j a e p = ap (told j) p ∙ record-told (was-stopped (readAt roll at previous) j a e)
 
     pub record-token : (out : List ℕ) (k : TokenKind) (start end : ℕ) (cut : Bool) (next : RollCursor)
         → yield.Token k start end cut next ≡ yieldOf (readAt roll at previous)
-        → out ≡ tokenBlock (record { kind = k; start = start; end = end; cut = cut }) (next .at)
-        → (0 ≡ recordNumber roll at previous block) × (out ≡ recordBlock roll at previous block)
-    unfolding recordNumber recordBlock
-    record-token out k start end cut next e p = let w = was-token (readAt roll at previous) k start end cut next e .0 in (simp (h, w), p ∙ simp (h, w))
+        → out ≡ tokenBlock (record { kind = k; start = start; end = end; cut = cut }) (next .at) → told 0 out ≡ recordTold roll at previous block
+    record-token out k start end cut next e p = ap (told 0) p ∙ record-told (was-token (readAt roll at previous) k start end cut next e .0)

@@ -48,7 +48,7 @@ module _ (roll : List ℕ) (b : Bytes roll) (at previous : ℕ) (t : Token) (s :
       }
 
   -- the record of a sound token is the bytes that it was read from
-  pub sound-again : recordOf t ≡ take (lengthAt roll at) (drop at roll)
+  sound-again : recordOf t ≡ take (lengthAt roll at) (drop at roll)
   sound-again =
       sym (stored-of t) ∙ ap storedOf (sym held-here) ∙ stored-again (drop at roll) whole-here
       ∙ ap (λ n. take n (drop at roll)) (ap (λ h. h .length) held-here ∙ sym size)

@@ -16,7 +16,7 @@ eighteen (int v) q = absurd (omega arith)
 eighteen (long v) q = absurd (omega arith)
 eighteen (content a e) q = absurd (omega arith)
 eighteen (mark b) q = absurd (omega arith)
-eighteen (nothing k n l b e) q = sym (b 0) ∙ ap (λ m. kindFor m 0) q
+eighteen (nothing k n l b) q = sym (b 0) ∙ ap (λ m. kindFor m 0) q
 
 -- a kind with the number 18 is Eof
 pub number-eof : (k : TokenKind) → kindNumber k ≡ 18 → k ≡ tk.Eof

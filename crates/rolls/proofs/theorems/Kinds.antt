@@ -17,56 +17,56 @@ use Rattle.token.specs.declared.kinds.Kw.the-variants as kw
 use Rattle.token.specs.declared.kinds.TokenKind.{TokenKind}
 use Rattle.token.specs.declared.kinds.TokenKind.the-variants as tk
 use Rattle.rolls.specs.paper.Roll.{KindLength, of-kind}
-use Rattle.rolls.specs.computed.Roll.{lengthFor, isKind, keywordFor, kindFor, isEof}
+use Rattle.rolls.specs.computed.Roll.{lengthFor, isKind, keywordFor, kindFor}
 use Rattle.rolls.proofs.record.Laws.{none-above}
 open CodeLaws code-laws using (carry-span)
 
 -- ---- what a kind carries
 
--- a number, a content, a mark; or nothing: then its number alone tells its length, the kind, and whether it is Eof
+-- a number, a content, a mark; or nothing: then its number alone tells its length and the kind
 pub data Carries : TokenKind → Type 0 where
   int : (v : ℕ) → Carries (tk.IntLit v)
   long : (v : ℕ) → Carries (tk.LongLit v)
   content : (a e : ℕ) → Carries (tk.Str a e)
   mark : (b : Bool) → Carries (tk.Newline b)
   nothing : (k : TokenKind) → valuesOf k ≡ [] → lengthFor (kindNumber k) ≡ headLength → ((v : ℕ) → kindFor (kindNumber k) v ≡ k)
-      → isEof k ≡ eqb (kindNumber k) 18 → Carries k
+      → Carries k
 
 -- The other laws of kinds go by these five. This is the one that lists the kinds.
 pub carries : (k : TokenKind) → Carries k
 unfolding lengthFor kindFor keywordFor
-carries tk.Ident = nothing tk.Ident refl refl (λ v. refl) refl
-carries tk.OpId = nothing tk.OpId refl refl (λ v. refl) refl
-carries tk.BacktickId = nothing tk.BacktickId refl refl (λ v. refl) refl
+carries tk.Ident = nothing tk.Ident refl refl (λ v. refl)
+carries tk.OpId = nothing tk.OpId refl refl (λ v. refl)
+carries tk.BacktickId = nothing tk.BacktickId refl refl (λ v. refl)
 carries (tk.IntLit v) = int v
 carries (tk.LongLit v) = long v
 carries (tk.Str a e) = content a e
-carries tk.CharSym = nothing tk.CharSym refl refl (λ v. refl) refl
-carries tk.LParen = nothing tk.LParen refl refl (λ v. refl) refl
-carries tk.RParen = nothing tk.RParen refl refl (λ v. refl) refl
-carries tk.LBracket = nothing tk.LBracket refl refl (λ v. refl) refl
-carries tk.RBracket = nothing tk.RBracket refl refl (λ v. refl) refl
-carries tk.LBrace = nothing tk.LBrace refl refl (λ v. refl) refl
-carries tk.RBrace = nothing tk.RBrace refl refl (λ v. refl) refl
-carries tk.Comma = nothing tk.Comma refl refl (λ v. refl) refl
-carries tk.Semi = nothing tk.Semi refl refl (λ v. refl) refl
-carries tk.Dot = nothing tk.Dot refl refl (λ v. refl) refl
+carries tk.CharSym = nothing tk.CharSym refl refl (λ v. refl)
+carries tk.LParen = nothing tk.LParen refl refl (λ v. refl)
+carries tk.RParen = nothing tk.RParen refl refl (λ v. refl)
+carries tk.LBracket = nothing tk.LBracket refl refl (λ v. refl)
+carries tk.RBracket = nothing tk.RBracket refl refl (λ v. refl)
+carries tk.LBrace = nothing tk.LBrace refl refl (λ v. refl)
+carries tk.RBrace = nothing tk.RBrace refl refl (λ v. refl)
+carries tk.Comma = nothing tk.Comma refl refl (λ v. refl)
+carries tk.Semi = nothing tk.Semi refl refl (λ v. refl)
+carries tk.Dot = nothing tk.Dot refl refl (λ v. refl)
 carries (tk.Newline b) = mark b
-carries tk.Eof = nothing tk.Eof refl refl (λ v. refl) refl
-carries (tk.Kw kw.Case) = nothing (tk.Kw kw.Case) refl refl (λ v. refl) refl
-carries (tk.Kw kw.Else) = nothing (tk.Kw kw.Else) refl refl (λ v. refl) refl
-carries (tk.Kw kw.False) = nothing (tk.Kw kw.False) refl refl (λ v. refl) refl
-carries (tk.Kw kw.Function) = nothing (tk.Kw kw.Function) refl refl (λ v. refl) refl
-carries (tk.Kw kw.If) = nothing (tk.Kw kw.If) refl refl (λ v. refl) refl
-carries (tk.Kw kw.Match) = nothing (tk.Kw kw.Match) refl refl (λ v. refl) refl
-carries (tk.Kw kw.Return) = nothing (tk.Kw kw.Return) refl refl (λ v. refl) refl
-carries (tk.Kw kw.Then) = nothing (tk.Kw kw.Then) refl refl (λ v. refl) refl
-carries (tk.Kw kw.True) = nothing (tk.Kw kw.True) refl refl (λ v. refl) refl
-carries (tk.Kw kw.Colon) = nothing (tk.Kw kw.Colon) refl refl (λ v. refl) refl
-carries (tk.Kw kw.FatArrow) = nothing (tk.Kw kw.FatArrow) refl refl (λ v. refl) refl
-carries (tk.Kw kw.Assign) = nothing (tk.Kw kw.Assign) refl refl (λ v. refl) refl
-carries (tk.Kw kw.Hash) = nothing (tk.Kw kw.Hash) refl refl (λ v. refl) refl
-carries (tk.Kw kw.At) = nothing (tk.Kw kw.At) refl refl (λ v. refl) refl
+carries tk.Eof = nothing tk.Eof refl refl (λ v. refl)
+carries (tk.Kw kw.Case) = nothing (tk.Kw kw.Case) refl refl (λ v. refl)
+carries (tk.Kw kw.Else) = nothing (tk.Kw kw.Else) refl refl (λ v. refl)
+carries (tk.Kw kw.False) = nothing (tk.Kw kw.False) refl refl (λ v. refl)
+carries (tk.Kw kw.Function) = nothing (tk.Kw kw.Function) refl refl (λ v. refl)
+carries (tk.Kw kw.If) = nothing (tk.Kw kw.If) refl refl (λ v. refl)
+carries (tk.Kw kw.Match) = nothing (tk.Kw kw.Match) refl refl (λ v. refl)
+carries (tk.Kw kw.Return) = nothing (tk.Kw kw.Return) refl refl (λ v. refl)
+carries (tk.Kw kw.Then) = nothing (tk.Kw kw.Then) refl refl (λ v. refl)
+carries (tk.Kw kw.True) = nothing (tk.Kw kw.True) refl refl (λ v. refl)
+carries (tk.Kw kw.Colon) = nothing (tk.Kw kw.Colon) refl refl (λ v. refl)
+carries (tk.Kw kw.FatArrow) = nothing (tk.Kw kw.FatArrow) refl refl (λ v. refl)
+carries (tk.Kw kw.Assign) = nothing (tk.Kw kw.Assign) refl refl (λ v. refl)
+carries (tk.Kw kw.Hash) = nothing (tk.Kw kw.Hash) refl refl (λ v. refl)
+carries (tk.Kw kw.At) = nothing (tk.Kw kw.At) refl refl (λ v. refl)
 
 -- ---- lengths
 
@@ -81,7 +81,7 @@ length-by (int v) = refl
 length-by (long v) = refl
 length-by (content a e) = refl
 length-by (mark b) = refl
-length-by (nothing k n l b e) = l ∙ sym (bare-length k n)
+length-by (nothing k n l b) = l ∙ sym (bare-length k n)
 
 -- the length by a kind's number is that of the kind's records
 pub length-for : (k : TokenKind) → lengthFor (kindNumber k) ≡ recordLength k
@@ -92,9 +92,9 @@ pub known-length : {n size : ℕ} → KindLength n size → size ≡ lengthFor n
 known-length (of-kind k) = sym (length-for k)
 
 -- no record is shorter than its first 13 bytes
-pub known-least : {n size : ℕ} → KindLength n size → headLength ≤ size
+pub length-least : {n size : ℕ} → KindLength n size → headLength ≤ size
 unfolding recordLength
-known-least (of-kind k) = omega arith
+length-least (of-kind k) = omega arith
 
 -- ---- the numbers that are known: what is computed at each below 46 holds of each, and from 46 on there is none
 
@@ -108,7 +108,7 @@ unfolding lengthFor kindFor keywordFor recordLength values le4 le8
 all-kinds = refl
 
 -- a number with a length is a kind's, and the length is that kind's
-pub length-kind : (n : ℕ) → (lengthFor n ≡ 0 → ⊥) → KindLength n (lengthFor n)
+length-kind : (n : ℕ) → (lengthFor n ≡ 0 → ⊥) → KindLength n (lengthFor n)
 length-kind n h = below (leb 46 n) refl
   where
     named : (b : Bool) → eqb (lengthFor n) 0 ≡ b → b || eqb (kindNumber (kindFor n 0)) n && eqb (recordLength (kindFor n 0)) (lengthFor n) ≡ true
@@ -125,7 +125,7 @@ length-kind n h = below (leb 46 n) refl
 -- a kind with its length passes the test
 pub is-kind : {n size : ℕ} → KindLength n size → isKind n size ≡ true
 unfolding isKind
-is-kind {n} {size} w = let a = known-least w in rw (ne-eqb size 0 (λ e. omega arith), eq-eqb size (lengthFor n) (known-length w))
+is-kind {n} {size} w = let a = length-least w in rw (ne-eqb size 0 (λ e. omega arith), eq-eqb size (lengthFor n) (known-length w))
 
 -- and what passes it is a kind with its length
 pub known-kind : (n size : ℕ) → isKind n size ≡ true → KindLength n size
@@ -162,7 +162,7 @@ number-by (int x) v = refl
 number-by (long x) v = refl
 number-by (content a e) v = refl
 number-by (mark b) v = refl
-number-by (nothing k n l b e) v = ap kindNumber (b v)
+number-by (nothing k n l b) v = ap kindNumber (b v)
 
 -- the same of a number that is known
 pub number-for : {n size : ℕ} → KindLength n size → (v : ℕ) → kindNumber (kindFor n v) ≡ n
@@ -186,7 +186,7 @@ kind-by (int v) h = ap tk.IntLit (mod-eq-of-lt (h .0))
 kind-by (long v) h = refl
 kind-by (content a e) h = str-back a e (h .0) (h .1 .0)
 kind-by (mark b) h = ap tk.Newline (bit-one b)
-kind-by (nothing k n l b e) h = b (joined (valuesOf k))
+kind-by (nothing k n l b) h = b (joined (valuesOf k))
 
 -- number and values tell the kind, where the values fit
 pub kind-back : (k : TokenKind) → Fit (valuesOf k) → kindFor (kindNumber k) (joined (valuesOf k)) ≡ k

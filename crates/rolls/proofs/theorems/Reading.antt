@@ -10,12 +10,11 @@ use Rattle.words.specs.Joins.{Bytes}
 use Rattle.words.proofs.Joins.{four-fits}
 use Rattle.token.specs.paper.Kinds.{Token}
 use Rattle.token.specs.paper.Records.{headLength}
-use Rattle.token.specs.declared.kinds.TokenKind.{TokenKind}
 use Rattle.token.specs.declared.kinds.TokenKind.the-variants as tk
 use Rattle.token.specs.paper.Reading.{OnlyLastEof}
 use Rattle.rolls.specs.paper.Roll.{Stepped, yielded, stopped, Steps, Outcome, tokens, refused, prepend, Reads}
 use Rattle.rolls.specs.computed.Roll.{readAt, isEof, readIn, readFrom, readRoll}
-use Rattle.rolls.proofs.theorems.Kinds.{known-least}
+use Rattle.rolls.proofs.theorems.Kinds.{length-least}
 use Rattle.rolls.proofs.theorems.Eofs.{is-eof, not-eof, other-kind}
 use Rattle.rolls.proofs.theorems.Steps.{step-is, steps-only, steps}
 
@@ -41,7 +40,7 @@ module _ (most : ℕ) (roll : List ℕ) (at previous : ℕ) where
 
 -- a record that is yielded has bytes, and they lie within the roll
 pub yields-on : (roll : List ℕ) (at previous next : ℕ) (t : Token) → Steps roll at previous (yielded t next) → (at + headLength ≤ next) × (next ≤ length roll)
-yields-on roll at previous next t (Steps.yields s f) = let k = known-least (s .known) in let r = s .room in (omega arith, r)
+yields-on roll at previous next t (Steps.yields s f) = let k = length-least (s .known) in let r = s .room in (omega arith, r)
 
 -- and its token's end fits 4 bytes
 yields-end : (roll : List ℕ) → Bytes roll → (at previous next : ℕ) (t : Token) → Steps roll at previous (yielded t next) → t .end < 4294967296
@@ -59,7 +58,7 @@ module _ (roll : List ℕ) (b : Bytes roll) where
   -- ---- what is declared is computed, with any bound past the bytes left
 
   -- by the declaration
-  pub reads-only : {at previous : ℕ} {x : Outcome} → Reads roll at previous x → (most : ℕ) → length roll - at < most → readIn most roll at previous ≡ x
+  reads-only : {at previous : ℕ} {x : Outcome} → Reads roll at previous x → (most : ℕ) → length roll - at < most → readIn most roll at previous ≡ x
   reads-only r zero h = absurd (omega arith)
   reads-only {at} {previous} (Reads.refuses {j = j} {a = a} s) (suc most) h = read-stop most roll at previous j a (steps-only roll b at previous s)
   reads-only {at} {previous} (Reads.last {next = next} {t = t} s e) (suc most) h =
@@ -89,7 +88,7 @@ module _ (roll : List ℕ) (b : Bytes roll) where
     reads-stop j a e = rw (read-stop most roll at previous j a e) (Reads.refuses (rw e at (step-is roll b at previous)))
 
   -- by the bound
-  pub reads-in : (most at previous : ℕ) → length roll - at < most → Reads roll at previous (readIn most roll at previous)
+  reads-in : (most at previous : ℕ) → length roll - at < most → Reads roll at previous (readIn most roll at previous)
   reads-in zero at previous h = absurd (omega arith)
   reads-in (suc most) at previous h = go (readAt roll at previous) refl (reads-in most)
     where

@@ -95,7 +95,8 @@ module _ (roll : List ℕ) (b : Bytes roll) where
       wrong-is (Wrong.before-previous h) = simp (lt-ltb (startAt roll at) previous h, or-true)
       wrong-is (Wrong.after-comment e h) = bad-wrong (bad-line e ∙ lt-ltb 1 (oneAt roll (at + headLength)) h)
       wrong-is (Wrong.negative-int e h) = bad-wrong (bad-int e ∙ lt-ltb 2147483647 (fourAt roll (at + headLength)) (four-sign (at + headLength) .0 h))
-      wrong-is (Wrong.negative-long e h) = bad-wrong (bad-long e ∙ lt-ltb 9223372036854775807 (eightAt roll (at + headLength)) (eight-sign (at + headLength) .0 h))
+      wrong-is (Wrong.negative-long e h) =
+          bad-wrong (bad-long e ∙ lt-ltb 9223372036854775807 (eightAt roll (at + headLength)) (eight-sign (at + headLength) .0 h))
       wrong-is (Wrong.content-before e h) = bad-wrong (bad-str e ∙ rw (lt-ltb (contentStart roll at) (startAt roll at) h))
       wrong-is (Wrong.content-past e h) = bad-wrong (bad-str e ∙ simp (lt-ltb (endAt roll at) (contentEnd roll at) h, or-true))
       wrong-is (Wrong.content-order e h) = bad-wrong (bad-str e ∙ simp (lt-ltb (contentEnd roll at) (contentStart roll at) h, or-true))

@@ -6,6 +6,7 @@ use mathlib.Core.Logic.{_⊎_, inl, inr, ⊎-elim, _↔_}
 use mathlib.Core.List.{List}
 use lib.ListN.{length}
 use lib.Dec.{eqb, leb, ltb}
+use mathlib.Mathlib.Data.Bool.Basic.{eq-false-of-not-eq-true}
 use native.Mathlib.Omega.{arith}
 use borrow.Author.Tests.{eqb-true, ltb-true, ltb-false, lt-ltb, le-ltb, leb-true, leb-false}
 use Rattle.chars.proofs.Bools.{clash}
@@ -68,14 +69,9 @@ module _ (roll : List ℕ) (at previous : ℕ) where
 
 -- ---- what is declared is computed
 
--- a test that does not pass fails
-fails : (p : Bool) → (p ≡ true → ⊥) → p ≡ false
-fails true h = absurd (h refl)
-fails false h = refl
-
 -- no kind has this number and length: the test fails
 kind-unknown : (n size : ℕ) → (KindLength n size → ⊥) → isKind n size ≡ false
-kind-unknown n size u = fails (isKind n size) (λ e. u (known-kind n size e))
+kind-unknown n size u = eq-false-of-not-eq-true (λ e. u (known-kind n size e))
 
 -- the test decides, so that a kind is not only not impossible
 kind-known : (n size : ℕ) → ((KindLength n size → ⊥) → ⊥) → KindLength n size
@@ -88,7 +84,7 @@ kind-known n size u = go (isKind n size) refl
 module _ (roll : List ℕ) (b : Bytes roll) (at previous : ℕ) where
   -- no rule is broken: the test fails
   not-wrong : KindLength (kindAt roll at) (lengthAt roll at) → (Wrong roll at previous → ⊥) → isWrong (heldAt roll at) previous ≡ false
-  not-wrong k r = fails (isWrong (heldAt roll at) previous) (λ e. r (is-wrong roll b at k previous e))
+  not-wrong k r = eq-false-of-not-eq-true (λ e. r (is-wrong roll b at k previous e))
 
   module _ (t : Token) (s : Sound roll at previous t) where
     -- a sound record is whole and known
@@ -125,7 +121,7 @@ module _ (roll : List ℕ) (b : Bytes roll) (at previous : ℕ) where
       let k = kind-known (kindAt roll at) (lengthAt roll at) u in
       whole-known roll at previous (w .0) (w .1) (is-kind k) ∙ held-wrong (heldAt roll at) at (length roll - at) previous (wrong-is roll b at k previous x)
   steps-only (Steps.after-eof {t} s e l) = sound-after t s e l
-  steps-only (Steps.yields {t} s f) = sound-yields t s f
+  steps-only (Steps.yields {t} s f) = sound-yields t s (λ e. omega (arith, f e))
 
   -- ---- and something is declared in every case
 

@@ -35,7 +35,7 @@ unfolding tokenOf
 token-held t h = rw (kind-back (t .kind) h, bit-one (t .cut))
 
 -- a byte of at most 1, told by its mark
-pub one-bit : (c : ℕ) → c ≤ 1 → bit (eqb c 1) ≡ c
+one-bit : (c : ℕ) → c ≤ 1 → bit (eqb c 1) ≡ c
 one-bit zero h = refl
 one-bit (suc zero) h = refl
 one-bit (suc (suc c)) h = absurd (omega arith)
@@ -54,7 +54,7 @@ module _ (roll : List ℕ) (b : Bytes roll) where
   joined-by i (long v) h = h .0
   joined-by i (content a e) h = rw (h .0, h .1 .0, mod-eq-of-lt (four-fits roll i b), mod-eq-of-lt (four-fits roll (i + 4) b))
   joined-by i (mark m) h = h .0
-  joined-by i (nothing k n l b e) h = rw n
+  joined-by i (nothing k n l b) h = rw n
 
   -- a kind's values, one after the other, are the one number that a record of its length has
   joined-at : (i : ℕ) (k : TokenKind) → ValuesFrom roll i (valuesOf k) → joined (valuesOf k) ≡ valuesAt roll i (recordLength k)
@@ -72,7 +72,7 @@ module _ (roll : List ℕ) (b : Bytes roll) where
   kind-values i (content a e) h =
       (lower (fourAt roll i) (fourAt roll (i + 4)) (four-fits roll i b), (upper (fourAt roll i) (fourAt roll (i + 4)) (four-fits roll i b), tt))
   kind-values i (mark m) h = (one-bit (oneAt roll i) (h refl), tt)
-  kind-values i (nothing k n l b e) h = bare-values i _ k (b _) n
+  kind-values i (nothing k n l b) h = bare-values i _ k (b _) n
 
   -- the same by number and length
   values-at : {n size : ℕ} (i : ℕ) → KindLength n size → (n ≡ 17 → oneAt roll i ≤ 1) → ValuesFrom roll i (valuesOf (kindFor n (valuesAt roll i size)))

@@ -19,7 +19,7 @@ use Rattle.token.proofs.form.ReadBack.{record-form}
 use Rattle.token.proofs.theorems.Bounded.{ValuesWithin, Bounded, AllBounded, InOrder, token-back}
 use Rattle.rolls.specs.paper.Roll.{lengthAt, kindAt, of-kind, yielded, tokens, prepend}
 use Rattle.rolls.specs.computed.Roll.{lengthFor, badValues, isWrong, stepHeld, readAt, isEof, readIn, readFrom, readRoll}
-use Rattle.rolls.proofs.theorems.Kinds.{Carries, int, long, content, mark, nothing, carries, known-least, is-kind, Fit, bit-most, lower, upper}
+use Rattle.rolls.proofs.theorems.Kinds.{Carries, int, long, content, mark, nothing, carries, length-least, is-kind, Fit, bit-most, lower, upper}
 use Rattle.rolls.proofs.theorems.Rules.{bad-none}
 use Rattle.rolls.proofs.theorems.Values.{heldOf, token-held}
 use Rattle.rolls.proofs.theorems.Eofs.{number-eof, other-kind}
@@ -35,7 +35,7 @@ within-fit a e (int v) s h = (omega arith, tt)
 within-fit a e (long v) s h = (omega arith, tt)
 within-fit a e (content b c) s h = let x = h .1 in let y = h .2 in (omega arith, (omega arith, tt))
 within-fit a e (mark m) s h = let l = bit-most m in (omega arith, tt)
-within-fit a e (nothing k n l b i) s h = rw n tt
+within-fit a e (nothing k n l b) s h = rw n tt
 
 -- and break none of 24's rules
 str-good : (a e size c b d : ℕ) → b < 4294967296 → d < 4294967296 → a ≤ b → b ≤ d → d ≤ e
@@ -63,7 +63,7 @@ within-good a e c (content b d) s h =
     let z = h .2 in
     str-good a e (recordLength (tk.Str b d)) c b d (omega arith) (omega arith) x y z
 within-good a e c (mark m) s h = le-ltb 1 (bit m) (bit-most m)
-within-good a e c (nothing k n l b i) s h = bare-good (kindNumber k) (recordLength k) (joined (valuesOf k)) a e c l
+within-good a e c (nothing k n l b) s h = bare-good (kindNumber k) (recordLength k) (joined (valuesOf k)) a e c l
 
 module _ (n : ℕ) (short : n ≤ mostBytes) (roll : List ℕ) where
   -- ---- one record
@@ -98,7 +98,7 @@ module _ (n : ℕ) (short : n ≤ mostBytes) (roll : List ℕ) where
           let size : lengthAt roll at ≡ recordLength (t .kind) = ap (λ x. x .length) held-there in
           let number : kindAt roll at ≡ kindNumber (t .kind) = ap (λ x. x .number) held-there in
           let k = of-kind (t .kind) in
-          let least = known-least k in
+          let least = length-least k in
           let left = left-is in
           whole-known roll at previous (omega arith) (omega arith) (rw (number, size) (is-kind k))
           ∙ ap (λ x. stepHeld x at (length roll - at) previous) held-there
@@ -107,21 +107,25 @@ module _ (n : ℕ) (short : n ≤ mostBytes) (roll : List ℕ) where
 
       -- and what follows stands behind it
       rest-there : drop (at + recordLength (t .kind)) roll ≡ rest
-      rest-there = sym (drop-drop (recordLength (t .kind)) at roll) ∙ ap (drop (recordLength (t .kind))) here ∙ drop-at (recordOf t) rest (recordLength (t .kind)) (length-record t)
+      rest-there =
+          sym (drop-drop (recordLength (t .kind)) at roll)
+          ∙ ap (drop (recordLength (t .kind))) here
+          ∙ drop-at (recordOf t) rest (recordLength (t .kind)) (length-record t)
 
   -- ---- and all of them
 
   -- from an offset on, with any bound past the bytes left
-  read-records : {ts : List Token} → OnlyLastEof ts → (most at previous : ℕ) → AllBounded n ts → InOrder previous ts → drop at roll ≡ records ts → length roll - at < most
-      → readIn most roll at previous ≡ tokens ts
+  read-records : {ts : List Token} → OnlyLastEof ts → (most at previous : ℕ) → AllBounded n ts → InOrder previous ts → drop at roll ≡ records ts
+      → length roll - at < most → readIn most roll at previous ≡ tokens ts
   unfolding records
   read-records w zero at previous h o e l = absurd (omega arith)
   read-records (OnlyLastEof.eof {t} q) (suc most) at previous h o e l =
       read-last most roll at previous t (at + recordLength (t .kind)) (step-written at previous t (h .0) (o .0) [] e (λ z. refl)) (ap isEof q)
   read-records (OnlyLastEof.other {t} {ts} q w) (suc most) at previous h o e l =
-      let least = known-least (of-kind (t .kind)) in
+      let least = length-least (of-kind (t .kind)) in
       let left = left-is at previous t (h .0) (o .0) (records ts) e in
-      read-more most roll at previous t (at + recordLength (t .kind)) (step-written at previous t (h .0) (o .0) (records ts) e (λ z. absurd (q z))) (other-kind (t .kind) q)
+      let step = step-written at previous t (h .0) (o .0) (records ts) e (λ z. absurd (q z)) in
+      read-more most roll at previous t (at + recordLength (t .kind)) step (other-kind (t .kind) q)
       ∙ ap (prepend t)
       (read-records w most (at + recordLength (t .kind)) (t .end) (h .1) (o .1) (rest-there at previous t (h .0) (o .0) (records ts) e) (omega arith))
 

@@ -126,3 +126,7 @@ pub data Reads (roll : List ℕ) : ℕ → ℕ → Outcome → Type 0 where
   last : {at previous next : ℕ} {t : Token} → Steps roll at previous (yielded t next) → t .kind ≡ tk.Eof → Reads roll at previous (tokens (t ∷ []))
   more : {at previous next : ℕ} {t : Token} {x : Outcome} → Steps roll at previous (yielded t next) → (t .kind ≡ tk.Eof → ⊥)
       → Reads roll next (t .end) x → Reads roll at previous (prepend t x)
+
+-- the whole roll: the first record stands at 0, and no token ends before it
+abbrev pub ReadsRoll : List ℕ → Outcome → Type 0
+ReadsRoll roll x = Reads roll 0 0 x

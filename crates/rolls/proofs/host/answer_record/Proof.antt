@@ -12,7 +12,7 @@ returns c =
     let args = c .before .before .before .args in
     let roll = args .roll .now in
     let w = record-other roll (args .at) (args .previous) (args .answer .now) (c .if1 .taken) in
-    (w .0, (w .1, roll-theorems roll (λ i. omega (arith, c .before .before .shared-slice-known .given i))))
+    (w, roll-theorems roll (λ i. omega (arith, c .before .before .shared-slice-known .given i)))
 
 read-token-requires : tie.Need-read-token-requires
 read-token-requires c κs = search needs
@@ -37,7 +37,7 @@ returns-2 c =
     let size = c .before .before .before .before .before .before .before .before .if1 .left in
     let bytes = c .before .before .before .before .before .before .before .before .before .before .shared-slice-known .given in
     let w = record-refused roll (args .at) (args .previous) (args .answer .now) size _ _ _ found (c .before .before .put-stop .ensures) in
-    (w .0, (w .1, roll-theorems roll (λ i. omega (arith, bytes i))))
+    (w, roll-theorems roll (λ i. omega (arith, bytes i)))
 
 enum-known-found-2 : tie.Need-enum-known-found-2
 enum-known-found-2 c = search needs
@@ -56,7 +56,7 @@ returns-3 c =
     let size = c .before .before .before .before .before .before .before .before .if1 .left in
     let bytes = c .before .before .before .before .before .before .before .before .before .before .shared-slice-known .given in
     let w = record-token roll (args .at) (args .previous) (args .answer .now) size _ _ _ _ _ _ found (c .before .before .put-token .ensures) in
-    (w .0, (w .1, roll-theorems roll (λ i. omega (arith, bytes i))))
+    (w, roll-theorems roll (λ i. omega (arith, bytes i)))
 
 pub answer-record-spec : {M : Type 1} → statement M
 answer-record-spec =

@@ -12,7 +12,7 @@ returns c =
     let args = c .before .before .before .args in
     let roll = args .roll .now in
     let w = roll-other roll (args .answer .now) (c .if1 .taken) in
-    (w .0, (w .1, roll-theorems roll (λ i. omega (arith, c .before .before .shared-slice-known .given i))))
+    (w, roll-theorems roll (λ i. omega (arith, c .before .before .shared-slice-known .given i)))
 
 read-roll-requires : tie.Need-read-roll-requires
 read-roll-requires c κs = search needs
@@ -37,7 +37,7 @@ returns-2 c =
     let size = c .before .before .before .before .before .before .before .before .if1 .left in
     let bytes = c .before .before .before .before .before .before .before .before .before .before .shared-slice-known .given in
     let w = roll-refused roll (args .answer .now) size _ _ _ total (c .before .before .put-block .ensures) in
-    (w .0, (w .1, roll-theorems roll (λ i. omega (arith, bytes i))))
+    (w, roll-theorems roll (λ i. omega (arith, bytes i)))
 
 enum-known-total-2 : tie.Need-enum-known-total-2
 enum-known-total-2 c = search needs
@@ -56,7 +56,7 @@ returns-3 c =
     let size = c .before .before .before .before .before .before .before .before .if1 .left in
     let bytes = c .before .before .before .before .before .before .before .before .before .before .shared-slice-known .given in
     let w = roll-tokens roll (args .answer .now) size _ _ total (c .before .before .put-block2 .ensures) in
-    (w .0, (w .1, roll-theorems roll (λ i. omega (arith, bytes i))))
+    (w, roll-theorems roll (λ i. omega (arith, bytes i)))
 
 pub answer-roll-spec : {M : Type 1} → statement M
 answer-roll-spec =

@@ -59,7 +59,8 @@ returns-2 c =
     let bytes = c .before .before .before .before .before .before .before .shared-slice-known .given in
     let at = loop .c .at in
     let found = sym (c .before .before .before .found2 .given .1) ∙ c .before .before .before .before .before .read-token .ensures in
-    sym (count-eof roll (λ i. omega (arith, bytes i)) at (loop .c .previous) (loop .count) _ _ _ _ _ found (sym (c .before .is-eof .ensures) ∙ c .if1 .taken)) ∙ loop .inv .0
+    let eof = sym (c .before .is-eof .ensures) ∙ c .if1 .taken in
+    sym (count-eof roll (λ i. omega (arith, bytes i)) at (loop .c .previous) (loop .count) _ _ _ _ _ found eof) ∙ loop .inv .0
 
 loop-less : tie.Need-loop-less Inv-loop μ-loop
 loop-less c =

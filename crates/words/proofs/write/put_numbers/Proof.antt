@@ -1,8 +1,8 @@
--- Its four stores stand one after another.
+-- `write::put_numbers` meets its contract: its four stores stand one after another.
 use borrow.Author.Needs.{needs}
-use Rattle.rolls.proofs.host.Laws.{put-four-numbers}
-use Rattle.rolls.proofs.host.put_numbers.Statement.{statement}
-use Rattle.rolls.proofs.host.put_numbers.Tie as tie
+use Rattle.words.proofs.Stores.{put-four-numbers}
+use Rattle.words.proofs.write.put_numbers.Statement.{statement}
+use Rattle.words.proofs.write.put_numbers.Tie as tie
 
 put4-requires : tie.Need-put4-requires
 put4-requires c κs = search needs
