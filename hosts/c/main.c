@@ -22,7 +22,7 @@ static void fail(const char *what)
     exit(2);
 }
 
-/* Returns the first bytes of a file, at most so many, or NULL if it is empty. */
+/* Returns the first bytes of a file, at most so many (65,536 or more), or NULL if it is empty. */
 static uint8_t *read_file(const char *path, size_t most, size_t *n)
 {
     FILE *file = fopen(path, "rb");
@@ -33,8 +33,7 @@ static uint8_t *read_file(const char *path, size_t most, size_t *n)
     *n = 0;
     do {
         if (*n == room) {
-            room = room == 0 ? 65536 : 2 * room;
-            room = room < most ? room : most;
+            room = room == 0 ? 65536 : room < most / 2 ? 2 * room : most;
             bytes = realloc(bytes, room);
             if (bytes == NULL)
                 fail(path);
@@ -114,6 +113,9 @@ static int show_script(const char *path, int as_records)
     return 0;
 }
 
+/* So many bytes of a roll are read: one more than can be read in steps. Where size_t has 32 bits, no roll is too long for that. */
+#define ROLL_BYTES (SIZE_MAX > UINT32_MAX ? (size_t)UINT32_MAX + 1 : SIZE_MAX)
+
 /* Prints the tokens of a roll. */
 static int show_roll(const char *path)
 {
@@ -123,7 +125,7 @@ static int show_roll(const char *path)
     uint64_t kind = 0, count, seen = 0;
     uint32_t at = 0, previous = 0;
 
-    roll = read_file(path, (size_t)UINT32_MAX + 1, &n);
+    roll = read_file(path, ROLL_BYTES, &n);
     if (n > UINT32_MAX) {
         fprintf(stderr, "%s: too long to be read in steps\n", path);
         return 2;

@@ -2,6 +2,7 @@
 // records to standard output instead: a roll. With --roll the file is such a roll, and its tokens are printed without the script. hosts/build
 // builds it.
 use std::io::Write;
+use std::path::Path;
 
 mod ergo {
     #[link(name = "ergo", kind = "static")]
@@ -93,6 +94,12 @@ mod ergo {
 // The bytes of a record before its values.
 const HEAD: usize = 13;
 
+// Ends the program where nothing can be answered. The status tells that from a refusal, whose status is 1.
+fn fail(what: &str) -> ! {
+    eprintln!("{what}");
+    std::process::exit(2)
+}
+
 fn number(bytes: &[u8]) -> u64 {
     bytes.iter().rev().fold(0, |value, &byte| value << 8 | byte as u64)
 }
@@ -112,14 +119,18 @@ fn show_script(script: &[u8], records: &[u8]) {
         let (record, others) = rest.split_at(number(&rest[..2]) as usize);
         let (kind, start, end) = (number(&record[2..4]) as u32, number(&record[4..8]) as u32, number(&record[8..12]) as u32);
         println!("{}", line(kind, start, end, record[12] as u32, &record[HEAD..]));
-        ergo::text(script, start, end).expect("a record without a text");
+        if ergo::text(script, start, end).is_none() {
+            fail("a record without a text");
+        }
         rest = others;
     }
 }
 
 // Reads the whole roll first, so that no token of a damaged one is printed.
 fn show_roll(roll: &[u8]) -> Result<(), ergo::Refused> {
-    assert!(u32::try_from(roll.len()).is_ok(), "the roll is too long to be read in steps");
+    if u32::try_from(roll.len()).is_err() {
+        fail("the roll is too long to be read in steps");
+    }
     let count = ergo::read_roll(roll)?;
     let (mut at, mut previous) = (0, 0);
     for _ in 0..count {
@@ -127,8 +138,18 @@ fn show_roll(roll: &[u8]) -> Result<(), ergo::Refused> {
         println!("{}", line(held.kind, held.start, held.end, held.cut, &held.values));
         (at, previous) = (held.next, held.end);
     }
-    assert_eq!(at as usize, roll.len(), "the last record is not at the roll's end");
+    if at as usize != roll.len() {
+        fail("the last record is not at the roll's end");
+    }
     Ok(())
+}
+
+// Writes the records, all of them: what is left in a buffer could still fail.
+fn store(records: &[u8]) {
+    let mut out = std::io::stdout();
+    if let Err(error) = out.write_all(records).and_then(|()| out.flush()) {
+        fail(&format!("standard output: {error}"));
+    }
 }
 
 fn main() {
@@ -137,12 +158,12 @@ fn main() {
         [path] => ("", path),
         [option, path] if option == "--records" => ("--records", path),
         [option, path] if option == "--roll" => ("--roll", path),
-        _ => panic!("usage: main [--records | --roll] FILE"),
+        _ => fail("usage: rust [--records | --roll] FILE"),
     };
-    let file = std::fs::read(path).expect("the file cannot be read");
+    let file = std::fs::read(path).unwrap_or_else(|error| fail(&format!("{}: {error}", Path::new(path).display())));
     let done = match option {
         "--roll" => show_roll(&file),
-        "--records" => ergo::tokenize(&file).map(|records| std::io::stdout().write_all(&records).expect("nothing can be written")),
+        "--records" => ergo::tokenize(&file).map(|records| store(&records)),
         _ => ergo::tokenize(&file).map(|records| show_script(&file, &records)),
     };
     if let Err(refused) = done {

@@ -18,6 +18,7 @@
 //! nothing is kept between calls. The library is proved; this wrapper is not.
 
 use std::fmt;
+use std::iter::FusedIterator;
 
 mod refusal;
 mod roll;
@@ -164,6 +165,7 @@ impl<'s, 't> IntoIterator for &'t Tokens<'s> {
 
 /// An iterator over the tokens of a script.
 #[derive(Debug, Clone)]
+#[must_use = "iterators are lazy and do nothing unless consumed"]
 pub struct Iter<'s, 't> {
     script: &'s [u8],
     records: Records<'t>,
@@ -179,7 +181,14 @@ impl<'s> Iterator for Iter<'s, '_> {
         self.records = records;
         Some(token)
     }
+
+    fn size_hint(&self) -> (usize, Option<usize>) {
+        self.records.size_hint()
+    }
 }
+
+// As in `Records`.
+impl FusedIterator for Iter<'_, '_> {}
 
 /// What a record holds: a token without its text.
 #[derive(Debug, Clone, Copy, PartialEq, Eq, Hash)]
@@ -204,6 +213,7 @@ impl Record {
 
 /// An iterator over records, those of a script or of a [`Roll`].
 #[derive(Debug, Clone)]
+#[must_use = "iterators are lazy and do nothing unless consumed"]
 pub struct Records<'r> {
     rest: &'r [u8],
 }
@@ -219,7 +229,15 @@ impl Iterator for Records<'_> {
         self.rest = self.rest.get(length..)?;
         Some(record)
     }
+
+    // No record is shorter than its head. That there is one more is not known before it is read.
+    fn size_hint(&self) -> (usize, Option<usize>) {
+        (0, Some(self.rest.len() / RECORD_HEAD))
+    }
 }
+
+// Where `next` gives nothing, `rest` stays as it was, whatever the bytes: so it gives nothing again.
+impl FusedIterator for Records<'_> {}
 
 // N bytes of a record.
 fn bytes<const N: usize>(record: &[u8], at: usize) -> Option<[u8; N]> {
@@ -291,7 +309,7 @@ pub enum TokenKind {
     Newline {
         after_comment: bool,
     },
-    /// Starts and ends at the script's length.
+    /// Starts and ends at the script's length; of a stored roll this is not judged.
     Eof,
     Kw(Kw),
 }

@@ -15,6 +15,7 @@ use crate::{answered, sys, Record, Records, Refusal};
 /// assert_eq!((refusal.number, refusal.place), (22, 13));
 /// ```
 #[derive(Debug, Clone, Copy, PartialEq, Eq)]
+#[must_use]
 pub struct Roll<'r> {
     records: &'r [u8],
     count: u32,

@@ -2,6 +2,7 @@
 // damaged rolls is written down here a second time, from document 02.
 use ergo_token::{tokenize, Kw, Record, Refusal, Roll, TokenKind};
 use ergo_token::{INT_LIT_LENGTH, LONG_LIT_LENGTH, NEWLINE_LENGTH, RECORD_HEAD, STR_LENGTH};
+use std::iter::FusedIterator;
 
 // The wrapper links the library that has these two.
 extern "C" {
@@ -181,6 +182,47 @@ fn what_was_written_is_read() {
     let stored = roll_of("7 =");
     let kinds: Vec<TokenKind> = (&Roll::read(&stored).unwrap()).into_iter().map(|record| record.kind).collect();
     assert_eq!(kinds, [TokenKind::IntLit(7), TokenKind::Kw(Kw::Assign), TokenKind::Eof]);
+}
+
+// At each step what is left lies between the hints, and after its end the walk stays there. Gives the hint that it began with.
+fn walked(mut walk: impl FusedIterator + Clone) -> usize {
+    let most = walk.size_hint().1;
+    loop {
+        let ((least, most), left) = (walk.size_hint(), walk.clone().count());
+        assert!(least <= left && most.is_some_and(|most| left <= most), "{left} are left of {least} to {most:?}");
+        if walk.next().is_none() {
+            break;
+        }
+    }
+    assert_eq!(walk.size_hint(), (0, Some(0)));
+    assert!((0..3).all(|_| walk.next().is_none()));
+    most.unwrap()
+}
+
+#[test]
+fn hints_and_ends() {
+    for script in SCRIPTS {
+        let tokens = tokenize(script.as_bytes()).expect(script);
+        let roll = Roll::read(tokens.records()).expect(script);
+        assert_eq!(walked(tokens.iter()), walked(roll.iter()), "{script}");
+    }
+    // Where no record has values, the upper bound is the count.
+    let heads = roll_of("()[]{},;.");
+    assert_eq!(walked(Roll::read(&heads).unwrap().iter()), 10);
+}
+
+// Without the attribute the lint would have nothing to say, and this would not compile.
+#[test]
+#[deny(unfulfilled_lint_expectations)]
+fn unused_is_told() {
+    let tokens = tokenize(b"a").unwrap();
+    let roll = Roll::read(tokens.records()).unwrap();
+    #[expect(unused_must_use)]
+    tokens.iter();
+    #[expect(unused_must_use)]
+    roll.iter();
+    #[expect(unused_must_use)]
+    Roll::read(tokens.records()).unwrap();
 }
 
 #[test]
