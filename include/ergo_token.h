@@ -151,7 +151,7 @@ enum ergo_kind {
     ERGO_DOT = 16,
     ERGO_NEWLINE = 17, /* at ERGO_RECORD_HEAD, 1 byte: 1 if a comment stands between it and the line end before it in the same gap, or the
                         * gap's start */
-    ERGO_EOF = 18,     /* starts and ends at the script's length */
+    ERGO_EOF = 18,     /* starts and ends at the script's length; of a stored roll this is not judged */
     ERGO_KW_CASE = 32,
     ERGO_KW_ELSE = 33,
     ERGO_KW_FALSE = 34,
