@@ -56,7 +56,7 @@ fn whole(rest: &[u8]) -> Result<Fields<'_>, u32> {
     Ok(Fields { length, kind, start: word(&record[4..]), end: word(&record[8..]), cut: record[12], values: &record[HEAD..] })
 }
 
-// The rules of 24 for one record, as document 02 lists them: each with a test of whether it is broken, after a record that ends at `previous`.
+// The rules of 24 for one record, as document 02 lists them: each with a test of whether it is broken, after a token that ends at `previous`.
 type Rule = (&'static str, fn(&Fields, u32) -> bool);
 
 const RULES: [Rule; 9] = [

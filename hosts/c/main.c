@@ -97,7 +97,7 @@ static int show_script(const char *path, int as_records)
         fprintf(stderr, "refused %" PRIu32 " after measuring\n", refusal);
         return 2;
     }
-    if (as_records && (fwrite(records, 1, bytes, stdout) != bytes || fflush(stdout) != 0))
+    if (as_records && fwrite(records, 1, bytes, stdout) != bytes)
         fail("standard output");
     for (at = 0; at < bytes && !as_records; at += (size_t)number(records + at + ERGO_AT_LENGTH, 2)) {
         const uint8_t *record = records + at;
@@ -159,12 +159,18 @@ static int show_roll(const char *path)
 
 int main(int argc, char **argv)
 {
-    if (argc == 2)
-        return show_script(argv[1], 0);
-    if (argc == 3 && strcmp(argv[1], "--records") == 0)
-        return show_script(argv[2], 1);
-    if (argc == 3 && strcmp(argv[1], "--roll") == 0)
-        return show_roll(argv[2]);
-    fprintf(stderr, "usage: %s [--records | --roll] FILE\n", argv[0]);
-    return 2;
+    int status;
+    if (argc == 2) {
+        status = show_script(argv[1], 0);
+    } else if (argc == 3 && strcmp(argv[1], "--records") == 0) {
+        status = show_script(argv[2], 1);
+    } else if (argc == 3 && strcmp(argv[1], "--roll") == 0) {
+        status = show_roll(argv[2]);
+    } else {
+        fprintf(stderr, "usage: %s [--records | --roll] FILE\n", argv[0]);
+        return 2;
+    }
+    if (fflush(stdout) != 0 || ferror(stdout)) /* what is left in a buffer could still fail */
+        fail("standard output");
+    return status;
 }

@@ -41,7 +41,7 @@ mod ergo {
         let mut records = vec![0; bytes as usize];
         match call(script, &mut records) {
             (0, _, _) => Ok(records),
-            (number, place, _) => Err(Refused { number, place }),
+            (number, _, _) => super::fail(&format!("refused {number} after measuring")),
         }
     }
 
@@ -107,47 +107,50 @@ fn number(bytes: &[u8]) -> u64 {
 // The line of a token. Behind the values may stand zeros.
 fn line(kind: u32, start: u32, end: u32, cut: u32, values: &[u8]) -> String {
     match kind {
-        4 | 5 | 17 => format!("{kind} {start} {end} {cut} {}", number(values)),
-        6 => format!("{kind} {start} {end} {cut} {} {}", number(&values[..4]), number(&values[4..])),
-        _ => format!("{kind} {start} {end} {cut}"),
+        4 | 5 | 17 => format!("{kind} {start} {end} {cut} {}\n", number(values)),
+        6 => format!("{kind} {start} {end} {cut} {} {}\n", number(&values[..4]), number(&values[4..])),
+        _ => format!("{kind} {start} {end} {cut}\n"),
     }
 }
 
-fn show_script(script: &[u8], records: &[u8]) {
+fn show_script(script: &[u8], records: &[u8]) -> Vec<u8> {
+    let mut lines = String::new();
     let mut rest = records;
     while !rest.is_empty() {
         let (record, others) = rest.split_at(number(&rest[..2]) as usize);
         let (kind, start, end) = (number(&record[2..4]) as u32, number(&record[4..8]) as u32, number(&record[8..12]) as u32);
-        println!("{}", line(kind, start, end, record[12] as u32, &record[HEAD..]));
+        lines += &line(kind, start, end, record[12] as u32, &record[HEAD..]);
         if ergo::text(script, start, end).is_none() {
             fail("a record without a text");
         }
         rest = others;
     }
+    lines.into_bytes()
 }
 
-// Reads the whole roll first, so that no token of a damaged one is printed.
-fn show_roll(roll: &[u8]) -> Result<(), ergo::Refused> {
+// Reads the whole roll first, so that a damaged one gives no line.
+fn show_roll(roll: &[u8]) -> Result<Vec<u8>, ergo::Refused> {
     if u32::try_from(roll.len()).is_err() {
         fail("the roll is too long to be read in steps");
     }
     let count = ergo::read_roll(roll)?;
+    let mut lines = String::new();
     let (mut at, mut previous) = (0, 0);
     for _ in 0..count {
-        let held = ergo::read_record(roll, at, previous)?;
-        println!("{}", line(held.kind, held.start, held.end, held.cut, &held.values));
+        let Ok(held) = ergo::read_record(roll, at, previous) else { fail("refused after the whole roll was read") };
+        lines += &line(held.kind, held.start, held.end, held.cut, &held.values);
         (at, previous) = (held.next, held.end);
     }
     if at as usize != roll.len() {
         fail("the last record is not at the roll's end");
     }
-    Ok(())
+    Ok(lines.into_bytes())
 }
 
-// Writes the records, all of them: what is left in a buffer could still fail.
-fn store(records: &[u8]) {
+// Writes all of it: what is left in a buffer could still fail.
+fn write(bytes: &[u8]) {
     let mut out = std::io::stdout();
-    if let Err(error) = out.write_all(records).and_then(|()| out.flush()) {
+    if let Err(error) = out.write_all(bytes).and_then(|()| out.flush()) {
         fail(&format!("standard output: {error}"));
     }
 }
@@ -161,18 +164,21 @@ fn main() {
         _ => fail("usage: rust [--records | --roll] FILE"),
     };
     let file = std::fs::read(path).unwrap_or_else(|error| fail(&format!("{}: {error}", Path::new(path).display())));
-    let done = match option {
+    let answer = match option {
         "--roll" => show_roll(&file),
-        "--records" => ergo::tokenize(&file).map(|records| store(&records)),
+        "--records" => ergo::tokenize(&file),
         _ => ergo::tokenize(&file).map(|records| show_script(&file, &records)),
     };
-    if let Err(refused) = done {
-        let line = format!("refused {} at {}", refused.number, refused.place);
-        if option == "--records" {
-            eprintln!("{line}"); // standard output is the roll, if there is one
-        } else {
-            println!("{line}");
+    match answer {
+        Ok(bytes) => write(&bytes),
+        Err(refused) => {
+            let line = format!("refused {} at {}\n", refused.number, refused.place);
+            if option == "--records" {
+                eprint!("{line}"); // standard output is the roll, if there is one
+            } else {
+                write(line.as_bytes());
+            }
+            std::process::exit(1);
         }
-        std::process::exit(1);
     }
 }

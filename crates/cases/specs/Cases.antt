@@ -1,4 +1,5 @@
--- A list of cases, one directly after the other from its start on: what a host was told, and how many cases differ from it. A place is a byte's offset in the list.
+-- A list of cases, one directly after the other from its start on: what a case lists, and how many cases do not agree. A place is a byte's offset in the
+-- list.
 use Prim.Native.Nat.{ℕ, _+_, _<_, min}
 use mathlib.Core.Path.{_≡_}
 use mathlib.Core.List.{List}

@@ -13,7 +13,7 @@ use Rattle.entry.specs.paper.Host.{Seen, seen, numberSeen, bufferSeen}
 use Rattle.entry.specs.computed.Host.{hostOf}
 use Rattle.cases.specs.Cases.{untouched, Listed, nextIn}
 use Rattle.cases.proofs.Laws.{says-no, says}
-use Rattle.replay.specs.Cases.{recordsIn, scriptAt, scriptEnd, roomAt, listedBytes, recordsAt, caseEnd, nextAt, seenOf, listedOf, CaseAgrees}
+use Rattle.replay.specs.Cases.{recordsIn, mostRoom, scriptAt, scriptEnd, roomAt, listedBytes, recordsAt, caseEnd, nextAt, seenLent, listedOf, CaseAgrees}
 
 -- ---- untouched bytes
 
@@ -28,12 +28,12 @@ take-untouched (suc n) zero h = absurd (omega arith)
 take-untouched (suc n) (suc m) h = ap (λ l. 0xA5 ∷ l) (take-untouched n m (omega arith))
 
 -- the first of them
-module _ (room : ℕ) {space : List ℕ} (clean : space ≡ untouched 4096) (size : 4096 ≡ length space) (most : room ≤ 4096) where
+module _ (room : ℕ) {space : List ℕ} (clean : space ≡ untouched mostRoom) (size : mostRoom ≡ length space) (most : room ≤ mostRoom) where
   pub part-length : length (take room space) ≡ room
   part-length = length-take-le room space (omega arith)
 
   pub part-untouched : take room space ≡ untouched (length (take room space))
-  part-untouched = ap (take room) clean ∙ take-untouched room 4096 most ∙ ap untouched (sym part-length)
+  part-untouched = ap (take room) clean ∙ take-untouched room mostRoom most ∙ ap untouched (sym part-length)
 
 -- ---- records in lent bytes
 
@@ -49,12 +49,12 @@ module _ (lent records : List ℕ) where
       says-no (λ e. false≢true (sym off ∙ is .1 (ap (take (length records)) e ∙ take-append-seam records (untouched (length lent - length records)))))
 
   -- these do, and the rest decides
-  pub holds-is : {r : Bool} {fresh : List ℕ} → take (length records) lent ≡ records → fresh ≡ untouched 4096 → length lent ≤ 4096
+  pub holds-is : {r : Bool} {fresh : List ℕ} → take (length records) lent ≡ records → fresh ≡ untouched mostRoom → length lent ≤ mostRoom
       → (r ≡ true) ↔ (take (length lent - length records) (drop (length records) lent) ≡ take (length lent - length records) fresh)
       → (r ≡ true) ↔ (lent ≡ recordsIn records (length lent))
   holds-is front clean most is =
       let rest = take-all (length lent - length records) (drop (length records) lent) (omega (arith, length-drop (length records) lent)) in
-      let over = ap (take (length lent - length records)) clean ∙ take-untouched (length lent - length records) 4096 (omega arith) in
+      let over = ap (take (length lent - length records)) clean ∙ take-untouched (length lent - length records) mostRoom (omega arith) in
       says
       is
       (λ e. sym (take-append-drop (length records) lent) ∙ ap (λ l. l ++ drop (length records) lent) front ∙ ap (λ l. records ++ l) (sym rest ∙ e ∙ over))
@@ -67,16 +67,16 @@ blockSeen (seen number buffer block) = block
 
 module _ (list : List ℕ) (at : ℕ) (script records : List ℕ) {lent : List ℕ} (clean : lent ≡ untouched (length lent)) {number : ℕ} {buffer block : List ℕ}
     (is : seen number buffer block ≡ hostOf script lent (replicate 16 0xA5)) where
-  seen-is : seen number buffer block ≡ seenOf script (length lent)
-  unfolding seenOf untouched
+  seen-is : seen number buffer block ≡ seenLent script (length lent)
+  unfolding seenLent untouched
   seen-is = is ∙ ap (λ l. hostOf script l (replicate 16 0xA5)) clean
 
-  pub buffer-is : buffer ≡ bufferSeen (seenOf script (length lent))
+  pub buffer-is : buffer ≡ bufferSeen (seenLent script (length lent))
   buffer-is = ap bufferSeen seen-is
 
   module _ (size : length block ≡ 16) {yes : Bool} (block-is : (yes ≡ true) ↔ Listed list at number block) where
     -- number or block are others than listed
-    pub agrees-off : yes ≡ false → (false ≡ true) ↔ (seenOf script (length lent) ≡ listedOf list at records (length lent))
+    pub agrees-off : yes ≡ false → (false ≡ true) ↔ (seenLent script (length lent) ≡ listedOf list at records (length lent))
     unfolding listedOf blockSeen
     agrees-off off =
         says-no
@@ -88,7 +88,7 @@ module _ (list : List ℕ) (at : ℕ) (script records : List ℕ) {lent : List �
 
     -- they are those, and the lent bytes decide
     pub agrees-is : {r : Bool} → yes ≡ true → length buffer ≡ length lent → (r ≡ true) ↔ (buffer ≡ recordsIn records (length buffer))
-        → (r ≡ true) ↔ (seenOf script (length lent) ≡ listedOf list at records (length lent))
+        → (r ≡ true) ↔ (seenLent script (length lent) ≡ listedOf list at records (length lent))
     unfolding listedOf
     agrees-is e same holds =
         let has = block-is .0 e in
@@ -140,13 +140,13 @@ module _ (list : List ℕ) (at : ℕ) {bytes size : ℕ} (first : bytes ≡ four
 
   module _ {room : ℕ} (third : room ≡ fourAt list (at + 4)) where
     -- it lends too much
-    pub room-off : 4096 < room → (false ≡ true) ↔ CaseAgrees list at
+    pub room-off : mostRoom < room → (false ≡ true) ↔ CaseAgrees list at
     unfolding roomAt
     room-off h = says-no (λ a. omega (arith, a .lendable, third))
 
-    pub case-is : {r : Bool} {n : ℕ} → at + 24 + bytes + size ≤ length list → room ≤ 4096 → n ≡ room
+    pub case-is : {r : Bool} {n : ℕ} → at + 24 + bytes + size ≤ length list → room ≤ mostRoom → n ≡ room
         → (r ≡ true)
-        ↔ (seenOf (take (at + 24 + bytes - (at + 24)) (drop (at + 24) list)) n
+        ↔ (seenLent (take (at + 24 + bytes - (at + 24)) (drop (at + 24) list)) n
         ≡ listedOf list (at + 8) (take (at + 24 + bytes + size - (at + 24 + bytes)) (drop (at + 24 + bytes) list)) n)
         → (r ≡ true) ↔ CaseAgrees list at
     unfolding roomAt

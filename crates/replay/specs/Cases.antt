@@ -14,6 +14,10 @@ use Rattle.cases.specs.Cases.{untouched, nextIn}
 abbrev pub recordsIn : List ℕ → ℕ → List ℕ
 recordsIn records room = records ++ untouched (room - length records)
 
+-- the most bytes that a case may lend
+abbrev pub mostRoom : ℕ
+mostRoom = 4096
+
 -- ---- the case at a place
 
 -- its script, and where it ends
@@ -38,22 +42,23 @@ recordsAt list at = take (listedBytes list at) (drop (scriptEnd list at) list)
 unfoldable pub caseEnd : List ℕ → ℕ → ℕ
 caseEnd list at = scriptEnd list at + listedBytes list at
 
+-- where the next case starts
 unfoldable pub nextAt : List ℕ → ℕ → ℕ
 nextAt list at = nextIn list (caseEnd list at)
 
 -- ---- what it means that it agrees
 
--- what a host sees that tokenizes a script
-unfoldable pub seenOf : List ℕ → ℕ → Seen
-seenOf script room = hostOf script (untouched room) (untouched 16)
+-- what a host sees that tokenizes a script, with so many bytes lent
+unfoldable pub seenLent : List ℕ → ℕ → Seen
+seenLent script room = hostOf script (untouched room) (untouched 16)
 
 -- what the list says: number and block stand at a place, and these are the records
 unfoldable pub listedOf : List ℕ → ℕ → List ℕ → ℕ → Seen
 listedOf list at records room = seen (fourAt list at) (recordsIn records room) (take 16 (drop at list))
 
--- The case at a place agrees: the list holds all of it, it lends no more than there is, and a host sees what it lists: the number, the records and every
+-- The case at a place agrees: the list holds all of it, it lends at most `mostRoom` bytes, and a host sees what it lists: the number, the records and every
 -- other lent byte, and the block.
 pub record CaseAgrees (list : List ℕ) (at : ℕ) : Type 0 where
   pub whole : caseEnd list at ≤ length list
-  pub lendable : roomAt list at ≤ 4096
-  pub as-listed : seenOf (scriptAt list at) (roomAt list at) ≡ listedOf list (at + 8) (recordsAt list at) (roomAt list at)
+  pub lendable : roomAt list at ≤ mostRoom
+  pub as-listed : seenLent (scriptAt list at) (roomAt list at) ≡ listedOf list (at + 8) (recordsAt list at) (roomAt list at)

@@ -9,8 +9,8 @@
 //     the script
 //     where the number is 0, the records: as many bytes as the block says
 //
-// A case agrees when ergo_tokenize hands back the number, the block is the one listed, the records stand in the lent bytes, and every other
-// lent byte is as it was.
+// A case agrees when the list holds all of it, it lends at most 4,096 bytes, ergo_tokenize hands back the number, the block is the one listed, the
+// records stand in the lent bytes, and every other lent byte is as it was.
 use cases::UNTOUCHED;
 use cases::is_listed;
 use check::same;
@@ -24,7 +24,7 @@ ghost use Prim.Native.Nat.{_+_, _≤_, _<_};
 ghost use lib.ListN.{length};
 ghost use Rattle.entry.specs.paper.Host.{bufferSeen};
 ghost use Rattle.cases.specs.Cases.{untouched, Replays};
-ghost use Rattle.replay.specs.Cases.{recordsIn, listedBytes, seenOf, listedOf, CaseAgrees, nextAt};
+ghost use Rattle.replay.specs.Cases.{recordsIn, mostRoom, listedBytes, seenLent, listedOf, CaseAgrees, nextAt};
 
 const HEAD_BYTES: usize = 24;
 
@@ -32,15 +32,15 @@ const HEAD_BYTES: usize = 24;
 const ROOM_BYTES: usize = 4096;
 
 fn untouched_space() -> [u8; ROOM_BYTES]
-    ensures { λ r. ⌜ r ≡ untouched 4096 ⌝ }
-    ensures { λ r. ⌜ 4096 ≡ length r ⌝ }
+    ensures { λ r. ⌜ r ≡ untouched mostRoom ⌝ }
+    ensures { λ r. ⌜ mostRoom ≡ length r ⌝ }
 {
     [UNTOUCHED; ROOM_BYTES]
 }
 
 // Whether the lent bytes hold these records, and behind them what they held before.
 fn holds_records(lent: &[u8], records: &[u8]) -> bool
-    requires { ⌜ length (now lent) ≤ 4096 ⌝ }
+    requires { ⌜ length (now lent) ≤ mostRoom ⌝ }
     ensures { λ r. ⌜ (r ≡ true) ↔ (now (lent .entry) ≡ recordsIn (now (records .entry)) (length (now (lent .entry)))) ⌝ }
 {
     let bytes = records.len();
@@ -70,10 +70,10 @@ fn listed_bytes(list: &[u8], at: usize) -> usize
 // Whether the tokenizer answers a script as the list says: the block stands at a place of it, and these are the records. The lent bytes are untouched.
 fn agrees(lent: &mut [u8], list: &[u8], at: usize, script: &[u8], records: &[u8]) -> bool
     requires { ⌜ at + 16 ≤ length (now list) ⌝ }
-    requires { ⌜ length (now lent) ≤ 4096 ⌝ }
+    requires { ⌜ length (now lent) ≤ mostRoom ⌝ }
     requires { ⌜ now lent ≡ untouched (length (now lent)) ⌝ }
-    ensures { λ r. ⌜ (r ≡ true) ↔ (seenOf (now (script .entry)) (length (now (lent .entry))) ≡ listedOf (now (list .entry)) at (now (records .entry)) (length (now (lent .entry)))) ⌝ }
-    ensures { λ r. ⌜ now (lent .exit) ≡ bufferSeen (seenOf (now (script .entry)) (length (now (lent .entry)))) ⌝ }
+    ensures { λ r. ⌜ (r ≡ true) ↔ (seenLent (now (script .entry)) (length (now (lent .entry))) ≡ listedOf (now (list .entry)) at (now (records .entry)) (length (now (lent .entry)))) ⌝ }
+    ensures { λ r. ⌜ now (lent .exit) ≡ bufferSeen (seenLent (now (script .entry)) (length (now (lent .entry)))) ⌝ }
 {
     let mut block = [UNTOUCHED; 16];
     let number = ergo::ergo_tokenize(script, lent, &mut block);

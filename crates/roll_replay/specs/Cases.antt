@@ -18,18 +18,19 @@ rollEnd list at = at + 24 + fourAt list at
 unfoldable pub caseEnd : List ℕ → ℕ → ℕ
 caseEnd list at = rollEnd list at + 48 * fourAt list (at + 4)
 
+-- where the next case starts
 unfoldable pub nextAt : List ℕ → ℕ → ℕ
 nextAt list at = nextIn list (caseEnd list at)
 
--- what a host is told is what the list has at a place
+-- what is told is what the list has at a place
 abbrev pub AsListed : List ℕ → ℕ → Told → Type 0
 AsListed list at x = Listed list at (numberTold x) (blockTold x)
 
--- so it is with a host that reads the roll
+-- a host that reads the roll is told what the list has at a place
 abbrev pub RollAgrees : List ℕ → ℕ → List ℕ → Type 0
 RollAgrees list at roll = AsListed list at (rollTold roll (untouched 16))
 
--- and with one that reads the record which the list asks for at a place, by its offset and the previous end; the answer stands behind these two
+-- a host that reads the record asked for at a place, by its offset and the previous end, is told what stands behind these two
 unfoldable pub RecordAgrees : List ℕ → List ℕ → ℕ → Type 0
 RecordAgrees list roll at = AsListed list (at + 8) (recordTold roll (fourAt list at) (fourAt list (at + 4)) (untouched 40))
 

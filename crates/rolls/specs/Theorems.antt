@@ -5,7 +5,7 @@ use mathlib.Core.Logic.{_↔_}
 use mathlib.Core.List.{List}
 use lib.ListN.{length}
 use Rattle.words.specs.Words.{fourAt}
-use Rattle.token.specs.paper.Kinds.{Token}
+use Rattle.token.specs.paper.Kinds.{Token, kindNumber}
 use Rattle.token.specs.paper.Reading.{TokensOf, OnlyLastEof}
 use Rattle.token.specs.paper.Records.{mostBytes, records}
 use Rattle.rolls.specs.paper.Roll.{Stepped, yielded, Steps, Outcome, tokens, ReadsRoll}
@@ -21,11 +21,11 @@ pub record RollTheorems (roll : List ℕ) : Type 0 where
   -- So is what a host is told, with any block.
   pub tells-record : (at previous : ℕ) (block : List ℕ) (x : Told) → (recordTold roll at previous block ≡ x) ↔ TellsRecord roll at previous block x
   pub tells-roll : (block : List ℕ) (x : Told) → (rollTold roll block ≡ x) ↔ TellsRoll roll block x
-  -- A token that is yielded brings the reader on, within the roll, and its end fits 4 bytes. In a roll of less than 2³² bytes its block has the next offset
-  -- and the token's end as they are: so whoever steps by the numbers of the block makes just these steps, and they end.
+  -- A token that is yielded brings the reader on, within the roll, and its end fits 4 bytes. In a roll of less than 2³² bytes its block has the kind, the
+  -- end and the next offset as they are: so whoever steps by the numbers of the block makes just these steps, and they end.
   pub onward : (at previous next : ℕ) (t : Token) → readAt roll at previous ≡ yielded t next → (at < next) × (next ≤ length roll) × (t .end < 4294967296)
-  pub by-block : (t : Token) (next : ℕ) → next < 4294967296 → t .end < 4294967296
-      → (fourAt (tokenBlock t next) 28 ≡ next) × (fourAt (tokenBlock t next) 16 ≡ t .end)
+  pub by-block : (at previous next : ℕ) (t : Token) → length roll < 4294967296 → readAt roll at previous ≡ yielded t next
+      → (fourAt (tokenBlock t next) 8 ≡ kindNumber (t .kind)) × (fourAt (tokenBlock t next) 16 ≡ t .end) × (fourAt (tokenBlock t next) 28 ≡ next)
   -- "Every roll that the writer makes is read to the same tokens": for every script of at most 16,777,216 bytes that has a reading.
   pub written : (script : List ℕ) (ts : List Token) → length script ≤ mostBytes → TokensOf script ts → readRoll (records ts) ≡ tokens ts
   -- "and writing those tokens gives the same bytes": for every roll that is read, whoever made it.

@@ -1,7 +1,6 @@
 -- `roll_replay::records_agree` meets its contract: those that the loop has passed agree.
 -- Assumes nothing.
 use Prim.Native.Nat.{_-_, _≤_}
-use borrow.Author.Needs.{needs}
 use borrow.Author.Tests.{not-true, not-false}
 use mathlib.Core.Bool.{false≢true}
 use mathlib.Core.Path.{refl, sym, _∙_}

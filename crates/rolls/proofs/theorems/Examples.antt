@@ -23,5 +23,6 @@ roll-examples =
       told-roll = refl;
       told-record = refl;
       told-past = refl;
+      told-roll-twenty = refl;
       told-twenty = refl;
     }

@@ -61,4 +61,5 @@ pub record RollExamples : Type 0 where
       ++ (replicate 4 0 ++ ((1 ∷ 0 ∷ 0 ∷ 0 ∷ []) ++ (replicate 8 0 ++ ((17 ∷ 0 ∷ 0 ∷ 0 ∷ []) ++ (7 ∷ 0 ∷ 0 ∷ 0 ∷ 0 ∷ 0 ∷ 0 ∷ 0 ∷ [])))))))
   pub told-past : recordTold seven 30 1 (replicate 40 165) ≡ told 24 ((24 ∷ 0 ∷ 0 ∷ 0 ∷ 30 ∷ 0 ∷ 0 ∷ 0 ∷ []) ++ replicate 32 0)
   -- a block of another length keeps its bytes
+  pub told-roll-twenty : rollTold seven (replicate 15 165) ≡ told 20 (replicate 15 165)
   pub told-twenty : recordTold seven 0 0 (replicate 16 165) ≡ told 20 (replicate 16 165)

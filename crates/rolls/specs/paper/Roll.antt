@@ -65,7 +65,7 @@ pub data KindLength : ℕ → ℕ → Type 0 where
 abbrev pub NoKind : List ℕ → ℕ → Type 0
 NoKind roll at = KindLength (kindAt roll at) (lengthAt roll at) → ⊥
 
--- 24, after a record that ends at `previous`. A number is negative where its last byte is 128 or more.
+-- 24, after a token that ends at `previous` in the script. A number is negative where its last byte is 128 or more.
 pub data Wrong (roll : List ℕ) (at previous : ℕ) : Type 0 where
   -- a cut or after-comment byte above 1 (17 Newline)
   cut-byte : 1 < cutAt roll at → Wrong roll at previous
@@ -119,7 +119,7 @@ abbrev pub prepend : Token → Outcome → Outcome
 prepend t (tokens ts) = tokens (t ∷ ts)
 prepend t (refused j a) = refused j a
 
--- from an offset on, after a record that ends at `previous`
+-- from an offset on, after a token that ends at `previous`
 pub data Reads (roll : List ℕ) : ℕ → ℕ → Outcome → Type 0 where
   refuses : {at previous j a : ℕ} → Steps roll at previous (stopped j a) → Reads roll at previous (refused j a)
   -- The roll must end with its only Eof.
@@ -127,6 +127,6 @@ pub data Reads (roll : List ℕ) : ℕ → ℕ → Outcome → Type 0 where
   more : {at previous next : ℕ} {t : Token} {x : Outcome} → Steps roll at previous (yielded t next) → (t .kind ≡ tk.Eof → ⊥)
       → Reads roll next (t .end) x → Reads roll at previous (prepend t x)
 
--- the whole roll: the first record stands at 0, and no token ends before it
+-- the whole roll: the first record stands at 0, and its previous end is 0
 abbrev pub ReadsRoll : List ℕ → Outcome → Type 0
 ReadsRoll roll x = Reads roll 0 0 x
