@@ -8,8 +8,7 @@ use lib.Dec.{ltb}
 use lib.ListN.{length, take, drop, replicate}
 use native.Mathlib.Omega.{arith}
 use borrow.Author.Tests.{ltb-true, ltb-false}
-use Rattle.words.specs.Words.{fourAt}
-use Rattle.rolls.specs.paper.Host.{told}
+use Rattle.words.specs.Words.{fourAt, told}
 use Rattle.rolls.specs.computed.Host.{rollTold, recordTold}
 use Rattle.cases.specs.Cases.{untouched, Listed, nextIn}
 use Rattle.cases.proofs.Laws.{says-no, says}

@@ -2,8 +2,7 @@
 use Prim.Native.Nat.{ℕ, _+_, _*_, _≤_, _<_}
 use mathlib.Core.List.{List}
 use lib.ListN.{length, take, drop}
-use Rattle.words.specs.Words.{fourAt}
-use Rattle.rolls.specs.paper.Host.{Told, numberTold, blockTold}
+use Rattle.words.specs.Words.{fourAt, Told, numberTold, blockTold}
 use Rattle.rolls.specs.computed.Host.{rollTold, recordTold}
 use Rattle.cases.specs.Cases.{untouched, Listed, nextIn}
 

@@ -4,12 +4,12 @@ use mathlib.Core.Path.{_≡_}
 use mathlib.Core.Logic.{_↔_}
 use mathlib.Core.List.{List}
 use lib.ListN.{length}
-use Rattle.words.specs.Words.{fourAt}
+use Rattle.words.specs.Words.{fourAt, Told}
 use Rattle.token.specs.paper.Kinds.{Token, kindNumber}
 use Rattle.token.specs.paper.Reading.{TokensOf, OnlyLastEof}
 use Rattle.token.specs.paper.Records.{mostBytes, records}
 use Rattle.rolls.specs.paper.Roll.{Stepped, yielded, Steps, Outcome, tokens, ReadsRoll}
-use Rattle.rolls.specs.paper.Host.{Told, TellsRoll, TellsRecord, tokenBlock}
+use Rattle.rolls.specs.paper.Host.{TellsRoll, TellsRecord, tokenBlock}
 use Rattle.rolls.specs.computed.Roll.{readAt, readRoll}
 use Rattle.rolls.specs.computed.Host.{rollTold, recordTold}
 use Rattle.rolls.specs.computed.Examples.{RollExamples}

@@ -11,7 +11,8 @@ use words::write::put_numbers;
 use words::write::put8;
 ghost use mathlib.Core.Path.{_≡_};
 ghost use lib.ListN.{length};
-ghost use Rattle.rolls.specs.paper.Host.{told, tokenBlock, stopBlock};
+ghost use Rattle.words.specs.Words.{told};
+ghost use Rattle.rolls.specs.paper.Host.{tokenBlock, stopBlock};
 ghost use Rattle.rolls.specs.computed.Host.{rollTold, recordTold};
 ghost use Rattle.rolls.specs.Theorems.{RollTheorems};
 

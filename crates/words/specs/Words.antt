@@ -1,4 +1,4 @@
--- Numbers as bytes: the bytes of a number, the number at a place of bytes, and the answer block.
+-- Numbers as bytes: the bytes of a number, the number at a place of bytes, the answer block, and what a host is told.
 use Prim.Native.Nat.{ℕ, _+_, _*_, _/_, _%_}
 use mathlib.Core.List.{List, [], _∷_, _++_}
 use lib.ListN.{getD}
@@ -35,3 +35,13 @@ eightAt bytes at = fourAt bytes at + fourAt bytes (at + 4) * 4294967296
 -- The block then holds four 4-byte little-endian numbers: refusal, place, token count, record bytes; unused ones 0.
 unfoldable pub blockOf : ℕ → ℕ → ℕ → ℕ → List ℕ
 blockOf j a count bytes = le4 j ++ le4 a ++ le4 count ++ le4 bytes
+
+-- what a host is told: the number handed back, and the block afterwards
+pub data Told : Type 0 where
+  told : ℕ → List ℕ → Told
+
+abbrev pub numberTold : Told → ℕ
+numberTold (told j block) = j
+
+abbrev pub blockTold : Told → List ℕ
+blockTold (told j block) = block

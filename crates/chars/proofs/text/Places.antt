@@ -4,13 +4,13 @@ use mathlib.Core.Path.{_≡_, refl, sym, _∙_, ap}
 use mathlib.Core.Bool.{Bool, true, false, cond}
 use mathlib.Core.Logic.{_⊎_, ⊎-elim}
 use mathlib.Core.List.{List, [], _∷_}
-use lib.ListN.{length, drop, getD, drop-of-length-le, List·getD-eq-default}
+use lib.ListN.{length, drop, getD, length-drop, drop-of-length-le, List·getD-eq-default}
 use lib.Seq.{drop-drop, getD-drop}
 use lib.Dec.{ltb}
 use native.Mathlib.Nat.{add-zero}
 use native.Mathlib.Omega.{arith}
 use borrow.Author.Tests.{ltb-true, ltb-false}
-use Rattle.chars.specs.paper.Utf8.{width, codeOf}
+use Rattle.chars.specs.paper.Utf8.{WellFormed, width, codeOf}
 use Rattle.chars.specs.paper.Text.{Char, Text, charsAt, from, place, headIs}
 use Rattle.chars.specs.code.Text.{codeAt, charEnd, stepAt}
 use Rattle.chars.specs.promises.Texts.{AsciiClass, PastWide}
@@ -18,6 +18,7 @@ use Rattle.chars.specs.computed.Runs.{afterRun}
 use Rattle.chars.specs.declared.text.Step.the-variants as step
 use Rattle.chars.proofs.utf8.Rows as rows
 use Rattle.chars.proofs.utf8.Codes.{code-one}
+use Rattle.chars.proofs.utf8.Valid.{first-char}
 use Rattle.chars.proofs.utf8.Widths.{width-within}
 use Rattle.chars.proofs.utf8.Wide.{Wide, wide}
 use Rattle.chars.proofs.text.Texts.{chars-skip}
@@ -100,6 +101,23 @@ module _ (s : List ℕ) (i : ℕ) where
   tail-next h l m =
       let e : width (drop i s) ≡ 0 = ap width (rows.here s i h) ∙ sym (rows.none-low (getD s i 0) (drop (i + 1) s) l (omega arith)) in
       omega arith
+
+  -- well-formed text begins with none of these, and behind its first character it is well-formed
+  pub next-valid : i < length s → WellFormed (drop i s) → (0x80 ≤ getD s i 0 → 0xBF < getD s i 0) × WellFormed (drop (charEnd s i) s)
+  unfolding charEnd
+  next-valid h w =
+      let d = length-drop i s in
+      let f = first-char w (omega arith) in
+      let b = ltb 0xBF (getD s i 0) in
+      let k : i + width (drop i s) ≡ suc i + (width (drop i s) - 1) = let x = f .0 in omega arith in
+      (λ l. go b refl l (f .0), rw (drop-drop, k) at (f .1))
+    where
+      go : (b : Bool) → ltb 0xBF (getD s i 0) ≡ b → 0x80 ≤ getD s i 0 → 0 < width (drop i s) → 0xBF < getD s i 0
+      go true e l p = ltb-true 0xBF (getD s i 0) e
+      go false e l p =
+          let m = ltb-false 0xBF (getD s i 0) e in
+          let z : width (drop i s) ≡ 0 = ap width (rows.here s i h) ∙ sym (rows.none-low (getD s i 0) (drop (i + 1) s) l (omega arith)) in
+          absurd (omega arith)
 
 -- ---- a class of ASCII characters is tested on the byte; past the end the byte counts as 0
 

@@ -104,6 +104,7 @@ valid-laws = record {
   longest-one = valids.longest-one;
   valid-all = valids.valid-all;
   all-valid = valids.all-valid;
+  next-valid = places.next-valid;
 }
 
 pub text-laws : TextLaws

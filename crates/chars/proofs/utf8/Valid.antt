@@ -212,3 +212,8 @@ valid-all s w =
 
 pub all-valid : (s : List ℕ) → length s ≤ validPrefix s → WellFormed s
 all-valid s l = let v = valid s in rw (take-all (validPrefix s) s l) at (v .valid)
+
+-- one character of a well-formed text: it has bytes, and what follows it is well-formed
+pub first-char : {t : List ℕ} → WellFormed t → 0 < length t → (0 < width t) × WellFormed (drop (width t) t)
+first-char WellFormed.empty h = absurd (omega arith)
+first-char {t} (WellFormed.char {row} w f g) h = let e = width-fit w t f in let k = row-long w in let l = k .1 in (omega arith, rw e g)

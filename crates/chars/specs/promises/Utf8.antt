@@ -3,7 +3,7 @@ use Prim.Native.Nat.{ℕ, _+_, _≤_, _<_}
 use mathlib.Core.Path.{_≡_}
 use mathlib.Core.Bool.{Bool, true, not, _&&_}
 use mathlib.Core.List.{List, _++_}
-use lib.ListN.{length, getD}
+use lib.ListN.{length, drop, getD}
 use lib.Dec.{leb}
 use Rattle.chars.specs.paper.Quoted.{between}
 use Rattle.chars.specs.paper.Utf8.{WellFormed, LongestValid, width, codeOf}
@@ -33,6 +33,9 @@ pub record ValidLaws : Type 0 where
   -- a text is well-formed exactly where that prefix is all of it
   pub valid-all : (s : List ℕ) → WellFormed s → validPrefix s ≡ length s
   pub all-valid : (s : List ℕ) → length s ≤ validPrefix s → WellFormed s
+  -- well-formed text begins with no byte of 0x80 to 0xBF, and behind its first character it is well-formed
+  pub next-valid : (s : List ℕ) (i : ℕ) → i < length s → WellFormed (drop i s)
+      → (0x80 ≤ getD s i 0 → 0xBF < getD s i 0) × WellFormed (drop (charEnd s i) s)
 
 -- a code that UTF-8 can carry: a Unicode scalar value, at most U+10FFFF and no surrogate
 abbrev pub isScalar : ℕ → Bool

@@ -11,7 +11,7 @@ use borrow.Author.Tests.{eq-eqb, ne-eqb}
 use denote.Laws.{Is}
 use denote.Enum.Declared.{row}
 use denote.Enum.Laws.{owed, vals}
-use Rattle.words.specs.Words.{le2, le4, le8, blockOf}
+use Rattle.words.specs.Words.{le2, le4, le8, blockOf, told}
 use Rattle.words.proofs.Stores.{after, whole, length-block}
 use Rattle.words.proofs.Joins.{eights}
 use Rattle.token.specs.paper.Kinds.{Token, kindNumber}
@@ -25,7 +25,7 @@ use Rattle.token.proofs.kinds.TokenKind.{the-type}
 use Rattle.token.proofs.kinds.TokenKind.Laws.{the-laws}
 use Rattle.rolls.specs.paper.Roll.{Stepped, Outcome, tokens, refused}
 use Rattle.rolls.specs.computed.Roll.{readAt, readRoll}
-use Rattle.rolls.specs.paper.Host.{told, outcomeTold, steppedTold, tokenBlock, stopBlock}
+use Rattle.rolls.specs.paper.Host.{outcomeTold, steppedTold, tokenBlock, stopBlock}
 use Rattle.rolls.specs.computed.Host.{rollTold, recordTold}
 use Rattle.rolls.specs.code.Record.{yieldOf}
 use Rattle.rolls.specs.code.Roll.{countedOf}

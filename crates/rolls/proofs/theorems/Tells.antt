@@ -10,12 +10,12 @@ use lib.Dec.{eqb}
 use native.Mathlib.Omega.{arith}
 use borrow.Author.Tests.{eqb-true, eqb-false, eq-eqb, ne-eqb}
 use Rattle.words.specs.Joins.{Bytes}
-use Rattle.words.specs.Words.{le4, twoAt, fourAt}
+use Rattle.words.specs.Words.{le4, twoAt, fourAt, Told, told}
 use Rattle.words.proofs.Joins.{four-le4, two-fits}
 use Rattle.token.specs.paper.Kinds.{Token, kindNumber}
 use Rattle.token.specs.paper.Records.{bit, values}
 use Rattle.rolls.specs.paper.Roll.{yielded, Steps}
-use Rattle.rolls.specs.paper.Host.{Told, told, outcomeTold, steppedTold, TellsRoll, TellsRecord, tokenBlock}
+use Rattle.rolls.specs.paper.Host.{outcomeTold, steppedTold, TellsRoll, TellsRecord, tokenBlock}
 use Rattle.rolls.specs.computed.Roll.{readAt, readRoll}
 use Rattle.rolls.specs.computed.Host.{rollTold, recordTold}
 use Rattle.rolls.proofs.theorems.Steps.{steps}

@@ -4,8 +4,8 @@ use Prim.Native.Nat.{ℕ}
 use mathlib.Core.Path.{_≡_}
 use mathlib.Core.List.{List, [], _∷_, _++_, map}
 use lib.ListN.{length, take, set, replicate}
+use Rattle.words.specs.Words.{told}
 use Rattle.rolls.specs.paper.Roll.{Outcome, tokens, refused}
-use Rattle.rolls.specs.paper.Host.{told}
 use Rattle.rolls.specs.computed.Roll.{readRoll}
 use Rattle.rolls.specs.computed.Host.{rollTold, recordTold}
 

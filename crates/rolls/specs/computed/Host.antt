@@ -4,7 +4,8 @@ use mathlib.Core.Bool.{cond}
 use mathlib.Core.List.{List}
 use lib.ListN.{length}
 use lib.Dec.{eqb}
-use Rattle.rolls.specs.paper.Host.{Told, told, outcomeTold, steppedTold}
+use Rattle.words.specs.Words.{Told, told}
+use Rattle.rolls.specs.paper.Host.{outcomeTold, steppedTold}
 use Rattle.rolls.specs.computed.Roll.{readAt, readRoll}
 
 unfoldable pub rollTold : List ℕ → List ℕ → Told

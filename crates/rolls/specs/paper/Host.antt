@@ -5,20 +5,10 @@ use Prim.Native.Nat.{ℕ}
 use mathlib.Core.Path.{_≡_}
 use mathlib.Core.List.{List, _++_}
 use lib.ListN.{length, take, replicate}
-use Rattle.words.specs.Words.{le4, blockOf}
+use Rattle.words.specs.Words.{le4, blockOf, Told, told}
 use Rattle.token.specs.paper.Kinds.{Token, kindNumber}
 use Rattle.token.specs.paper.Records.{bit, values}
 use Rattle.rolls.specs.paper.Roll.{Stepped, yielded, stopped, Steps, Outcome, tokens, refused, ReadsRoll}
-
--- the number handed back, and the block
-pub data Told : Type 0 where
-  told : ℕ → List ℕ → Told
-
-abbrev pub numberTold : Told → ℕ
-numberTold (told j block) = j
-
-abbrev pub blockTold : Told → List ℕ
-blockTold (told j block) = block
 
 -- ---- a roll: 16 bytes, refusal, place, token count, bytes of the roll
 

@@ -1,0 +1,4 @@
+pub mod paper
+pub mod computed
+pub mod code
+pub mod Theorems
