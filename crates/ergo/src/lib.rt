@@ -51,7 +51,12 @@ pub extern "C" fn ergo_index_lines(script: &[u8], index: &mut [u32], answer: &mu
 }
 
 #[no_mangle]
-pub extern "C" fn ergo_line_column(script: &[u8], index: &[u32], place: u32, answer: &mut [u8]) -> u32
+pub extern "C" fn ergo_line_column(
+    script: &[u8],
+    index: &[u32],
+    place: u32,
+    answer: &mut [u8],
+) -> u32
     ensures { λ r. ⌜ told r (now (answer .exit)) ≡ positionTold (now (script .entry)) (now (index .entry)) place (now (answer .entry)) ⌝ }
     ensures { λ r. ⌜ LineTheorems (now (script .entry)) ⌝ }
 {
