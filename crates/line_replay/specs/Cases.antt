@@ -49,8 +49,8 @@ abbrev pub blockSeen : Seen → List ℕ
 blockSeen (seen j buffer block) = block
 
 -- what a host sees that builds the index of a script in lent numbers
-unfoldable pub builtIn : List ℕ → List ℕ → Seen
-builtIn script lent = indexSeen script lent (untouched 16)
+unfoldable pub builtSeen : List ℕ → List ℕ → Seen
+builtSeen script lent = indexSeen script lent (untouched 16)
 
 -- number and block are what the list has at a place
 abbrev pub BlockAgrees : List ℕ → ℕ → Seen → Type 0
@@ -72,8 +72,8 @@ PlaceAgrees list script index at = AsListed list (at + 4) (positionTold script i
 abbrev pub PlacesAgree : List ℕ → List ℕ → List ℕ → ℕ → ℕ → Type 0
 PlacesAgree list script index from count = (k : ℕ) → k < count → PlaceAgrees list script index (from + 20 * k)
 
--- What a host sees of building, and what it is told over the numbers that it then has, is what the list says: the block at a place, the numbers and the
--- places asked for from another on.
+-- What a host sees of building, and what it is told over the numbers that it has then, is what the list says: the block at a place, the numbers and
+-- the places asked for from another on.
 pub record Agrees (list : List ℕ) (at : ℕ) (script : List ℕ) (from room count : ℕ) (x : Seen) : Type 0 where
   pub block : BlockAgrees list at x
   pub numbers : NumbersListed list from room (bufferSeen x)
@@ -84,4 +84,4 @@ pub record CaseAgrees (list : List ℕ) (at : ℕ) : Type 0 where
   pub whole : caseEnd list at ≤ length list
   pub lendable : roomAt list at ≤ mostRoom
   pub as-listed : Agrees list (at + 16) (scriptAt list at) (scriptEnd list at) (roomAt list at) (askedAt list at)
-      (builtIn (scriptAt list at) (lentAt list at))
+      (builtSeen (scriptAt list at) (lentAt list at))

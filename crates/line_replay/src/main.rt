@@ -12,8 +12,8 @@
 //     the lent numbers afterwards
 //     for each place asked for: the place, and its block, 16 bytes: refusal, place, line, column
 //
-// A case agrees when the list holds all of it, it lends at most 512 numbers, ergo_index_lines hands back the number that its block begins with, fills
-// the block and leaves the lent numbers as they are listed, and ergo_line_column over these numbers hands back and fills what is listed for each place.
+// A case agrees when the list holds all of it, it lends at most 512 numbers, ergo_index_lines hands back the number that its block begins with and
+// leaves block and lent numbers as they are listed, and ergo_line_column, over the lent numbers as they are then, does so with each place's block.
 use cases::UNTOUCHED;
 use cases::is_listed;
 use libc::STDIN_FILENO;
@@ -26,7 +26,7 @@ ghost use Prim.Native.Nat.{_+_, _*_, _≤_, _<_};
 ghost use lib.ListN.{length};
 ghost use Rattle.entry.specs.paper.Host.{bufferSeen};
 ghost use Rattle.cases.specs.Cases.{Replays};
-ghost use Rattle.line_replay.specs.Cases.{mostRoom, holding, builtIn, NumbersListed, BlockAgrees, PlaceAgrees, PlacesAgree, Agrees, CaseAgrees, nextAt};
+ghost use Rattle.line_replay.specs.Cases.{mostRoom, holding, builtSeen, NumbersListed, BlockAgrees, PlaceAgrees, PlacesAgree, Agrees, CaseAgrees, nextAt};
 
 const HEAD_BYTES: usize = 32;
 
@@ -35,6 +35,7 @@ const ASKED_BYTES: usize = 20;
 // The most numbers that a case lends.
 const ROOM_NUMBERS: usize = 512;
 
+// Room for the lent numbers, which all hold the same.
 fn number_space(held: u32) -> [u32; ROOM_NUMBERS]
     ensures { λ r. ⌜ r ≡ holding held mostRoom ⌝ }
     ensures { λ r. ⌜ mostRoom ≡ length r ⌝ }
@@ -47,7 +48,7 @@ fn numbers_listed(list: &[u8], at: usize, numbers: &[u32]) -> bool
     requires { ⌜ at + 4 * length (now numbers) ≤ length (now list) ⌝ }
     ensures { λ r. ⌜ (r ≡ true) ↔ NumbersListed (now (list .entry)) at (length (now (numbers .entry))) (now (numbers .entry)) ⌝ }
 {
-    let mut k: usize = 0;
+    let mut k = 0;
     while k < numbers.len() {
         if numbers[k] as u64 != four(list, at + 4 * k) {
             return false;
@@ -86,15 +87,15 @@ fn places_agree(list: &[u8], script: &[u8], index: &[u32], from: usize, count: u
 // Builds the index in the lent numbers: whether number and block are those that the list has at a place.
 fn block_agrees(lent: &mut [u32], list: &[u8], at: usize, script: &[u8]) -> bool
     requires { ⌜ at + 16 ≤ length (now list) ⌝ }
-    ensures { λ r. ⌜ (r ≡ true) ↔ BlockAgrees (now (list .entry)) at (builtIn (now (script .entry)) (now (lent .entry))) ⌝ }
-    ensures { λ r. ⌜ now (lent .exit) ≡ bufferSeen (builtIn (now (script .entry)) (now (lent .entry))) ⌝ }
+    ensures { λ r. ⌜ (r ≡ true) ↔ BlockAgrees (now (list .entry)) at (builtSeen (now (script .entry)) (now (lent .entry))) ⌝ }
+    ensures { λ r. ⌜ now (lent .exit) ≡ bufferSeen (builtSeen (now (script .entry)) (now (lent .entry))) ⌝ }
 {
     let mut block = [UNTOUCHED; 16];
     let number = ergo::ergo_index_lines(script, lent, &mut block);
     is_listed(list, at, number, &block)
 }
 
-// Whether index and places of a script are those of the list: the block stands at a place of it, the numbers and the places asked for from another on.
+// Whether index and places of a script are as the list says: the block stands at a place of it, the numbers and the places asked for from another on.
 fn agrees(
     lent: &mut [u32],
     list: &[u8],
@@ -105,8 +106,8 @@ fn agrees(
 ) -> bool
     requires { ⌜ at + 16 ≤ length (now list) ⌝ }
     requires { ⌜ from + 4 * length (now lent) + 20 * count ≤ length (now list) ⌝ }
-    ensures { λ r. ⌜ (r ≡ true) ↔ Agrees (now (list .entry)) at (now (script .entry)) from (length (now (lent .entry))) count (builtIn (now (script .entry)) (now (lent .entry))) ⌝ }
-    ensures { λ r. ⌜ now (lent .exit) ≡ bufferSeen (builtIn (now (script .entry)) (now (lent .entry))) ⌝ }
+    ensures { λ r. ⌜ (r ≡ true) ↔ Agrees (now (list .entry)) at (now (script .entry)) from (length (now (lent .entry))) count (builtSeen (now (script .entry)) (now (lent .entry))) ⌝ }
+    ensures { λ r. ⌜ now (lent .exit) ≡ bufferSeen (builtSeen (now (script .entry)) (now (lent .entry))) ⌝ }
 {
     if !block_agrees(lent, list, at, script) {
         return false;
