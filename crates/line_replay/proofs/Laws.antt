@@ -1,9 +1,9 @@
 -- Laws of the definitions of specs/Cases.antt.
-use Prim.Native.Nat.{ℕ, zero, suc, _+_, _*_, _-_, _≤_, _<_}
+use Prim.Native.Nat.{ℕ, _+_, _*_, _-_, _≤_, _<_}
 use mathlib.Core.Path.{_≡_, refl, sym, _∙_, ap}
 use mathlib.Core.Bool.{Bool, true, false, false≢true}
 use mathlib.Core.Logic.{_↔_}
-use mathlib.Core.List.{List, _∷_}
+use mathlib.Core.List.{List}
 use lib.ListN.{length, take, drop, replicate}
 use lib.Seq.{length-take-le}
 use native.Mathlib.Omega.{arith}
@@ -11,7 +11,7 @@ use Rattle.words.specs.Words.{fourAt, told}
 use Rattle.entry.specs.paper.Host.{Seen, seen, bufferSeen}
 use Rattle.lines.specs.computed.Host.{indexSeen, positionTold}
 use Rattle.cases.specs.Cases.{untouched, Listed, nextIn}
-use Rattle.cases.proofs.Laws.{says-no, says}
+use Rattle.cases.proofs.Laws.{take-replicate, says-no, says}
 use Rattle.line_replay.specs.Cases.{mostRoom, holding, scriptAt, scriptEnd, lentAt, caseEnd, nextAt, builtSeen, BlockAgrees, NumbersListed, PlaceAgrees, PlacesAgree, Agrees, CaseAgrees}
 
 -- ---- numbers that hold the same
@@ -20,19 +20,14 @@ pub all-holding : (n held : ℕ) → replicate {A = ℕ} n held ≡ holding held
 unfolding holding
 all-holding n held = refl
 
-take-holding : (held n m : ℕ) → n ≤ m → take n (holding held m) ≡ holding held n
-unfolding holding
-take-holding held zero m h = refl
-take-holding held (suc n) zero h = absurd (omega arith)
-take-holding held (suc n) (suc m) h = ap (λ l. held ∷ l) (take-holding held n m (omega arith))
-
 -- the first of them
 module _ (held room : ℕ) {space : List ℕ} (clean : space ≡ holding held mostRoom) (size : mostRoom ≡ length space) (most : room ≤ mostRoom) where
   pub part-length : length (take room space) ≡ room
   part-length = length-take-le room space (omega arith)
 
   pub part-holding : take room space ≡ holding held room
-  part-holding = ap (take room) clean ∙ take-holding held room mostRoom most
+  unfolding holding
+  part-holding = ap (take room) clean ∙ take-replicate held room mostRoom most
 
 -- ---- what a host sees of building, and is told of a place
 
