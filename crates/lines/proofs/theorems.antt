@@ -1,1 +1,4 @@
+pub mod Bytes
+pub mod LineEnds
+pub mod Starts
 pub mod Examples
