@@ -13,8 +13,8 @@ use borrow.Author.Tests.{eqb-true, eqb-false, eq-eqb, ne-eqb}
 use Rattle.chars.specs.paper.Quoted.{between}
 use Rattle.chars.specs.promises.Codes.{CodeLaws}
 use Rattle.chars.proofs.theorems.Promises.{code-laws}
-use Rattle.lines.specs.computed.Lines.{countIn, startsIn, columnFrom, lfsBefore, lineAt, columnAt}
-use Rattle.lines.proofs.count.Laws.{count-append, count-one, count-most}
+use Rattle.lines.specs.computed.Lines.{part, countIn, startsIn, columnFrom, lfsBefore, lineAt, columnAt, columnSince}
+use Rattle.lines.proofs.count.Laws.{part-join, part-front, part-length, count-append, count-one, count-most}
 open CodeLaws code-laws using (between-in, between-out)
 
 -- no LF stands from the place i to the place j
@@ -84,6 +84,21 @@ column-plain c (b ∷ x) e =
     go true u e more = absurd (omega arith)
     go false true e more = more c e ∙ omega arith
     go false false e more = let m = count-most 0x80 0xBF x in more (suc c) e ∙ omega arith
+
+-- from one place to another
+pub column-part : (s : List ℕ) (i j : ℕ) → i ≤ j → columnAt s j ≡ columnFrom (columnAt s i) (part s i j)
+unfolding columnAt
+column-part s i j h =
+    let e = sym (part-front s j) ∙ part-join s 0 i j (omega arith) h ∙ ap (λ x. x ++ part s i j) (part-front s i) in
+    ap (columnFrom 1) e ∙ column-append 1 (take i s) (part s i j)
+
+-- in a line that starts at i
+pub column-since : (s : List ℕ) (i a : ℕ) → i ≤ a → a ≤ length s → columnAt s i ≡ 1 → countIn 0x0A 0x0A (part s i a) ≡ 0 → columnAt s a ≡ columnSince s i a
+unfolding columnSince
+column-since s i a h l e n =
+    let p = column-part s i a h ∙ ap (λ c. columnFrom c (part s i a)) e ∙ column-plain 1 (part s i a) n in
+    let k = part-length s i a l in
+    omega arith
 
 -- ---- line and column behind one byte
 
