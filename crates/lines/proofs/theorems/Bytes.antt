@@ -9,29 +9,21 @@ use lib.Dec.{eqb}
 use native.Mathlib.Nat.{add-zero}
 use native.Mathlib.Numerals.{add-one}
 use native.Mathlib.Omega.{arith}
-use borrow.Author.Tests.{eqb-true, eqb-false, eq-eqb, ne-eqb}
+use borrow.Author.Tests.{eq-eqb, ne-eqb}
 use Rattle.chars.specs.paper.Quoted.{between}
 use Rattle.chars.specs.promises.Codes.{CodeLaws}
 use Rattle.chars.proofs.theorems.Promises.{code-laws}
 use Rattle.lines.specs.computed.Lines.{part, countIn, startsIn, columnFrom, lfsBefore, lineAt, columnAt, columnSince}
-use Rattle.lines.proofs.count.Laws.{part-join, part-front, part-length, count-append, count-one, count-most}
+use Rattle.lines.proofs.count.Laws.{between-lf, part-join, part-front, part-length, count-append, count-one, count-most}
 open CodeLaws code-laws using (between-in, between-out)
 
 -- no LF stands from the place i to the place j
-abbrev pub NoLf : List ℕ → ℕ → ℕ → Type 0
-NoLf s i j = (k : ℕ) → i ≤ k → k < j → getD s k 0 ≡ 0x0A → ⊥
+abbrev pub Unbroken : List ℕ → ℕ → ℕ → Type 0
+Unbroken s i j = (k : ℕ) → i ≤ k → k < j → getD s k 0 ≡ 0x0A → ⊥
 
 -- only bytes 0x80 to 0xBF stand there
 abbrev pub Tails : List ℕ → ℕ → ℕ → Type 0
 Tails s i j = (k : ℕ) → i ≤ k → k < j → (0x80 ≤ getD s k 0) × (getD s k 0 ≤ 0xBF)
-
--- the range that has LF alone
-pub between-lf : (b : ℕ) → between 0x0A 0x0A b ≡ eqb b 0x0A
-between-lf b = go (eqb b 0x0A) refl
-  where
-    go : (t : Bool) → eqb b 0x0A ≡ t → between 0x0A 0x0A b ≡ t
-    go true e = let z = eqb-true b 0x0A e in between-in 0x0A 0x0A b (omega arith) (omega arith)
-    go false e = between-out 0x0A 0x0A b (λ l. let z = eqb-false b 0x0A e in omega arith)
 
 -- ---- line starts
 
@@ -48,7 +40,7 @@ module _ (s : List ℕ) where
   pub starts-pass : (i : ℕ) → i < length s → (getD s i 0 ≡ 0x0A → ⊥) → startsIn i (drop i s) ≡ startsIn (i + 1) (drop (i + 1) s)
   starts-pass i h n = starts-step i h ∙ rw (ne-eqb (getD s i 0) 0x0A n)
 
-  starts-many : (k i : ℕ) → i + k ≤ length s → NoLf s i (i + k) → startsIn i (drop i s) ≡ startsIn (i + k) (drop (i + k) s)
+  starts-many : (k i : ℕ) → i + k ≤ length s → Unbroken s i (i + k) → startsIn i (drop i s) ≡ startsIn (i + k) (drop (i + k) s)
   starts-many zero i h n = rw add-zero
   starts-many (suc k) i h n =
       let e : i + 1 + k ≡ i + suc k = omega arith in
@@ -57,7 +49,7 @@ module _ (s : List ℕ) where
       ∙ ap (λ j. startsIn j (drop j s)) e
 
   -- bytes without LF are passed
-  pub starts-past : (i j : ℕ) → i ≤ j → j ≤ length s → NoLf s i j → startsIn i (drop i s) ≡ startsIn j (drop j s)
+  pub starts-past : (i j : ℕ) → i ≤ j → j ≤ length s → Unbroken s i j → startsIn i (drop i s) ≡ startsIn j (drop j s)
   starts-past i j l h n =
       let e : i + (j - i) ≡ j = omega arith in
       starts-many (j - i) i (omega arith) (rw e n) ∙ ap (λ j. startsIn j (drop j s)) e

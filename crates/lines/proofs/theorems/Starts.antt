@@ -15,7 +15,7 @@ use Rattle.chars.proofs.theorems.Promises.{text-laws}
 use Rattle.token.specs.paper.Shapes.{LineEnd}
 use Rattle.lines.specs.paper.Lines.{Ends, Starts}
 use Rattle.lines.specs.computed.Lines.{startsIn, startsOf}
-use Rattle.lines.proofs.theorems.Bytes.{NoLf, starts-lf, starts-pass, starts-past}
+use Rattle.lines.proofs.theorems.Bytes.{Unbroken, starts-lf, starts-pass, starts-past}
 use Rattle.lines.proofs.theorems.LineEnds.{within, lf-ends, crlf-ends, ends-at, end-one, no-end}
 open TextLaws text-laws using (at-char, next-on, at-end, place-from, wide-tail)
 
@@ -37,7 +37,7 @@ ends-one (Ends.passed n x) (Ends.passed k y) = ends-one x y
 
 module _ (s : List ℕ) where
   -- a character other than LF has no LF
-  char-no-lf : (i : ℕ) → i < length s → (getD s i 0 ≡ 0x0A → ⊥) → NoLf s i (charEnd s i)
+  char-no-lf : (i : ℕ) → i < length s → (getD s i 0 ≡ 0x0A → ⊥) → Unbroken s i (charEnd s i)
   char-no-lf i h n k l m e = go (ltb i k) refl
     where
       go : (t : Bool) → ltb i k ≡ t → ⊥
