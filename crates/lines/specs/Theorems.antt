@@ -1,9 +1,9 @@
 -- What is proved of every script, a list of bytes. Proved: proofs/theorems.
-use Prim.Native.Nat.{ℕ, _≤_}
+use Prim.Native.Nat.{ℕ, _+_, _<_}
 use mathlib.Core.Path.{_≡_}
 use mathlib.Core.Logic.{_↔_}
 use mathlib.Core.List.{List}
-use lib.ListN.{length, take}
+use lib.ListN.{length, take, getD}
 use Rattle.words.specs.Words.{blockOf, Told, told}
 use Rattle.chars.specs.paper.Utf8.{WellFormed}
 use Rattle.entry.specs.paper.Host.{Seen, numberSeen, bufferSeen}
@@ -16,6 +16,9 @@ use Rattle.lines.specs.computed.Examples.{LineExamples}
 pub record LineTheorems (script : List ℕ) : Type 0 where
   -- The starts of lines are those that are declared, and there is one list of them.
   pub starts : (l : List ℕ) → (startsOf script ≡ l) ↔ Starts script l
+  -- They are where counting from the first byte begins a line, the first of them line 1, and the script's end is in the last line.
+  pub line-starts : (l : List ℕ) → Starts script l → (k : ℕ) → k < length l → Position script (getD l k 0) (k + 1) 1
+  pub last-line : (l : List ℕ) → Starts script l → (c : ℕ) × Position script (length script) (length l) c
   -- Counting from the first byte of a well-formed script gives every good place one line and one column.
   pub counted : WellFormed script → (a l c : ℕ) → GoodPlace script a → ((lineAt script a ≡ l) × (columnAt script a ≡ c)) ↔ Position script a l c
   -- What building shows is what is declared, and nothing else. Every refusal leaves the index as it was.

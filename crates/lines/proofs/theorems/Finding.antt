@@ -9,7 +9,7 @@ use lib.Dec.{eqb, leb, leb·suc-suc}
 use native.Mathlib.Nat.{zero-add, sub-zero}
 use native.Mathlib.Omega.{arith}
 use borrow.Author.Tests.{leb-true, le-leb, lt-leb}
-use Rattle.lines.specs.computed.Lines.{part, countIn, startsIn, startsOf, lineCount, lfsBefore, columnFrom, columnAt, searchIn, searchOf, columnSince}
+use Rattle.lines.specs.computed.Lines.{part, countIn, startsIn, startsOf, lineCount, lfsBefore, columnFrom, columnAt, searchOf, columnSince}
 use Rattle.lines.proofs.count.Laws.{between-lf, part-front, part-all, count-join}
 use Rattle.lines.proofs.index.Laws.{starts-count}
 use Rattle.lines.proofs.find.Laws.{search-finds}

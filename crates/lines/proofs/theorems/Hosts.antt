@@ -1,5 +1,5 @@
 -- What the host sees of building and of a query is what document 02 declares.
-use Prim.Native.Nat.{ℕ, suc, _≤_, _<_}
+use Prim.Native.Nat.{ℕ, suc, _≤_}
 use mathlib.Core.Path.{_≡_, refl, sym, _∙_, ap}
 use mathlib.Core.Bool.{Bool, true, false}
 use mathlib.Core.Logic.{_↔_}
@@ -11,7 +11,6 @@ use native.Mathlib.Numerals.{add-one}
 use native.Mathlib.Omega.{arith}
 use borrow.Author.Tests.{eqb-true, eqb-false, ltb-true, ltb-false}
 use Rattle.words.specs.Words.{blockOf, Told, told}
-use Rattle.chars.specs.paper.Utf8.{WellFormed}
 use Rattle.chars.specs.computed.Valid.{validPrefix}
 use Rattle.chars.specs.promises.Utf8.{ValidLaws}
 use Rattle.chars.proofs.Bools.{clash}
@@ -21,7 +20,7 @@ use Rattle.entry.specs.paper.Host.{Seen, seen, numberSeen, bufferSeen}
 use Rattle.entry.specs.paper.TokenText.{hasText}
 use Rattle.lines.specs.paper.Lines.{Starts, Position, GoodPlace}
 use Rattle.lines.specs.paper.Host.{Taken, Builds, Answers}
-use Rattle.lines.specs.computed.Lines.{startsOf, lineCount, lfsBefore, lineAt, columnAt, searchOf, columnSince}
+use Rattle.lines.specs.computed.Lines.{startsOf, lineCount, lineAt, columnAt, searchOf, columnSince}
 use Rattle.lines.specs.computed.Host.{checkedOf, indexSeen, positionTold}
 use Rattle.lines.specs.declared.host.Checked.{Checked}
 use Rattle.lines.specs.declared.host.Checked.the-variants as checked

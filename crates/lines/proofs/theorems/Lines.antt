@@ -4,6 +4,7 @@ use mathlib.Core.List.{List}
 use Rattle.lines.specs.Theorems.{LineTheorems}
 use Rattle.lines.proofs.index.Laws.{lines-length}
 use Rattle.lines.proofs.theorems.Starts.{starts-are}
+use Rattle.lines.proofs.theorems.Begins.{line-starts, last-line}
 use Rattle.lines.proofs.theorems.Counting.{counted-is}
 use Rattle.lines.proofs.theorems.Hosts.{builds-are, index-unchanged, index-built-first, answers-are, answers-only, counted-told}
 use Rattle.lines.proofs.theorems.Examples.{line-examples}
@@ -11,6 +12,8 @@ use Rattle.lines.proofs.theorems.Examples.{line-examples}
 pub line-theorems : (script : List ℕ) → LineTheorems script
 line-theorems script = record {
   starts = starts-are script;
+  line-starts = line-starts script;
+  last-line = last-line script;
   counted = counted-is script;
   builds = builds-are script;
   unchanged = index-unchanged script;

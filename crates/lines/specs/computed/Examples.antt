@@ -1,7 +1,7 @@
 -- Scripts with their line starts, and places with line and column.
 use Prim.Native.Nat.{ℕ}
 use mathlib.Core.Path.{_≡_}
-use mathlib.Core.List.{List, [], _∷_, _++_, map}
+use mathlib.Core.List.{List, [], _∷_, map}
 use lib.ListN.{replicate}
 use Rattle.words.specs.Words.{blockOf, told}
 use Rattle.entry.specs.paper.Host.{seen}
