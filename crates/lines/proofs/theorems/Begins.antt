@@ -11,7 +11,7 @@ use Rattle.chars.specs.promises.Texts.{TextLaws}
 use Rattle.chars.proofs.theorems.Promises.{text-laws}
 use Rattle.token.specs.paper.Tests.{isAny}
 use Rattle.token.specs.paper.Shapes.{One}
-use Rattle.lines.specs.paper.Lines.{NoLineEnd, Ends, none, ended, passed, Starts, Counts, Position}
+use Rattle.lines.specs.paper.Lines.{NoLineEnd, Ends, empty, ended, passed, Starts, Counts, Position}
 open TextLaws text-laws using (place-from)
 
 -- where no line end stands, no LF does
@@ -26,7 +26,7 @@ module _ (script : List ℕ) where
   -- from a text in line m on
   begins : {s : Text} {l : List ℕ} (m : ℕ) {c : ℕ} → Ends (length script) s l → Counts script s m c → (k : ℕ) → k < length l
       → Position script (getD l k 0) (m + suc k) 1
-  begins m none count k h = absurd (omega arith)
+  begins m empty count k h = absurd (omega arith)
   begins m (ended {r} e more) count zero h = record { left = r; counts = Counts.line count e; stands = refl }
   begins m (ended e more) count (suc k) h =
       let q : m + 1 + suc k ≡ m + suc (suc k) = omega arith in
@@ -35,7 +35,7 @@ module _ (script : List ℕ) where
 
   -- and at the script's end
   lasts : {s : Text} {l : List ℕ} (m : ℕ) {c : ℕ} → Ends (length script) s l → Counts script s m c → (d : ℕ) × Counts script [] (m + length l) d
-  lasts m {c} none count = let q : m ≡ m + 0 = omega arith in (c, rw q at count)
+  lasts m {c} empty count = let q : m ≡ m + 0 = omega arith in (c, rw q at count)
   lasts m (ended {l} e more) count = let q : m + 1 + length l ≡ m + suc (length l) = omega arith in rw q at (lasts (m + 1) more (Counts.line count e))
   lasts m (passed {c = x} {s} n more) count = lasts m more (Counts.column count (no-lf x s n))
 

@@ -2,7 +2,6 @@
 use mathlib.Core.Path.{_∙_, ap}
 use Prim.Native.Nat.{suc, _-_}
 use native.Mathlib.Numerals.{add-one}
-use native.Mathlib.Omega.{arith}
 use Rattle.lines.specs.computed.Lines.{columnSince}
 use Rattle.lines.proofs.count.Laws.{count-within}
 use Rattle.lines.proofs.find.Laws.{column-none}
@@ -20,9 +19,7 @@ count-in-requires : tie.Need-count-in-requires
 count-in-requires c κs = search needs
 
 sub-result-2 : tie.Need-sub-result-2
-sub-result-2 c =
-    let b = count-within 0x80 0xBF (c .before .before .before .args .script .now) (c .before .before .before .args .start) (c .before .before .before .args .place) ((c .before .before .before .pre)) in
-    omega (arith, c .count-in .ensures)
+sub-result-2 c = rw (c .count-in .ensures) (count-within _ _ _ _ _ (c .before .before .before .pre))
 
 add-result : tie.Need-add-result
 add-result c = search needs

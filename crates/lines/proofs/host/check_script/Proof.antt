@@ -1,5 +1,6 @@
 -- `lines::host::check_script` meets its contract: a law for each return.
 use native.Mathlib.Omega.{arith}
+use Prim.Native.Nat.{_≤_, _-_}
 use lib.ListN.{length}
 use Rattle.lines.proofs.count.Laws.{count-within}
 use Rattle.lines.proofs.host.Laws.{checked-long, checked-invalid, checked-lines}
@@ -22,8 +23,8 @@ count-in-requires c κs = search needs
 add-t6 : tie.Need-add-t6
 add-t6 c =
     let s = c .before .before .before .before .before .args .script .now in
-    let b = count-within 0x0A 0x0A s 0 (length s) (omega arith) in
-    omega (arith, c .before .before .before .if1 .left, c .count-in .ensures)
+    let b : c .count-in .result ≤ length s - 0 = rw (c .count-in .ensures) (count-within _ _ s 0 (length s) (omega arith)) in
+    omega (arith, c .before .before .before .if1 .left)
 
 returns-3 : tie.Need-returns-3
 returns-3 c = checked-lines (c .before .before .before .before .before .args .script .now) (c .before .before .before .if1 .left) _ (c .before .before .valid-prefix .ensures .0 .0) (c .before .if2 .left) _ (c .count-in .ensures)

@@ -29,8 +29,11 @@ same-length c = search needs
 returns-2 : tie.Need-returns-2
 returns-2 c =
     let v = c .before .before .before .before .before .before .before .before .before .before .before .before .args in
-    let q = sym (c .before .before .before .before .before .checked .given .1) ∙ c .before .before .before .before .before .before .before .check-script .ensures in
-    (index-refused (v .script .now) (v .index .now) (v .answer .now) (c .before .before .before .before .before .before .before .before .if1 .left) _ _ _ q (c .before .before .put-block .ensures), line-theorems (v .script .now))
+    let size = c .before .before .before .before .before .before .before .before .if1 .left in
+    let checked = c .before .before .before .before .before .checked .given .1 in
+    let q = sym checked ∙ c .before .before .before .before .before .before .before .check-script .ensures in
+    let block = c .before .before .put-block .ensures in
+    (index-refused (v .script .now) (v .index .now) (v .answer .now) size _ _ _ q block, line-theorems (v .script .now))
 
 enum-known-checked-2 : tie.Need-enum-known-checked-2
 enum-known-checked-2 c = search needs
@@ -44,13 +47,18 @@ same-length-2 c = search needs
 returns-3 : tie.Need-returns-3
 returns-3 c =
     let v = c .before .before .before .before .before .before .before .before .before .before .before .before .before .args in
-    let q = sym (c .before .before .before .before .before .before .checked2 .given .1) ∙ c .before .before .before .before .before .before .before .before .check-script .ensures in
-    (index-short (v .script .now) (v .index .now) (v .answer .now) (c .before .before .before .before .before .before .before .before .before .if1 .left) _ _ q (c .before .before .before .before .if2 .taken) (c .before .before .put-block2 .ensures), line-theorems (v .script .now))
+    let size = c .before .before .before .before .before .before .before .before .before .if1 .left in
+    let checked = c .before .before .before .before .before .before .checked2 .given .1 in
+    let q = sym checked ∙ c .before .before .before .before .before .before .before .before .check-script .ensures in
+    let short = c .before .before .before .before .if2 .taken in
+    let block = c .before .before .put-block2 .ensures in
+    (index-short (v .script .now) (v .index .now) (v .answer .now) size _ _ q short block, line-theorems (v .script .now))
 
 put-starts-requires : tie.Need-put-starts-requires
 put-starts-requires c κs =
     let v = c .before .before .before .before .before .before .before .before .before .before .args in
-    let q = was-lines (v .script .now) _ (sym (c .before .before .before .checked2 .given .1) ∙ c .before .before .before .before .before .check-script .ensures) in
+    let checked = c .before .before .before .checked2 .given .1 in
+    let q = was-lines (v .script .now) _ (sym checked ∙ c .before .before .before .before .before .check-script .ensures) in
     (q .0, rw (← q .1) (c .before .if2 .left))
 
 put-block-requires-3 : tie.Need-put-block-requires-3
@@ -65,8 +73,13 @@ same-length-4 c = search needs
 returns-4 : tie.Need-returns-4
 returns-4 c =
     let v = c .before .before .before .before .before .before .before .before .before .before .before .before .before .before .before .before .before .args in
-    let q = sym (c .before .before .before .before .before .before .before .before .before .before .checked2 .given .1) ∙ c .before .before .before .before .before .before .before .before .before .before .before .before .check-script .ensures in
-    (index-built (v .script .now) (v .index .now) (v .answer .now) (c .before .before .before .before .before .before .before .before .before .before .before .before .before .if1 .left) _ _ q _ (c .before .before .before .before .before .before .before .before .if2 .left) (c .before .before .before .before .before .before .put-starts .ensures) (c .before .before .put-block3 .ensures), line-theorems (v .script .now))
+    let size = c .before .before .before .before .before .before .before .before .before .before .before .before .before .if1 .left in
+    let checked = c .before .before .before .before .before .before .before .before .before .before .checked2 .given .1 in
+    let q = sym checked ∙ c .before .before .before .before .before .before .before .before .before .before .before .before .check-script .ensures in
+    let fits = c .before .before .before .before .before .before .before .before .if2 .left in
+    let built = c .before .before .before .before .before .before .put-starts .ensures in
+    let block = c .before .before .put-block3 .ensures in
+    (index-built (v .script .now) (v .index .now) (v .answer .now) size _ _ q _ fits built block, line-theorems (v .script .now))
 
 pub index-lines-spec : {M : Type 1} → statement M
 index-lines-spec =

@@ -31,8 +31,11 @@ same-length c = search needs
 returns-2 : tie.Need-returns-2
 returns-2 c =
     let v = c .before .before .before .before .before .before .before .before .before .before .before .before .args in
-    let q = sym (c .before .before .before .before .before .checked .given .1) ∙ c .before .before .before .before .before .before .before .check-script .ensures in
-    (position-refused (v .script .now) (v .index .now) (v .place) (v .answer .now) (c .before .before .before .before .before .before .before .before .if1 .left) _ _ _ q (c .before .before .put-block .ensures), line-theorems (v .script .now))
+    let size = c .before .before .before .before .before .before .before .before .if1 .left in
+    let checked = c .before .before .before .before .before .checked .given .1 in
+    let q = sym checked ∙ c .before .before .before .before .before .before .before .check-script .ensures in
+    let block = c .before .before .put-block .ensures in
+    (position-refused (v .script .now) (v .index .now) (v .place) (v .answer .now) size _ _ _ q block, line-theorems (v .script .now))
 
 enum-known-checked-2 : tie.Need-enum-known-checked-2
 enum-known-checked-2 c = search needs
@@ -49,9 +52,12 @@ same-length-2 c = search needs
 returns-3 : tie.Need-returns-3
 returns-3 c =
     let v = c .before .before .before .before .before .before .before .before .before .before .before .before .before .before .args in
-    let q = sym (c .before .before .before .before .before .before .before .checked2 .given .1) ∙ c .before .before .before .before .before .before .before .before .before .check-script .ensures in
-    let t = sym (c .before .before .before .before .before .has-text .ensures) ∙ not-true _ (c .before .before .before .before .if2 .taken) in
-    (position-off (v .script .now) (v .index .now) (v .place) (v .answer .now) (c .before .before .before .before .before .before .before .before .before .before .if1 .left) _ _ q t (c .before .before .put-block2 .ensures), line-theorems (v .script .now))
+    let size = c .before .before .before .before .before .before .before .before .before .before .if1 .left in
+    let checked = c .before .before .before .before .before .before .before .checked2 .given .1 in
+    let q = sym checked ∙ c .before .before .before .before .before .before .before .before .before .check-script .ensures in
+    let off = sym (c .before .before .before .before .before .has-text .ensures) ∙ not-true _ (c .before .before .before .before .if2 .taken) in
+    let block = c .before .before .put-block2 .ensures in
+    (position-off (v .script .now) (v .index .now) (v .place) (v .answer .now) size _ _ q off block, line-theorems (v .script .now))
 
 put-block-requires-3 : tie.Need-put-block-requires-3
 put-block-requires-3 c κs = search needs
@@ -62,14 +68,20 @@ same-length-3 c = search needs
 returns-4 : tie.Need-returns-4
 returns-4 c =
     let v = c .before .before .before .before .before .before .before .before .before .before .before .before .before .before .before .args in
-    let q = sym (c .before .before .before .before .before .before .before .before .checked2 .given .1) ∙ c .before .before .before .before .before .before .before .before .before .before .check-script .ensures in
-    let t = sym (c .before .before .before .before .before .before .has-text .ensures) ∙ not-false _ (c .before .before .before .before .before .if2 .left) in
-    (position-short (v .script .now) (v .index .now) (v .place) (v .answer .now) (c .before .before .before .before .before .before .before .before .before .before .before .if1 .left) _ _ q t (c .before .before .before .before .if3 .taken) (c .before .before .put-block3 .ensures), line-theorems (v .script .now))
+    let size = c .before .before .before .before .before .before .before .before .before .before .before .if1 .left in
+    let checked = c .before .before .before .before .before .before .before .before .checked2 .given .1 in
+    let q = sym checked ∙ c .before .before .before .before .before .before .before .before .before .before .check-script .ensures in
+    let on = sym (c .before .before .before .before .before .before .has-text .ensures) ∙ not-false _ (c .before .before .before .before .before .if2 .left) in
+    let short = c .before .before .before .before .if3 .taken in
+    let block = c .before .before .put-block3 .ensures in
+    (position-short (v .script .now) (v .index .now) (v .place) (v .answer .now) size _ _ q on short block, line-theorems (v .script .now))
 
 find-line-requires : tie.Need-find-line-requires
 find-line-requires c κs =
-    let q = was-lines (c .before .before .before .before .before .before .before .before .before .before .before .args .script .now) _ (sym (c .before .before .before .before .checked2 .given .1) ∙ c .before .before .before .before .before .before .check-script .ensures) in
-    (omega (arith, q .1, some-line (c .before .before .before .before .before .before .before .before .before .before .before .args .script .now)), omega arith)
+    let v = c .before .before .before .before .before .before .before .before .before .before .before .args in
+    let checked = c .before .before .before .before .checked2 .given .1 in
+    let q = was-lines (v .script .now) _ (sym checked ∙ c .before .before .before .before .before .before .check-script .ensures) in
+    (omega (arith, q .1, some-line (v .script .now)), omega arith)
 
 mul-start : tie.Need-mul-start
 mul-start c = search needs
@@ -85,8 +97,9 @@ add-put-block c = search needs
 
 find-column-requires : tie.Need-find-column-requires
 find-column-requires c κs =
-    let t = sym (c .before .before .before .before .before .has-text .ensures) ∙ not-false _ (c .before .before .before .before .if2 .left) in
-    good-place (c .before .before .before .before .before .before .before .before .before .before .before .before .before .before .args .script .now) (c .before .before .before .before .before .before .before .before .before .before .before .before .before .before .args .place) t .within
+    let v = c .before .before .before .before .before .before .before .before .before .before .before .before .before .before .args in
+    let on = sym (c .before .before .before .before .before .has-text .ensures) ∙ not-false _ (c .before .before .before .before .if2 .left) in
+    good-place (v .script .now) (v .place) on .within
 
 put-block-requires-4 : tie.Need-put-block-requires-4
 put-block-requires-4 c κs = search needs
@@ -97,9 +110,15 @@ same-length-4 c = search needs
 returns-5 : tie.Need-returns-5
 returns-5 c =
     let v = c .before .before .before .before .before .before .before .before .before .before .before .before .before .before .before .before .before .before .args in
-    let q = sym (c .before .before .before .before .before .before .before .before .before .before .before .checked2 .given .1) ∙ c .before .before .before .before .before .before .before .before .before .before .before .before .before .check-script .ensures in
-    let t = sym (c .before .before .before .before .before .before .before .before .before .has-text .ensures) ∙ not-false _ (c .before .before .before .before .before .before .before .before .if2 .left) in
-    (position-found (v .script .now) (v .index .now) (v .place) (v .answer .now) (c .before .before .before .before .before .before .before .before .before .before .before .before .before .before .if1 .left) _ _ q t _ _ (c .before .before .before .before .before .before .before .if3 .left) (c .before .before .before .before .before .before .find-line .ensures .0) (c .before .before .before .find-column .ensures) (c .before .before .put-block4 .ensures), line-theorems (v .script .now))
+    let size = c .before .before .before .before .before .before .before .before .before .before .before .before .before .before .if1 .left in
+    let checked = c .before .before .before .before .before .before .before .before .before .before .before .checked2 .given .1 in
+    let q = sym checked ∙ c .before .before .before .before .before .before .before .before .before .before .before .before .before .check-script .ensures in
+    let on = sym (c .before .before .before .before .before .before .before .before .before .has-text .ensures) ∙ not-false _ (c .before .before .before .before .before .before .before .before .if2 .left) in
+    let fits = c .before .before .before .before .before .before .before .if3 .left in
+    let line = c .before .before .before .before .before .before .find-line .ensures .0 in
+    let column = c .before .before .before .find-column .ensures in
+    let block = c .before .before .put-block4 .ensures in
+    (position-found (v .script .now) (v .index .now) (v .place) (v .answer .now) size _ _ q on _ _ fits line column block, line-theorems (v .script .now))
 
 pub line-column-spec : {M : Type 1} → statement M
 line-column-spec =
