@@ -13,10 +13,7 @@ fn one_in(b: u8, low: u8, high: u8) -> u8
     ensures { λ r. ⌜ r ≡ cond (between low high b) 1 0 ⌝ }
     ensures { λ r. ⌜ r ≤ 1 ⌝ }
 {
-    if b < low {
-        return 0;
-    }
-    (b <= high) as u8
+    ((low <= b) & (b <= high)) as u8
 }
 
 // Of at most 255 bytes.

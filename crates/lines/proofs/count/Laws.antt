@@ -3,13 +3,17 @@ use Prim.Native.Nat.{ℕ, zero, suc, _+_, _-_, _≤_, _<_}
 use mathlib.Core.Path.{_≡_, refl, sym, _∙_, ap}
 use mathlib.Core.Bool.{Bool, true, false, cond}
 use mathlib.Core.List.{List, [], _∷_, _++_}
-use lib.ListN.{length, take, drop, getD, length-take, length-drop}
+use lib.ListN.{length, take, drop, getD, length-drop}
 use lib.Seq.{take-suc, take-add, take-length, getD-drop, drop-drop, length-take-le}
-use native.Mathlib.Nat.{sub-zero, zero-add, add-zero}
-use native.Mathlib.Numerals.{add-one}
+use lib.Dec.{eqb}
+use native.Mathlib.Nat.{sub-zero, zero-add}
 use native.Mathlib.Omega.{arith}
+use borrow.Author.Tests.{eqb-true, eqb-false}
 use Rattle.chars.specs.paper.Quoted.{between}
+use Rattle.chars.specs.promises.Codes.{CodeLaws}
+use Rattle.chars.proofs.theorems.Promises.{code-laws}
 use Rattle.lines.specs.computed.Lines.{part, countIn}
+open CodeLaws code-laws using (between-in, between-out)
 
 -- ---- parts
 
@@ -48,6 +52,14 @@ part-length s i j h = let d = length-drop i s in length-take-le (j - i) (drop i 
 
 -- ---- counting
 
+-- the range that has LF alone
+pub between-lf : (b : ℕ) → between 0x0A 0x0A b ≡ eqb b 0x0A
+between-lf b = go (eqb b 0x0A) refl
+  where
+    go : (t : Bool) → eqb b 0x0A ≡ t → between 0x0A 0x0A b ≡ t
+    go true e = let z = eqb-true b 0x0A e in between-in 0x0A 0x0A b (omega arith) (omega arith)
+    go false e = between-out 0x0A 0x0A b (λ l. let z = eqb-false b 0x0A e in omega arith)
+
 module _ (low high : ℕ) where
   pub count-append : (x y : List ℕ) → countIn low high (x ++ y) ≡ countIn low high x + countIn low high y
   unfolding countIn
@@ -80,8 +92,8 @@ module _ (low high : ℕ) where
   -- one byte more, and a part more
   pub count-more : (s : List ℕ) (i j n : ℕ) {t : ℕ} → i ≤ j → j < length s → n ≡ countIn low high (part s i j) → t ≡ cond (between low high (getD s j 0)) 1 0
       → n + t ≡ countIn low high (part s i (j + 1))
-  count-more s i j n h k e f =
-      ap (λ m. m + _) e ∙ ap (λ m. countIn low high (part s i j) + m) (f ∙ sym (count-one (getD s j 0)))
+  count-more s i j n {t} h k e f =
+      ap (λ m. m + t) e ∙ ap (λ m. countIn low high (part s i j) + m) (f ∙ sym (count-one (getD s j 0)))
       ∙ sym (count-append (part s i j) (getD s j 0 ∷ []))
       ∙ ap (countIn low high) (sym (part-more s i j h k))
 

@@ -1,57 +1,85 @@
+-- `lines::find::find_line` meets its contract: the loop keeps what the search finds.
+use Prim.Native.Nat.{_≤_, _+_, _/_}
+use mathlib.Core.Path.{_≡_, refl, sym, _∙_, ap}
+use lib.ListN.{length}
+use native.Mathlib.Omega.{arith}
+use borrow.Author.Needs.{scaled-fits}
+use Rattle.lines.specs.computed.Lines.{searchIn, searchOf}
+use Rattle.lines.proofs.find.Laws.{half, search-one, search-right, search-left}
 use Rattle.lines.proofs.find.find_line.Statement.{statement}
 use Rattle.lines.proofs.find.find_line.Tie as tie
 use Rattle.lines.proofs.find.find_line.Reads as reads
 use Rattle.lines.proofs.find.find_line.Lts as lts
 
 abbrev Inv-loop : tie.InvT-loop
-Inv-loop index lines place low₀ size₀ low size = ?
+Inv-loop index lines place low₀ size₀ low size =
+    (1 ≤ size) × (low + size ≤ lines) × (searchIn size index place low size ≡ searchIn lines index place 0 lines)
 
 abbrev μ-loop : tie.MeasureT-loop
-μ-loop index lines place low₀ size₀ low size = ?
+μ-loop index lines place low₀ size₀ low size = size
 
--- src/find.rt:17:5
 loop-holds : tie.Need-loop-holds Inv-loop μ-loop
-loop-holds c = ?
+loop-holds c = (omega arith, omega arith, refl)
 
--- src/find.rt:19:22
 add-middle : tie.Need-add-middle Inv-loop μ-loop
-add-middle c = ?
+add-middle c =
+    let l = c .before .loop in
+    let h = half (l .size) (omega arith) in
+    omega arith
 
--- src/find.rt:20:12
 mul-if1 : tie.Need-mul-if1 Inv-loop μ-loop
-mul-if1 c = ?
+mul-if1 c =
+    let l = c .before .loop in
+    let v = c .before .before in
+    let h = half (l .size) (omega arith) in
+    scaled-fits (l .low + l .size / 2) (length (v .args .index .now)) 4 (omega arith) (v .good .0 .1)
 
--- src/find.rt:20:12
 shared-slice-read-if1 : tie.Need-shared-slice-read-if1 Inv-loop μ-loop
-shared-slice-read-if1 c = ?
+shared-slice-read-if1 c =
+    let l = c .before .before .loop in
+    let h = half (l .size) (omega arith) in
+    omega arith
 
--- src/find.rt:20:12
 cast-if1 : tie.Need-cast-if1 Inv-loop μ-loop
-cast-if1 c = ?
+cast-if1 c =
+    let l = c .before .before .loop in
+    omega (arith, c .shared-slice-known .given (l .low + l .size / 2))
 
--- src/find.rt:22:13
 sub-size : tie.Need-sub-size Inv-loop μ-loop
-sub-size c = ?
+sub-size c =
+    let h = half (c .before .before .before .loop .size) (omega arith) in
+    omega arith
 
--- src/find.rt:17:5
 loop-less : tie.Need-loop-less Inv-loop μ-loop
-loop-less c = ?
+loop-less c =
+    let h = half (c .before .before .before .loop .size) (omega arith) in
+    omega arith
 
--- src/find.rt:17:5
 loop-again : tie.Need-loop-again Inv-loop μ-loop
-loop-again c = ?
+loop-again c =
+    let l = c .before .before .before .loop in
+    let v = c .before .before .before .before .args in
+    let h = half (l .size) (omega arith) in
+    (omega arith, omega arith, search-right (v .index .now) (v .place) (l .low) (l .size) (omega arith) (c .if1 .taken) ∙ l .inv .2)
 
--- src/find.rt:17:5
 loop-less-2 : tie.Need-loop-less-2 Inv-loop μ-loop
-loop-less-2 c = ?
+loop-less-2 c =
+    let h = half (c .before .before .before .loop .size) (omega arith) in
+    omega arith
 
--- src/find.rt:17:5
 loop-again-2 : tie.Need-loop-again-2 Inv-loop μ-loop
-loop-again-2 c = ?
+loop-again-2 c =
+    let l = c .before .before .before .loop in
+    let v = c .before .before .before .before .args in
+    let h = half (l .size) (omega arith) in
+    (omega arith, omega arith, search-left (v .index .now) (v .place) (l .low) (l .size) (omega arith) (omega (arith, c .if1 .left)) ∙ l .inv .2)
 
--- src/find.rt:10:1
 returns : tie.Need-returns Inv-loop μ-loop
-returns c = ?
+unfolding searchOf
+returns c =
+    let l = c .before .loop in
+    let v = c .before .before .args in
+    (sym (search-one (v .index .now) (v .place) (l .size) (l .low) (l .size) (omega arith)) ∙ l .inv .2, omega arith)
 
 pub find-line-spec : {M : Type 1} → statement M
 find-line-spec =
