@@ -1,4 +1,6 @@
-// Times ergo_tokenize and the published tokenize on the same inputs, in one process, by turns. bench/speed builds and runs it.
+// Times ergo_tokenize and the published tokenize on the same inputs, in one process, by turns; then lines and columns (bench/lines.rs).
+// bench/speed builds and runs it.
+mod lines;
 mod records;
 
 use records::{bound, HEAD, INT_LIT};
@@ -165,4 +167,6 @@ fn main() {
             large.published / small.published
         );
     }
+    println!();
+    lines::show(rounds);
 }

@@ -1,10 +1,12 @@
-/* ErgoScript tokens as records: the four functions of crates/ergo, for C and C++. `rt staticlib ergo` makes the library,
- * target/staticlib/libergo.a, for x86-64 Linux. Tokenizing takes some 12 kB of stack, reading stored records less than 200 bytes. The library
- * allocates nothing, and calls nothing but memcpy and memset, which the compiler puts in; a host without a C library must have these two. It
- * keeps nothing between calls: calls from several threads at once are fine as long as no two of them lend the same bytes for writing.
+/* ErgoScript tokens as records: the six functions of crates/ergo, for C and C++. `rt staticlib ergo` makes the library,
+ * target/staticlib/libergo.a, for x86-64 Linux. Tokenizing takes some 12 kB of stack, reading stored records less than 200 bytes, lines and columns
+ * some 200. The library allocates nothing, and calls nothing but memcpy and memset, which the compiler puts in; a host without a C library must
+ * have these two. It keeps nothing between calls: calls from several threads at once are fine as long as no two of them lend the same bytes for
+ * writing.
  *
  * All places are byte offsets from 0: those of tokens and of refusals 1 to 18 into the script, those of refusals 22 to 24 into the roll. All
- * numbers in records and answer blocks are unsigned and little-endian. */
+ * numbers in records and answer blocks are unsigned and little-endian. Those of an index of line starts are uint32_t, in the machine's own byte
+ * order. */
 #ifndef ERGO_TOKEN_H
 #define ERGO_TOKEN_H
 
@@ -81,6 +83,52 @@ uint32_t ergo_read_roll(const uint8_t *roll, size_t n, uint8_t *answer, size_t k
  * lengths, and must not overlap. An empty roll may have any pointer, NULL included. */
 uint32_t ergo_read_record(const uint8_t *roll, size_t n, uint32_t at, uint32_t previous, uint8_t *answer, size_t k);
 
+/* Builds the index of line starts of the n bytes at script: the place where each line starts, in order, the first of them 0. LF and CR LF end a
+ * line everywhere, also inside strings, comments and backticks; a CR alone ends none. So a script has one line more than it has line ends, and at
+ * least one. Of the script only length and UTF-8 are judged: it need not be one that ergo_tokenize accepts.
+ *
+ * Where the answer is 0, the starts are the first of the m numbers at index, and the numbers past them keep their values. On every refusal all m
+ * numbers keep their values. The k bytes at answer are the answer block; k must be ERGO_ANSWER_BYTES. It gets four numbers of 4 bytes each:
+ *
+ *     at ERGO_ANSWER_AT_NUMBER  the number that is handed back: 0, 17, 18 or 26
+ *     at ERGO_ANSWER_AT_PLACE   the place of the refusal, for 18
+ *     at ERGO_ANSWER_AT_LINES   the number of lines, for 0 and 26
+ *     at 12                     0
+ *
+ * and 0 where nothing is to be said. With any other k the answer is 20 and the block keeps its values. The order is 20, 17, 18, 26.
+ *
+ * The index: ERGO_INDEX_BOUND(n) numbers are enough for every script of n bytes. To learn the exact need, call with m = 0: a script that is
+ * neither too long nor bad UTF-8 is answered 26, with the number of lines in the block. A second call with that many numbers is then answered 0.
+ *
+ * m counts numbers, not bytes. The m numbers must be readable and writable, and aligned as uint32_t is; m = 0 may come with any pointer, NULL
+ * included. Of the other pointers the same is asked as by ergo_tokenize, and none of the three parts of memory may overlap. */
+uint32_t ergo_index_lines(const uint8_t *script, size_t n, uint32_t *index, size_t m, uint8_t *answer, size_t k);
+
+/* The line and the column of a place in the script, both counted from 1, the column in characters, by the index that ergo_index_lines built from
+ * the same n bytes: what counting from the script's first byte gives. Both bytes of CR LF belong to the line that they end: the LF stands one
+ * column behind the CR. The script's length is a good place, and so is one between CR and LF.
+ *
+ * A query reads the whole script: it checks length and UTF-8 and counts the lines, as building does. What the index saves is the search for the
+ * line only. Whoever asks for many places of one script takes the lines from the index and counts columns on from place to place.
+ *
+ * The k bytes at answer are the answer block; k must be ERGO_ANSWER_BYTES. It gets four numbers of 4 bytes each:
+ *
+ *     at ERGO_ANSWER_AT_NUMBER  the number that is handed back: 0, 17, 18, 25 or 26
+ *     at ERGO_ANSWER_AT_PLACE   the place of the refusal, for 18
+ *     at ERGO_ANSWER_AT_LINE    the line, for 0
+ *     at ERGO_ANSWER_AT_COLUMN  the column, for 0
+ *
+ * and 0 where nothing is to be said: on a refusal everything behind the place, the number of lines at 26 too. With any other k the answer is 20
+ * and the block keeps its values. The order is 20, 17, 18, 25, 26.
+ *
+ * Only the first numbers of the index are looked at, as many as the script has lines; the others may be anything. Over other numbers than the
+ * script's own starts a query still ends, with some line from 1 to the number of lines and some column of at least 1: nothing tells the host
+ * that they are others. So build the index again whenever the script changes.
+ *
+ * The m numbers must be readable, and aligned as uint32_t is; m = 0 may come with any pointer, NULL included. Of the other pointers the same is
+ * asked as by ergo_tokenize, and the block may overlap neither script nor index. */
+uint32_t ergo_line_column(const uint8_t *script, size_t n, const uint32_t *index, size_t m, uint32_t place, uint8_t *answer, size_t k);
+
 #define ERGO_SCRIPT_LIMIT 16777216u /* bytes: a longer script is refused by 17 */
 
 /* The lengths of answer blocks. */
@@ -92,8 +140,11 @@ uint32_t ergo_read_record(const uint8_t *roll, size_t n, uint32_t at, uint32_t p
 #define ERGO_ANSWER_AT_PLACE 4u
 
 /* In a block of ERGO_ANSWER_BYTES: */
-#define ERGO_ANSWER_AT_COUNT 8u
+#define ERGO_ANSWER_AT_COUNT 8u /* of ergo_tokenize and ergo_read_roll */
 #define ERGO_ANSWER_AT_RECORD_BYTES 12u
+#define ERGO_ANSWER_AT_LINES 8u /* of ergo_index_lines */
+#define ERGO_ANSWER_AT_LINE 8u  /* of ergo_line_column */
+#define ERGO_ANSWER_AT_COLUMN 12u
 
 /* In a block of ERGO_STEP_BYTES: */
 #define ERGO_STEP_AT_KIND 8u
@@ -132,6 +183,9 @@ uint32_t ergo_read_record(const uint8_t *roll, size_t n, uint32_t at, uint32_t p
 #define ERGO_RECORD_PER_BYTE ERGO_INT_LIT_LENGTH
 #define ERGO_RECORD_BOUND(n) (ERGO_RECORD_PER_BYTE * (size_t)(n) + ERGO_RECORD_HEAD)
 
+/* Numbers enough for the line starts of every script of n bytes: each byte could be an LF. */
+#define ERGO_INDEX_BOUND(n) ((size_t)(n) + 1)
+
 enum ergo_kind {
     ERGO_IDENT = 1,
     ERGO_OP_ID = 2,       /* a run of operator signs that is no keyword */
@@ -169,7 +223,8 @@ enum ergo_kind {
 };
 
 /* The numbers handed back, each with the place that the block gives and what to do: for 1 to 16 the script's author, for 17 to 21 the host's,
- * for 22 to 24, which only ergo_read_roll and ergo_read_record give, whoever keeps the stored roll. */
+ * for 22 to 24, which only ergo_read_roll and ergo_read_record give, whoever keeps the stored roll, and for 25 and 26, which only
+ * ergo_index_lines and ergo_line_column give, the host's author again. */
 enum ergo_number {
     ERGO_ACCEPTED = 0,
     ERGO_LONE_CR = 1,            /* the CR: end lines by LF or CR LF; a CR alone may stand only in strings, comments and backticks */
@@ -198,9 +253,13 @@ enum ergo_number {
                                   * it again */
     ERGO_UNKNOWN_RECORD = 23,    /* the record: no such kind, or a length that is not the kind's. This is no roll, or one of another version: tokenize
                                   * the script again */
-    ERGO_DAMAGED_ROLL = 24       /* the record: a field is out of its range, or it starts before the one before it ends; or the first byte after Eof; or
+    ERGO_DAMAGED_ROLL = 24,      /* the record: a field is out of its range, or it starts before the one before it ends; or the first byte after Eof; or
                                   * the roll's length, where no Eof came. The roll was damaged, cut short between two records, or joined with
                                   * another: fetch it again and hand it over alone, or tokenize the script again */
+    ERGO_PLACE = 25,             /* 0, of ergo_line_column only: the place asked for is past the script's end or inside a character, on a byte 0x80
+                                  * to 0xBF; ask for the place of a token or of a refusal of this script, or its length */
+    ERGO_SHORT_INDEX = 26        /* 0: fewer numbers were lent than the script has lines; lend as many as ergo_index_lines says at
+                                  * ERGO_ANSWER_AT_LINES */
 };
 
 #ifdef __cplusplus

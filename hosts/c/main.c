@@ -1,6 +1,6 @@
 /* Prints the tokens of a script, one per line: kind, start, end, cut and values; or `refused N at P`. With --records it writes the script's
- * records to standard output instead: a roll. With --roll the file is such a roll, and its tokens are printed without the script. hosts/build
- * builds it. */
+ * records to standard output instead: a roll. With --roll the file is such a roll, and its tokens are printed without the script. With --place
+ * it prints the line and the column of a place in the script. hosts/build builds it. */
 #include "ergo_token.h"
 
 #include <inttypes.h>
@@ -157,8 +157,55 @@ static int show_roll(const char *path)
     return 0;
 }
 
+/* Prints the line and the column of a place in a script. */
+static int show_place(const char *path, uint32_t place)
+{
+    uint8_t answer[ERGO_ANSWER_BYTES];
+    uint8_t *script;
+    uint32_t *index;
+    size_t n, lines;
+    uint32_t refusal;
+
+    script = read_file(path, ERGO_SCRIPT_LIMIT + 1, &n);
+
+    /* Learn the number of lines first, with no numbers lent, then build an index of exactly that many. */
+    refusal = ergo_index_lines(script, n, NULL, 0, answer, sizeof answer);
+    if (refusal != ERGO_SHORT_INDEX) {
+        free(script);
+        return refused(stdout, answer);
+    }
+    lines = (size_t)number(answer + ERGO_ANSWER_AT_LINES, 4);
+    index = malloc(lines * sizeof *index);
+    if (index == NULL)
+        fail("index");
+    refusal = ergo_index_lines(script, n, index, lines, answer, sizeof answer);
+    if (refusal != ERGO_ACCEPTED) {
+        fprintf(stderr, "refused %" PRIu32 " after the lines were counted\n", refusal);
+        return 2;
+    }
+    refusal = ergo_line_column(script, n, index, lines, place, answer, sizeof answer);
+    free(index);
+    free(script);
+    if (refusal != ERGO_ACCEPTED)
+        return refused(stdout, answer);
+    printf("line %" PRIu64 " column %" PRIu64 "\n", number(answer + ERGO_ANSWER_AT_LINE, 4), number(answer + ERGO_ANSWER_AT_COLUMN, 4));
+    return 0;
+}
+
+/* Reads a place, decimal digits and a number of 4 bytes: whether it is one. */
+static int read_place(const char *text, uint32_t *place)
+{
+    uint64_t value = 0;
+    const char *at;
+    for (at = text; *at >= '0' && *at <= '9' && value <= UINT32_MAX; at++)
+        value = 10 * value + (uint64_t)(*at - '0');
+    *place = (uint32_t)value;
+    return at != text && *at == '\0' && value <= UINT32_MAX;
+}
+
 int main(int argc, char **argv)
 {
+    uint32_t place;
     int status;
     if (argc == 2) {
         status = show_script(argv[1], 0);
@@ -166,8 +213,10 @@ int main(int argc, char **argv)
         status = show_script(argv[2], 1);
     } else if (argc == 3 && strcmp(argv[1], "--roll") == 0) {
         status = show_roll(argv[2]);
+    } else if (argc == 4 && strcmp(argv[1], "--place") == 0 && read_place(argv[2], &place)) {
+        status = show_place(argv[3], place);
     } else {
-        fprintf(stderr, "usage: %s [--records | --roll] FILE\n", argv[0]);
+        fprintf(stderr, "usage: %s [--records | --roll | --place PLACE] FILE\n", argv[0]);
         return 2;
     }
     if (fflush(stdout) != 0 || ferror(stdout)) /* what is left in a buffer could still fail */

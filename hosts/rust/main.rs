@@ -1,6 +1,7 @@
 // Prints the tokens of a script, one per line: kind, start, end, cut and values; or `refused N at P`. With --records it writes the script's
-// records to standard output instead: a roll. With --roll the file is such a roll, and its tokens are printed without the script. hosts/build
-// builds it.
+// records to standard output instead: a roll. With --roll the file is such a roll, and its tokens are printed without the script. With --place
+// it prints the line and the column of a place in the script. hosts/build builds it.
+use std::ffi::OsStr;
 use std::io::Write;
 use std::path::Path;
 
@@ -11,6 +12,8 @@ mod ergo {
         fn ergo_token_text(script: *const u8, n: usize, start: u32, end: u32) -> u32;
         fn ergo_read_roll(roll: *const u8, n: usize, answer: *mut u8, k: usize) -> u32;
         fn ergo_read_record(roll: *const u8, n: usize, at: u32, previous: u32, answer: *mut u8, k: usize) -> u32;
+        fn ergo_index_lines(script: *const u8, n: usize, index: *mut u32, m: usize, answer: *mut u8, k: usize) -> u32;
+        fn ergo_line_column(script: *const u8, n: usize, index: *const u32, m: usize, place: u32, answer: *mut u8, k: usize) -> u32;
     }
 
     // A refusal, by its number and its place.
@@ -89,6 +92,37 @@ mod ergo {
             number => Err(Refused { number, place: word(&answer, 4) }),
         }
     }
+
+    // The number handed back, and the place and the number of lines of the answer block.
+    fn build(script: &[u8], index: &mut [u32]) -> (u32, u32, u32) {
+        let mut answer = [0u8; 16];
+        let (i, a) = (index.as_mut_ptr(), answer.as_mut_ptr());
+        let number = unsafe { ergo_index_lines(script.as_ptr(), script.len(), i, index.len(), a, answer.len()) };
+        (number, word(&answer, 4), word(&answer, 8))
+    }
+
+    // The places where the lines of a script start: their number first, with no numbers lent, then an index of exactly that many.
+    pub fn index(script: &[u8]) -> Result<Vec<u32>, Refused> {
+        let (number, place, lines) = build(script, &mut []);
+        if number != 26 {
+            return Err(Refused { number, place });
+        }
+        let mut index = vec![0; lines as usize];
+        match build(script, &mut index) {
+            (0, _, _) => Ok(index),
+            (number, _, _) => super::fail(&format!("refused {number} after the lines were counted")),
+        }
+    }
+
+    // The line and the column of a place, by the index of the same script.
+    pub fn line_column(script: &[u8], index: &[u32], place: u32) -> Result<(u32, u32), Refused> {
+        let mut answer = [0u8; 16];
+        let (i, a) = (index.as_ptr(), answer.as_mut_ptr());
+        match unsafe { ergo_line_column(script.as_ptr(), script.len(), i, index.len(), place, a, answer.len()) } {
+            0 => Ok((word(&answer, 8), word(&answer, 12))),
+            number => Err(Refused { number, place: word(&answer, 4) }),
+        }
+    }
 }
 
 // The bytes of a record before its values.
@@ -147,6 +181,25 @@ fn show_roll(roll: &[u8]) -> Result<Vec<u8>, ergo::Refused> {
     Ok(lines.into_bytes())
 }
 
+fn show_place(script: &[u8], place: u32) -> Result<Vec<u8>, ergo::Refused> {
+    let index = ergo::index(script)?;
+    let (line, column) = ergo::line_column(script, &index, place)?;
+    Ok(format!("line {line} column {column}\n").into_bytes())
+}
+
+// A place: decimal digits, and a number of 4 bytes.
+fn read_place(text: &OsStr) -> Option<u32> {
+    text.to_str().filter(|text| text.bytes().all(|byte| byte.is_ascii_digit()))?.parse().ok()
+}
+
+// What to do with the file.
+enum Task {
+    Tokens,
+    Records,
+    Roll,
+    Place(u32),
+}
+
 // Writes all of it: what is left in a buffer could still fail.
 fn write(bytes: &[u8]) {
     let mut out = std::io::stdout();
@@ -157,23 +210,26 @@ fn write(bytes: &[u8]) {
 
 fn main() {
     let arguments: Vec<_> = std::env::args_os().skip(1).collect();
-    let (option, path) = match &arguments[..] {
-        [path] => ("", path),
-        [option, path] if option == "--records" => ("--records", path),
-        [option, path] if option == "--roll" => ("--roll", path),
-        _ => fail("usage: rust [--records | --roll] FILE"),
+    let task = match &arguments[..] {
+        [path] => Some((Task::Tokens, path)),
+        [option, path] if option == "--records" => Some((Task::Records, path)),
+        [option, path] if option == "--roll" => Some((Task::Roll, path)),
+        [option, place, path] if option == "--place" => read_place(place).map(|place| (Task::Place(place), path)),
+        _ => None,
     };
+    let Some((task, path)) = task else { fail("usage: rust [--records | --roll | --place PLACE] FILE") };
     let file = std::fs::read(path).unwrap_or_else(|error| fail(&format!("{}: {error}", Path::new(path).display())));
-    let answer = match option {
-        "--roll" => show_roll(&file),
-        "--records" => ergo::tokenize(&file),
-        _ => ergo::tokenize(&file).map(|records| show_script(&file, &records)),
+    let answer = match task {
+        Task::Tokens => ergo::tokenize(&file).map(|records| show_script(&file, &records)),
+        Task::Records => ergo::tokenize(&file),
+        Task::Roll => show_roll(&file),
+        Task::Place(place) => show_place(&file, place),
     };
     match answer {
         Ok(bytes) => write(&bytes),
         Err(refused) => {
             let line = format!("refused {} at {}\n", refused.number, refused.place);
-            if option == "--records" {
+            if matches!(task, Task::Records) {
                 eprint!("{line}"); // standard output is the roll, if there is one
             } else {
                 write(line.as_bytes());

@@ -12,18 +12,23 @@
 //! let roll = ergo_token::Roll::read(tokens.records()).expect("a refusal");
 //! let kinds: Vec<u16> = roll.iter().map(|record| record.kind.number()).collect();
 //! assert_eq!(kinds, [1, 43, 4, 18]);
+//!
+//! // A place has a line and a column.
+//! let at = ergo_token::position(b"x\n= 7", 4).expect("a refusal");
+//! assert_eq!((at.line, at.column), (2, 3));
 //! ```
 //!
 //! No function here panics, whatever the bytes. Memory aside (the records of a script of n bytes take at most [`record_bound`]`(n)` bytes),
 //! nothing is kept between calls. The library is proved; this wrapper is not.
 
-use std::fmt;
 use std::iter::FusedIterator;
 
+mod lines;
 mod refusal;
 mod roll;
 mod view;
 
+pub use lines::{position, Lines, Position, Positions};
 pub use refusal::Refusal;
 pub use roll::Roll;
 pub use view::view;
@@ -60,6 +65,8 @@ mod sys {
         pub fn ergo_tokenize(script: *const u8, n: usize, records: *mut u8, m: usize, answer: *mut u8, k: usize) -> u32;
         pub fn ergo_token_text(script: *const u8, n: usize, start: u32, end: u32) -> u32;
         pub fn ergo_read_roll(roll: *const u8, n: usize, answer: *mut u8, k: usize) -> u32;
+        pub fn ergo_index_lines(script: *const u8, n: usize, index: *mut u32, m: usize, answer: *mut u8, k: usize) -> u32;
+        pub fn ergo_line_column(script: *const u8, n: usize, index: *const u32, m: usize, place: u32, answer: *mut u8, k: usize) -> u32;
     }
 }
 
@@ -72,11 +79,14 @@ pub struct Size {
     pub bytes: u32,
 }
 
+// A number of an answer block.
+fn word(answer: &[u8; 16], at: usize) -> u32 {
+    bytes(answer, at).map_or(0, u32::from_le_bytes)
+}
+
 // The place and the size that an answer block has behind the number.
 fn answered(answer: [u8; 16]) -> (u32, Size) {
-    let [_, _, _, _, p0, p1, p2, p3, c0, c1, c2, c3, b0, b1, b2, b3] = answer;
-    let size = Size { count: u32::from_le_bytes([c0, c1, c2, c3]), bytes: u32::from_le_bytes([b0, b1, b2, b3]) };
-    (u32::from_le_bytes([p0, p1, p2, p3]), size)
+    (word(&answer, 4), Size { count: word(&answer, 8), bytes: word(&answer, 12) })
 }
 
 // One call: the number handed back, the place, and the size.
@@ -239,7 +249,7 @@ impl Iterator for Records<'_> {
 // Where `next` gives nothing, `rest` stays as it was, whatever the bytes: so it gives nothing again.
 impl FusedIterator for Records<'_> {}
 
-// N bytes of a record.
+// N bytes of a record or an answer block.
 fn bytes<const N: usize>(record: &[u8], at: usize) -> Option<[u8; N]> {
     record.get(at..at.checked_add(N)?)?.try_into().ok()
 }
@@ -407,58 +417,5 @@ impl TokenKind {
             TokenKind::Eof => 18,
             TokenKind::Kw(kw) => 32 + kw as u16,
         }
-    }
-}
-
-/// A line and a column, both from 1; the column counts characters.
-#[derive(Debug, Clone, Copy, PartialEq, Eq)]
-pub struct Position {
-    pub line: usize,
-    pub column: usize,
-}
-
-impl fmt::Display for Position {
-    fn fmt(&self, f: &mut fmt::Formatter<'_>) -> fmt::Result {
-        write!(f, "line {}, column {}", self.line, self.column)
-    }
-}
-
-/// The position of a place in a script. LF and CR LF end a line, and both bytes of CR LF have the same position. To ask for many ascending
-/// places, [`Positions`] is quicker.
-pub fn position(script: &[u8], place: usize) -> Position {
-    Positions::new(script).at(place)
-}
-
-/// Positions of ascending places: each byte of the script is walked once.
-#[derive(Debug, Clone)]
-pub struct Positions<'s> {
-    script: &'s [u8],
-    at: usize,
-    line: usize,
-    column: usize,
-}
-
-impl<'s> Positions<'s> {
-    pub fn new(script: &'s [u8]) -> Positions<'s> {
-        Positions { script, at: 0, line: 1, column: 1 }
-    }
-
-    /// The position of a place. A place before an earlier one is found from the start again; one past the script is taken for its end.
-    pub fn at(&mut self, place: usize) -> Position {
-        if place < self.at {
-            *self = Positions::new(self.script);
-        }
-        let place = place.min(self.script.len());
-        for &byte in self.script.get(self.at..place).unwrap_or_default() {
-            if byte == b'\n' {
-                self.line += 1;
-                self.column = 1;
-            } else if byte & 0xC0 != 0x80 {
-                self.column += 1;
-            }
-        }
-        self.at = place;
-        let inside = place > 0 && self.script.get(place - 1..=place) == Some(b"\r\n");
-        Position { line: self.line, column: self.column - usize::from(inside) }
     }
 }

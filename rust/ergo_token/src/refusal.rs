@@ -1,12 +1,13 @@
 use std::error::Error;
 use std::fmt;
 
-/// Why a script or a stored roll is refused, and where.
+/// Why a script, a stored roll or a place is refused, and where.
 #[derive(Debug, Clone, Copy, PartialEq, Eq, Hash)]
 pub struct Refusal {
     /// 1 to 16: the script is no sequence of tokens. 17: it is too long. 18: it is not UTF-8. 19, of [`write`](crate::write) only: too few bytes
     /// were lent. 21: of [`token_text`](crate::token_text) only. 22 to 24, of [`Roll::read`](crate::Roll::read) only: the stored roll can't be
-    /// read. (20, a wrong answer block, does not occur here.)
+    /// read. 25, where a position is asked for: the place is past the script's end or inside a character. (20, a wrong answer block, and 26, too
+    /// few numbers for the index of lines, do not occur here.)
     pub number: u32,
     /// A byte offset from 0 into the script, or for 22 to 24 into the roll, modulo 2^32; 0 where the header names none.
     pub place: u32,
@@ -18,7 +19,7 @@ impl Refusal {
         self.words().0
     }
 
-    /// What the author of the script should do; for 19 to 21, the author of the host; for 22 to 24, whoever keeps the stored roll.
+    /// What the author of the script should do; for 19 to 21, 25 and 26, the author of the host; for 22 to 24, whoever keeps the stored roll.
     pub fn advice(&self) -> &'static str {
         self.words().1
     }
@@ -64,6 +65,11 @@ impl Refusal {
                 "the roll was damaged, cut short between two records, or joined with another: fetch it again and hand it over alone, or tokenize the \
                  script again",
             ),
+            25 => (
+                "the place asked for is past the script's end, or inside a character",
+                "ask for the place of a token or of a refusal of this script, or for its length",
+            ),
+            26 => ("the script has more lines than numbers were lent for their starts", "lend as many numbers as there are lines"),
             _ => ("the library's header knows no such refusal", "link the libergo.a that this wrapper was written for"),
         }
     }

@@ -1,4 +1,4 @@
-use crate::{position, tokenize, Positions, Refusal, Token, TokenKind, Tokens};
+use crate::{position, tokenize, Lines, Refusal, Token, TokenKind, Tokens};
 use std::io::{self, Write};
 
 // At most so many characters of a token's text, and so many of a line on each side of the caret.
@@ -91,13 +91,13 @@ fn text(token: &Token) -> String {
     }
 }
 
-fn accepted(out: &mut impl Write, tokens: &Tokens) -> io::Result<()> {
-    let mut positions = Positions::new(tokens.script());
+fn accepted(out: &mut impl Write, tokens: &Tokens, lines: &Lines) -> io::Result<()> {
+    let mut positions = lines.positions();
     let mut cuts = 0;
     // The first line end since the last token that is none.
     let mut line_end = None;
     for token in tokens {
-        let at = positions.at(token.start as usize);
+        let at = positions.at(token.start).map_err(io::Error::other)?;
         let place = format!("{}:{}", at.line, at.column);
         let mark = match (token.cut, &line_end) {
             (true, Some(hard)) => format!("  <- cut: the line end at {hard} is hard"),
@@ -120,21 +120,22 @@ fn accepted(out: &mut impl Write, tokens: &Tokens) -> io::Result<()> {
 }
 
 fn refused(out: &mut impl Write, script: &[u8], refusal: Refusal) -> io::Result<()> {
-    let place = (refusal.place as usize).min(script.len());
-    let at = position(script, place);
+    let (head, tail) = script.split_at((refusal.place as usize).min(script.len()));
+    // Line and column of the place are those of the end of what stands before it, which is UTF-8 and short enough even where the script is not.
+    let at = position(head, head.len() as u32).map_err(io::Error::other)?;
     writeln!(out, "refused {} at {}: {at}", refusal.number, refusal.place)?;
     writeln!(out, "met: {}", refusal.meaning())?;
     writeln!(out, "do:  {}", refusal.advice())?;
 
     // The line, without its end, before the place and from it on.
-    let (head, tail) = script.split_at(place);
     let head = &head[head.iter().rposition(|&byte| byte == b'\n').map_or(0, |lf| lf + 1)..];
     let ended = tail.iter().position(|&byte| byte == b'\n');
     let tail = &tail[..ended.unwrap_or(tail.len())];
-    let (head, tail) = match (ended, tail, head) {
-        (Some(0), [], [head @ .., b'\r']) => (head, tail),
-        (Some(_), [tail @ .., b'\r'], _) => (head, tail),
-        _ => (head, tail),
+    let (head, tail, cr) = match (ended, tail, head) {
+        // The place is the LF of CR LF: the CR is not shown, and has a column.
+        (Some(0), [], [head @ .., b'\r']) => (head, tail, " "),
+        (Some(_), [tail @ .., b'\r'], _) => (head, tail, ""),
+        _ => (head, tail, ""),
     };
     let (before, more_before) = match pieces(last(head)) {
         all if all.len() > SHOWN => (all[all.len() - SHOWN..].concat(), "... "),
@@ -147,16 +148,16 @@ fn refused(out: &mut impl Write, script: &[u8], refusal: Refusal) -> io::Result<
     let number = at.line.to_string();
     let blanks = |text: &str| text.chars().map(|c| if c == '\t' { c } else { ' ' }).collect::<String>();
     writeln!(out, "{}", format!("{number} | {more_before}{before}{after}{more_after}").trim_end())?;
-    writeln!(out, "{} | {}{}^", blanks(&number), blanks(more_before), blanks(&before))
+    writeln!(out, "{} | {}{}{cr}^", blanks(&number), blanks(more_before), blanks(&before))
 }
 
 /// Writes the tokens of a script for its author, one to a line: line and column (both from 1, the column in characters), kind, text, value. A
 /// token that carries the cut is marked, with the line end that is hard by it. For a refused script: number, place, line and column, what
 /// was met, what to do, and the line with a caret. Answers whether the script is accepted.
 pub fn view(out: &mut impl Write, script: &[u8]) -> io::Result<bool> {
-    let answer = tokenize(script);
+    let answer = tokenize(script).and_then(|tokens| Ok((tokens, Lines::index(script)?)));
     match &answer {
-        Ok(tokens) => accepted(out, tokens)?,
+        Ok((tokens, lines)) => accepted(out, tokens, lines)?,
         Err(refusal) => refused(out, script, *refusal)?,
     }
     Ok(answer.is_ok())

@@ -1,5 +1,5 @@
 // The wrapper on document 01's examples: the header's and the C example's script, the listing, the twelve marked scripts, and each refusal's.
-use ergo_token::{measure, position, record_bound, token_text, tokenize, view, write, Kw, Position, Refusal, Size, Token, TokenKind};
+use ergo_token::{measure, record_bound, token_text, tokenize, view, write, Kw, Refusal, Size, Token, TokenKind};
 use ergo_token::{INT_LIT_LENGTH, LONG_LIT_LENGTH, NEWLINE_LENGTH, RECORD_HEAD, STR_LENGTH};
 
 // The record bytes of `a`: an identifier and Eof.
@@ -211,8 +211,8 @@ fn every_kind() {
 #[test]
 fn every_number_has_words() {
     let of = |number| Refusal { number, place: 3 };
-    let unknown = of(25);
-    for number in 1..=24 {
+    let unknown = of(27);
+    for number in 1..=26 {
         assert_ne!(of(number).meaning(), unknown.meaning());
         assert_ne!(of(number).advice(), unknown.advice());
         for other in 1..number {
@@ -220,23 +220,6 @@ fn every_number_has_words() {
         }
         assert!(of(number).to_string().starts_with(&format!("refused {number} at 3: ")));
     }
-}
-
-#[test]
-fn positions() {
-    let script = "a\n\u{44F}\u{1F600}b\r\n\tc\n".as_bytes();
-    let at = |place| {
-        let Position { line, column } = position(script, place);
-        (line, column)
-    };
-    // a, LF, then three characters of 2, 4 and 1 bytes, CR LF, tab, c, LF, the end.
-    let places = [(0, (1, 1)), (1, (1, 2)), (2, (2, 1)), (4, (2, 2)), (8, (2, 3)), (9, (2, 4)), (10, (2, 4)), (11, (3, 1)), (12, (3, 2))];
-    for (place, expected) in places {
-        assert_eq!(at(place), expected, "{place}");
-    }
-    assert_eq!((at(13), at(14), at(99)), ((3, 3), (4, 1), (4, 1)));
-    // A CR alone ends no line.
-    assert_eq!(position(b"\"a\rb\"", 3), Position { line: 1, column: 4 });
 }
 
 fn viewed(script: &[u8]) -> (bool, String) {
@@ -269,7 +252,7 @@ accepted: token count 8 (line ends and Eof included), with the cut 1
 fn view_of_a_refused_script() {
     let carets: [(&[u8], &str, &str); 7] = [
         (b"\n\t\"\\u12G4\"", "refused 13 at 7: line 2, column 7", "2 | \t\"\\u12G4\"\n  | \t     ^\n"),
-        (b"\"a\r\nb", "refused 8 at 3: line 1, column 3", "1 | \"a\n  |   ^\n"),
+        (b"\"a\r\nb", "refused 8 at 3: line 1, column 4", "1 | \"a\n  |    ^\n"),
         (b"a\rb", "refused 1 at 1: line 1, column 2", "1 | a<U+000D>b\n  |  ^\n"),
         (b"\"str\n", "refused 8 at 4: line 1, column 5", "1 | \"str\n  |     ^\n"),
         (b"`\n", "refused 4 at 0: line 1, column 1", "1 | `\n  | ^\n"),
