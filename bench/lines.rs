@@ -47,14 +47,15 @@ struct Times {
 
 fn measure(script: &str, index: &mut [u32], rounds: usize) -> Times {
     // Before timing: the answers are those of Rust's own counting. This also warms up memory and code.
-    let start = Instant::now();
     let (lines, end) = (1 + script.matches('\n').count() as u32, script.len() as u32);
     let column = 1 + script.rsplit('\n').next().unwrap_or_default().chars().count() as u32;
     assert_eq!(check(script), script.len());
     assert_eq!(build(script, index), (0, lines, 0));
     assert_eq!(query(script, index, end), (0, lines, column));
-    // A round takes each of the three about a fiftieth of a second, or one call.
-    let repeat = (0.02 / start.elapsed().as_secs_f64()).clamp(1.0, 5000.0) as usize;
+    // A round takes building about a fiftieth of a second, and the other two less.
+    let start = Instant::now();
+    black_box(build(script, index));
+    let repeat = (0.02 / start.elapsed().as_secs_f64()).clamp(1.0, 50_000.0) as usize;
     let (mut checks, mut builds, mut queries) = (Vec::new(), Vec::new(), Vec::new());
     for _ in 0..rounds {
         checks.push(timed(repeat, || {
