@@ -256,7 +256,7 @@ enum ergo_number {
     ERGO_DAMAGED_ROLL = 24,      /* the record: a field is out of its range, or it starts before the one before it ends; or the first byte after Eof; or
                                   * the roll's length, where no Eof came. The roll was damaged, cut short between two records, or joined with
                                   * another: fetch it again and hand it over alone, or tokenize the script again */
-    ERGO_PLACE = 25,             /* 0, of ergo_line_column only: the place asked for is past the script's end or inside a character, on a byte 0x80
+    ERGO_BAD_PLACE = 25,         /* 0, of ergo_line_column only: the place asked for is past the script's end or inside a character, on a byte 0x80
                                   * to 0xBF; ask for the place of a token or of a refusal of this script, or its length */
     ERGO_SHORT_INDEX = 26        /* 0: fewer numbers were lent than the script has lines; lend as many as ergo_index_lines says at
                                   * ERGO_ANSWER_AT_LINES */

@@ -1,17 +1,25 @@
--- Answers that are yes exactly where something holds; what is listed; cases replayed one after the other.
-use Prim.Native.Nat.{ℕ, _+_, _-_, _≤_, _<_}
+-- A repeated value; answers that are yes exactly where something holds; what is listed; cases replayed one after the other.
+use Prim.Native.Nat.{ℕ, zero, suc, _+_, _-_, _≤_, _<_}
 use mathlib.Core.Path.{_≡_, refl, sym, _∙_, ap}
 use mathlib.Core.Bool.{Bool, true, false, false≢true}
 use mathlib.Core.Logic.{_↔_}
-use mathlib.Core.List.{List}
+use mathlib.Core.List.{List, _∷_}
 use lib.ListN.{length, take, drop, replicate}
 use native.Mathlib.Omega.{arith}
 use Rattle.words.specs.Words.{fourAt}
 use Rattle.cases.specs.Cases.{zeros, Listed, Replays}
 
+-- ---- a repeated value
+
 pub all-zeros : (n : ℕ) → replicate {A = ℕ} n 0 ≡ zeros n
 unfolding zeros
 all-zeros n = refl
+
+-- the first of as many
+pub take-replicate : (a n m : ℕ) → n ≤ m → take n (replicate m a) ≡ replicate n a
+take-replicate a zero m h = refl
+take-replicate a (suc n) zero h = absurd (omega arith)
+take-replicate a (suc n) (suc m) h = ap (λ l. a ∷ l) (take-replicate a n m (omega arith))
 
 -- ---- yes and no
 

@@ -2,6 +2,7 @@ pub mod Examples
 pub mod Bytes
 pub mod LineEnds
 pub mod Starts
+pub mod Begins
 pub mod Counting
 pub mod Finding
 pub mod Hosts

@@ -6,7 +6,7 @@ ghost use lib.ListN.{length};
 ghost use Rattle.chars.specs.paper.Quoted.{between};
 ghost use Rattle.lines.specs.computed.Lines.{part, countIn};
 
-// So many bytes are counted in a byte, which has room for 255, so that the compiler adds many at once.
+// So many bytes are counted in a byte, so that the compiler adds sixteen or thirty-two at once: the most thirty-twos that a byte has room for.
 const BLOCK: usize = 224;
 
 fn one_in(b: u8, low: u8, high: u8) -> u8

@@ -2,6 +2,7 @@
 use crate::count::count_in;
 use crate::find::find_column;
 use crate::find::find_line;
+use crate::index::LF;
 use crate::index::put_starts;
 use entry::host::MOST_BYTES;
 use entry::text::has_text;
@@ -29,7 +30,7 @@ fn check_script(script: &[u8]) -> Checked
     if valid < script.len() {
         return Checked::Refused(18, valid);
     }
-    Checked::Lines(count_in(script, 0, script.len(), 0x0A, 0x0A) + 1)
+    Checked::Lines(count_in(script, 0, script.len(), LF, LF) + 1)
 }
 
 // The block has 16 bytes: refusal, place, number of lines, 0. Every refusal leaves the index as it was; 26 tells the number of lines too.
@@ -68,8 +69,8 @@ pub fn line_column(script: &[u8], index: &[u32], place: u32, answer: &mut [u8]) 
     }
     let checked = check_script(script);
     match checked {
-        Checked::Refused(number, at) => {
-            put_block(answer, number as usize, at, 0, 0);
+        Checked::Refused(number, stop) => {
+            put_block(answer, number as usize, stop, 0, 0);
             return number;
         }
         Checked::Lines(lines) => {

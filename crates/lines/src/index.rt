@@ -8,9 +8,8 @@ ghost use Rattle.token.specs.paper.Records.{mostBytes};
 ghost use Rattle.lines.specs.computed.Lines.{part, startsIn, startsOf, lineCount};
 ghost use Rattle.lines.specs.code.Index.{noLf};
 
-const LF: u8 = 0x0A;
+pub const LF: u8 = 0x0A;
 
-// Eight bytes by one test: `&` looks at all of them, without a branch.
 fn two_free(s: &[u8], at: usize) -> bool
     requires { ⌜ at + 2 ≤ length (now s) ⌝ }
     ensures { λ r. ⌜ r ≡ noLf (now (s .entry)) at 2 ⌝ }
@@ -25,7 +24,7 @@ fn four_free(s: &[u8], at: usize) -> bool
     two_free(s, at) & two_free(s, at + 2)
 }
 
-// Whether no LF is among the eight bytes from a place on.
+// Whether no LF is among the eight bytes from a place on. `&` looks at all of them, without a branch.
 fn eight_free(s: &[u8], at: usize) -> bool
     requires { ⌜ at + 8 ≤ length (now s) ⌝ }
     ensures { λ r. ⌜ r ≡ noLf (now (s .entry)) at 8 ⌝ }

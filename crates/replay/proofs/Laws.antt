@@ -1,9 +1,9 @@
 -- Laws of the definitions of specs/Cases.antt.
-use Prim.Native.Nat.{ℕ, zero, suc, _+_, _-_, _≤_, _<_}
+use Prim.Native.Nat.{ℕ, _+_, _-_, _≤_, _<_}
 use mathlib.Core.Path.{_≡_, refl, sym, _∙_, ap}
 use mathlib.Core.Bool.{Bool, true, false, false≢true}
 use mathlib.Core.Logic.{_↔_}
-use mathlib.Core.List.{List, _∷_, _++_}
+use mathlib.Core.List.{List, _++_}
 use lib.ListN.{length, take, drop, replicate, length-append, length-drop, take-append-drop}
 use lib.Seq.{length-take-le, take-all, take-append-seam, drop-append-seam}
 use native.Mathlib.Omega.{arith}
@@ -12,7 +12,7 @@ use Rattle.words.specs.Words.{fourAt}
 use Rattle.entry.specs.paper.Host.{Seen, seen, numberSeen, bufferSeen}
 use Rattle.entry.specs.computed.Host.{hostOf}
 use Rattle.cases.specs.Cases.{untouched, Listed, nextIn}
-use Rattle.cases.proofs.Laws.{says-no, says}
+use Rattle.cases.proofs.Laws.{take-replicate, says-no, says}
 use Rattle.replay.specs.Cases.{recordsIn, mostRoom, scriptAt, scriptEnd, roomAt, listedBytes, recordsAt, caseEnd, nextAt, seenLent, listedOf, CaseAgrees}
 
 -- ---- untouched bytes
@@ -23,9 +23,7 @@ all-untouched n = refl
 
 pub take-untouched : (n m : ℕ) → n ≤ m → take n (untouched m) ≡ untouched n
 unfolding untouched
-take-untouched zero m h = refl
-take-untouched (suc n) zero h = absurd (omega arith)
-take-untouched (suc n) (suc m) h = ap (λ l. 0xA5 ∷ l) (take-untouched n m (omega arith))
+take-untouched n m h = take-replicate 0xA5 n m h
 
 -- the first of them
 module _ (room : ℕ) {space : List ℕ} (clean : space ≡ untouched mostRoom) (size : mostRoom ≡ length space) (most : room ≤ mostRoom) where

@@ -95,12 +95,13 @@ module _ (s : List ℕ) (i : ℕ) where
       go true e = let q = ascii-width h (ltb-true (getD s i 0) 0x80 e) in absurd (omega arith)
       go false e = ⊎-elim one more (wide (drop i s) (rw byte0 (ltb-false (getD s i 0) 0x80 e)))
 
-  -- a byte of 0x80 to 0xBF stands alone
+  -- with a byte of 0x80 to 0xBF no character begins: it stands alone
+  tail-width : i < length s → 0x80 ≤ getD s i 0 → getD s i 0 ≤ 0xBF → width (drop i s) ≡ 0
+  tail-width h l m = ap width (rows.here s i h) ∙ sym (rows.none-low (getD s i 0) (drop (i + 1) s) l (omega arith))
+
   pub tail-next : i < length s → 0x80 ≤ getD s i 0 → getD s i 0 ≤ 0xBF → charEnd s i ≡ i + 1
   unfolding charEnd
-  tail-next h l m =
-      let e : width (drop i s) ≡ 0 = ap width (rows.here s i h) ∙ sym (rows.none-low (getD s i 0) (drop (i + 1) s) l (omega arith)) in
-      omega arith
+  tail-next h l m = let e = tail-width h l m in omega arith
 
   -- well-formed text begins with none of these, and behind its first character it is well-formed
   pub next-valid : i < length s → WellFormed (drop i s) → (0x80 ≤ getD s i 0 → 0xBF < getD s i 0) × WellFormed (drop (charEnd s i) s)
@@ -108,16 +109,12 @@ module _ (s : List ℕ) (i : ℕ) where
   next-valid h w =
       let d = length-drop i s in
       let f = first-char w (omega arith) in
-      let b = ltb 0xBF (getD s i 0) in
       let k : i + width (drop i s) ≡ suc i + (width (drop i s) - 1) = let x = f .0 in omega arith in
-      (λ l. go b refl l (f .0), rw (drop-drop, k) at (f .1))
+      (λ l. go (ltb 0xBF (getD s i 0)) refl l (f .0), rw (drop-drop, k) at (f .1))
     where
       go : (b : Bool) → ltb 0xBF (getD s i 0) ≡ b → 0x80 ≤ getD s i 0 → 0 < width (drop i s) → 0xBF < getD s i 0
       go true e l p = ltb-true 0xBF (getD s i 0) e
-      go false e l p =
-          let m = ltb-false 0xBF (getD s i 0) e in
-          let z : width (drop i s) ≡ 0 = ap width (rows.here s i h) ∙ sym (rows.none-low (getD s i 0) (drop (i + 1) s) l (omega arith)) in
-          absurd (omega arith)
+      go false e l p = let z = tail-width h l (ltb-false 0xBF (getD s i 0) e) in absurd (omega arith)
 
 -- ---- a class of ASCII characters is tested on the byte; past the end the byte counts as 0
 

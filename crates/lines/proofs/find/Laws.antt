@@ -1,6 +1,6 @@
 -- The search by halves.
 use Prim.Native.Nat.{ℕ, zero, suc, _+_, _-_, _≤_, _<_, _/_, _%_}
-use mathlib.Core.Path.{_≡_, refl, sym, _∙_, ap}
+use mathlib.Core.Path.{_≡_, refl, sym, _∙_}
 use mathlib.Core.Bool.{Bool, true, false, cond}
 use mathlib.Core.List.{List}
 use lib.ListN.{getD}
@@ -15,10 +15,10 @@ pub column-none : (s : List ℕ) (start a : ℕ) → a ≤ start → 1 ≡ colum
 unfolding columnSince
 column-none s start a h = omega arith
 
--- a column is at least 1
-pub column-least : (s : List ℕ) (start a : ℕ) → 1 ≤ columnSince s start a
+-- a column is at least 1, and at most one more than the place
+pub column-between : (s : List ℕ) (start a : ℕ) → (1 ≤ columnSince s start a) × (columnSince s start a ≤ a + 1)
 unfolding columnSince
-column-least s start a = omega arith
+column-between s start a = (omega arith, omega arith)
 
 -- a half of two or more is something, and not all
 pub half : (n : ℕ) → 1 < n → (1 ≤ n / 2) × (n / 2 < n)

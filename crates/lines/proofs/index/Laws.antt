@@ -53,10 +53,10 @@ starts-join s i j k h l m =
     ∙ starts-append i (part s i j) (part s j k)
     ∙ ap (λ n. startsIn i (part s i j) ++ startsIn n (part s j k)) e
 
--- so they are no fewer in a longer part
-pub starts-most : (s : List ℕ) (i j k : ℕ) → i ≤ j → j ≤ k → j ≤ length s
+-- their numbers add up
+pub starts-sum : (s : List ℕ) (i j k : ℕ) → i ≤ j → j ≤ k → j ≤ length s
     → length (startsIn i (part s i j)) + length (startsIn j (part s j k)) ≡ length (startsIn i (part s i k))
-starts-most s i j k h l m = sym (ap length (starts-join s i j k h l m) ∙ length-append (startsIn i (part s i j)) (startsIn j (part s j k)))
+starts-sum s i j k h l m = sym (ap length (starts-join s i j k h l m) ∙ length-append (startsIn i (part s i j)) (startsIn j (part s j k)))
 
 -- one byte
 part-one : (s : List ℕ) (j : ℕ) → j < length s → part s j (j + 1) ≡ getD s j 0 ∷ []
@@ -133,13 +133,13 @@ module _ (s l m : List ℕ) (w i j n : ℕ) (h : i ≤ j) (b : j < length s) (e 
   pub stored-lf : getD s j 0 ≡ 0x0A → Stored (n + 1) (set m n (j + 1))
   stored-lf q =
       let o = one-lf s j b q in
-      let c = starts-most s i j (j + 1) h (omega arith) (omega arith) in
+      let c = starts-sum s i j (j + 1) h (omega arith) (omega arith) in
       (omega (arith, ap length o), ap (λ t. sets m n t) (sym o) ∙ starts-stored s l m w i j (j + 1) n h (omega arith) (omega arith) f e)
 
   pub stored-other : (getD s j 0 ≡ 0x0A → ⊥) → Stored n m
   stored-other q =
       let o = one-other s j b q in
-      let c = starts-most s i j (j + 1) h (omega arith) (omega arith) in
+      let c = starts-sum s i j (j + 1) h (omega arith) (omega arith) in
       (omega (arith, ap length o), ap (λ t. sets m n t) (sym o) ∙ starts-stored s l m w i j (j + 1) n h (omega arith) (omega arith) f e)
 
 -- there is room for one more where there is room for all
@@ -147,8 +147,8 @@ pub starts-room : (s : List ℕ) (i j k : ℕ) → i ≤ j → j < k → k ≤ l
     → length (startsIn i (part s i j)) + 1 ≤ length (startsIn i (part s i k))
 starts-room s i j k h b g q =
     let o = one-lf s j (omega arith) q in
-    let c = starts-most s i j (j + 1) h (omega arith) (omega arith) in
-    let d = starts-most s i (j + 1) k (omega arith) (omega arith) (omega arith) in
+    let c = starts-sum s i j (j + 1) h (omega arith) (omega arith) in
+    let d = starts-sum s i (j + 1) k (omega arith) (omega arith) (omega arith) in
     omega (arith, ap length o)
 
 -- all of them, with the first line's start
@@ -170,6 +170,6 @@ pub starts-fit : (s : List ℕ) (i j : ℕ) → i ≤ j → j ≤ length s
     → 1 + length (startsIn 0 (part s 0 i)) + length (startsIn i (part s i j)) ≤ lineCount s
 starts-fit s i j h b =
     let l = lines-all s in
-    let c = starts-most s 0 i j (omega arith) h (omega arith) in
-    let d = starts-most s 0 j (length s) (omega arith) b b in
+    let c = starts-sum s 0 i j (omega arith) h (omega arith) in
+    let d = starts-sum s 0 j (length s) (omega arith) b b in
     omega arith

@@ -11,6 +11,7 @@ use native.Mathlib.Numerals.{add-one}
 use native.Mathlib.Omega.{arith}
 use borrow.Author.Tests.{eq-eqb, ne-eqb}
 use Rattle.chars.specs.paper.Quoted.{between}
+use Rattle.chars.specs.code.Runs.{Each, AllIn}
 use Rattle.chars.specs.promises.Codes.{CodeLaws}
 use Rattle.chars.proofs.theorems.Promises.{code-laws}
 use Rattle.lines.specs.computed.Lines.{part, countIn, startsIn, columnFrom, lfsBefore, lineAt, columnAt, columnSince}
@@ -19,11 +20,7 @@ open CodeLaws code-laws using (between-in, between-out)
 
 -- no LF stands from the place i to the place j
 abbrev pub Unbroken : List ℕ → ℕ → ℕ → Type 0
-Unbroken s i j = (k : ℕ) → i ≤ k → k < j → getD s k 0 ≡ 0x0A → ⊥
-
--- only bytes 0x80 to 0xBF stand there
-abbrev pub Tails : List ℕ → ℕ → ℕ → Type 0
-Tails s i j = (k : ℕ) → i ≤ k → k < j → (0x80 ≤ getD s k 0) × (getD s k 0 ≤ 0xBF)
+Unbroken = Each (λ b. b ≡ 0x0A → ⊥)
 
 -- ---- line starts
 
@@ -127,7 +124,7 @@ module _ (s : List ℕ) where
       let z = ne-eqb (getD s i 0) 0x0A n in
       (line-next i h ∙ rw (z, add-zero), column-next i h ∙ rw (z, between-out 0x80 0xBF (getD s i 0) f, add-one))
 
-  tails-many : (k i : ℕ) → i + k ≤ length s → Tails s i (i + k) → (lineAt s (i + k) ≡ lineAt s i) × (columnAt s (i + k) ≡ columnAt s i)
+  tails-many : (k i : ℕ) → i + k ≤ length s → AllIn 0x80 0xBF s i (i + k) → (lineAt s (i + k) ≡ lineAt s i) × (columnAt s (i + k) ≡ columnAt s i)
   tails-many zero i h t = (rw add-zero, rw add-zero)
   tails-many (suc k) i h t =
       let e : i + suc k ≡ i + 1 + k = omega arith in
@@ -137,5 +134,5 @@ module _ (s : List ℕ) where
       (ap (lineAt s) e ∙ r .0 ∙ p .0, ap (columnAt s) e ∙ r .1 ∙ p .1)
 
   -- nor do bytes 0x80 to 0xBF in a row
-  pub past-tails : (i j : ℕ) → i ≤ j → j ≤ length s → Tails s i j → (lineAt s j ≡ lineAt s i) × (columnAt s j ≡ columnAt s i)
+  pub past-tails : (i j : ℕ) → i ≤ j → j ≤ length s → AllIn 0x80 0xBF s i j → (lineAt s j ≡ lineAt s i) × (columnAt s j ≡ columnAt s i)
   past-tails i j l h t = let e : i + (j - i) ≡ j = omega arith in rw e at (tails-many (j - i) i (omega arith) (rw e t))

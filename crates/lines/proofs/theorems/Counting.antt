@@ -1,13 +1,14 @@
 -- Counting from the first byte of a well-formed script gives every good place one line and one column.
 use Prim.Native.Nat.{ℕ, zero, suc, _+_, _≤_, _<_}
 use mathlib.Core.Path.{_≡_, refl, sym, _∙_, ap}
-use mathlib.Core.Bool.{Bool, true, false}
+use mathlib.Core.Bool.{Bool, true, false, _&&_}
 use mathlib.Core.Logic.{_↔_, ⊎-elim}
 use mathlib.Core.List.{List, _∷_}
 use lib.ListN.{length, drop, getD}
 use lib.Dec.{eqb, ltb}
 use native.Mathlib.Omega.{arith}
 use borrow.Author.Tests.{eqb-true, eqb-false, ltb-true, ltb-false, lt-ltb}
+use Rattle.chars.specs.paper.Quoted.{between}
 use Rattle.chars.specs.paper.Utf8.{WellFormed}
 use Rattle.chars.specs.paper.Text.{Char, Text, from, place}
 use Rattle.chars.specs.code.Text.{codeAt, charEnd}
@@ -21,8 +22,8 @@ use Rattle.token.specs.paper.Shapes.{LineEnd}
 use Rattle.lines.specs.paper.Lines.{Counts, Position, GoodPlace}
 use Rattle.lines.specs.computed.Lines.{countIn, columnFrom, lfsBefore, lineAt, columnAt}
 use Rattle.lines.proofs.theorems.Bytes.{past-lf, past-other, past-tails}
-use Rattle.lines.proofs.theorems.LineEnds.{within, begins-lf, lf-ends, ends-at}
-open CodeLaws code-laws using (between-in)
+use Rattle.lines.proofs.theorems.LineEnds.{in-script, begins-lf, lf-ends, ends-at}
+open CodeLaws code-laws using (between-in, between-out)
 open TextLaws text-laws using (at-char, next-on, at-end, place-from, ascii-next, wide-tail)
 open ValidLaws valid-laws using (next-valid)
 
@@ -68,7 +69,7 @@ module _ (s : List ℕ) where
   -- behind an LF, another character, a line end
   behind-lf : (i : ℕ) {r : Text} {l : ℕ} → WellFormed (drop i s) → l ≡ lineAt s i → getD s i 0 ≡ 0x0A → r ≡ from s (i + 1) → At (i + 1) r (l + 1) 1
   behind-lf i w e b q =
-      let h = within s i (omega arith) in
+      let h = in-script s i (omega arith) in
       let p = past-lf s i h b in
       record { inside = omega arith; text = q; valid = ascii-valid i h (omega arith) w; line = ap (λ n. n + 1) e ∙ sym (p .0); column = sym (p .1) }
 
@@ -92,7 +93,7 @@ module _ (s : List ℕ) where
       two : (getD s i 0 ≡ 0x0D) × (getD s (i + 1) 0 ≡ 0x0A) × (r ≡ from s (i + 1 + 1)) → Somewhere r (l + 1) 1
       two x =
           let b = x .0 in
-          let h = within s i (omega arith) in
+          let h = in-script s i (omega arith) in
           let p = past-char i h (a .valid) (λ z. omega arith) .0 in
           let q : lineAt s (i + 1) ≡ lineAt s i = rw (ascii-next s i h (omega arith)) at p in
           (i + 1 + 1, behind-lf (i + 1) (ascii-valid i h (omega arith) (a .valid)) (a .line ∙ sym q) (x .1) (x .2))
@@ -153,6 +154,13 @@ module _ (s : List ℕ) where
           more (charEnd s i) (omega arith) (char-before i a h g) g (next-valid s i n w .1) (counted-next i n w k)
       go false e more = let x = ltb-false i a e in let z : i ≡ a = omega arith in rw z at k
 
+-- where a position stands
+at-place : (script : List ℕ) → WellFormed script → {a l c : ℕ} → Position script a l c → (t : Text) × At script a t l c
+at-place script w p =
+    let (i, x) = counts-at script w (p .counts) in
+    let z = sym (place-from script i (x .inside)) ∙ ap (place (length script)) (sym (x .text)) ∙ p .stands in
+    (p .left, rw z at x)
+
 pub counted-is : (script : List ℕ) → WellFormed script → (a l c : ℕ) → GoodPlace script a
     → ((lineAt script a ≡ l) × (columnAt script a ≡ c)) ↔ Position script a l c
 counted-is script w a l c g = (there, back)
@@ -165,7 +173,12 @@ counted-is script w a l c g = (there, back)
     }
 
     back : Position script a l c → (lineAt script a ≡ l) × (columnAt script a ≡ c)
-    back p =
-        let (i, x) = counts-at script w (p .counts) in
-        let z : i ≡ a = sym (place-from script i (x .inside)) ∙ ap (place (length script)) (sym (x .text)) ∙ p .stands in
-        (ap (lineAt script) (sym z) ∙ sym (x .line), ap (columnAt script) (sym z) ∙ sym (x .column))
+    back p = let x = at-place script w p .1 in (sym (x .line), sym (x .column))
+
+-- only good places are counted
+pub only-good : (script : List ℕ) → WellFormed script → (a l c : ℕ) → Position script a l c → GoodPlace script a
+only-good script w a l c p = let x = at-place script w p .1 in record { within = x .inside; outside = go (ltb a (length script)) refl (x .valid) }
+  where
+    go : (t : Bool) → ltb a (length script) ≡ t → WellFormed (drop a script) → t && between 0x80 0xBF (getD script a 0) ≡ false
+    go true e v = between-out 0x80 0xBF (getD script a 0) (next-valid script a (ltb-true a (length script) e) v .0)
+    go false e v = refl

@@ -9,7 +9,7 @@ use lib.Dec.{eqb, leb, leb·suc-suc}
 use native.Mathlib.Nat.{zero-add, sub-zero}
 use native.Mathlib.Omega.{arith}
 use borrow.Author.Tests.{leb-true, le-leb, lt-leb}
-use Rattle.lines.specs.computed.Lines.{part, countIn, startsIn, startsOf, lineCount, lfsBefore, columnFrom, columnAt, searchIn, searchOf, columnSince}
+use Rattle.lines.specs.computed.Lines.{part, countIn, startsIn, startsOf, lineCount, lfsBefore, columnFrom, columnAt, searchOf, columnSince}
 use Rattle.lines.proofs.count.Laws.{between-lf, part-front, part-all, count-join}
 use Rattle.lines.proofs.index.Laws.{starts-count}
 use Rattle.lines.proofs.find.Laws.{search-finds}
@@ -101,8 +101,8 @@ module _ (s : List ℕ) where
   -- ---- a place, in an index whose first numbers are the starts
 
   module _ (index : List ℕ) (a : ℕ) (is : take (lineCount s) index ≡ startsOf s) (l : a ≤ length s) where
-    at : (k : ℕ) → k < lineCount s → getD index k 0 ≡ getD (startsOf s) k 0
-    at k h = sym (getD-take (lineCount s) index k 0 h) ∙ ap (λ t. getD t k 0) is
+    same-start : (k : ℕ) → k < lineCount s → getD index k 0 ≡ getD (startsOf s) k 0
+    same-start k h = sym (getD-take (lineCount s) index k 0 h) ∙ ap (λ t. getD t k 0) is
 
     pub finds-line : searchOf index (lineCount s) a ≡ lfsBefore s a
     unfolding searchOf
@@ -118,7 +118,7 @@ module _ (s : List ℕ) where
         (omega arith)
         (omega arith)
         (omega arith)
-        (λ k h. ap (λ x. leb x a) (at k (omega arith)) ∙ start-most k a (omega arith) l)
+        (λ k h. ap (λ x. leb x a) (same-start k (omega arith)) ∙ start-most k a (omega arith) l)
 
     pub finds-column : columnSince s (getD index (lfsBefore s a) 0) a ≡ columnAt s a
     finds-column =
@@ -128,4 +128,4 @@ module _ (s : List ℕ) where
         let h = leb-true i a (start-most n a b l ∙ le-leb n n (omega arith)) in
         let m = leb-true n (lfsBefore s i) (sym (start-most n i b (omega arith)) ∙ le-leb i i (omega arith)) in
         let r = lfs-rest i a h in
-        ap (λ x. columnSince s x a) (at n b) ∙ sym (column-since s i a h l (first-column n b) (omega arith))
+        ap (λ x. columnSince s x a) (same-start n b) ∙ sym (column-since s i a h l (first-column n b) (omega arith))

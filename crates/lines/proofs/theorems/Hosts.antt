@@ -1,5 +1,5 @@
 -- What the host sees of building and of a query is what document 02 declares.
-use Prim.Native.Nat.{ℕ, suc, _≤_, _<_}
+use Prim.Native.Nat.{ℕ, suc, _≤_}
 use mathlib.Core.Path.{_≡_, refl, sym, _∙_, ap}
 use mathlib.Core.Bool.{Bool, true, false}
 use mathlib.Core.Logic.{_↔_}
@@ -10,8 +10,7 @@ use lib.Dec.{eqb, ltb}
 use native.Mathlib.Numerals.{add-one}
 use native.Mathlib.Omega.{arith}
 use borrow.Author.Tests.{eqb-true, eqb-false, ltb-true, ltb-false}
-use Rattle.words.specs.Words.{blockOf, Told, told}
-use Rattle.chars.specs.paper.Utf8.{WellFormed}
+use Rattle.words.specs.Words.{blockOf, Told, told, numberTold}
 use Rattle.chars.specs.computed.Valid.{validPrefix}
 use Rattle.chars.specs.promises.Utf8.{ValidLaws}
 use Rattle.chars.proofs.Bools.{clash}
@@ -21,12 +20,12 @@ use Rattle.entry.specs.paper.Host.{Seen, seen, numberSeen, bufferSeen}
 use Rattle.entry.specs.paper.TokenText.{hasText}
 use Rattle.lines.specs.paper.Lines.{Starts, Position, GoodPlace}
 use Rattle.lines.specs.paper.Host.{Taken, Builds, Answers}
-use Rattle.lines.specs.computed.Lines.{startsOf, lineCount, lfsBefore, lineAt, columnAt, searchOf, columnSince}
+use Rattle.lines.specs.computed.Lines.{startsOf, lineCount, lineAt, columnAt, searchOf, columnSince}
 use Rattle.lines.specs.computed.Host.{checkedOf, indexSeen, positionTold}
 use Rattle.lines.specs.declared.host.Checked.{Checked}
 use Rattle.lines.specs.declared.host.Checked.the-variants as checked
 use Rattle.lines.proofs.index.Laws.{lines-length}
-use Rattle.lines.proofs.find.Laws.{column-least, search-within}
+use Rattle.lines.proofs.find.Laws.{column-between, search-within}
 use Rattle.lines.proofs.host.Laws.{CheckedAs, long, invalid, good, checked-as, checked-long, checked-invalid, checked-good, some-line, good-place, place-good, index-none, index-refused, index-short, index-built, position-none, position-refused, position-off, position-short, position-found}
 use Rattle.lines.proofs.theorems.Starts.{starts-are}
 use Rattle.lines.proofs.theorems.Counting.{counted-is}
@@ -164,7 +163,8 @@ module _ (s : List ℕ) where
             (λ is. counted t g (rw n at is))
             (omega arith)
             (omega (arith, n, search-within index (lineCount s) a (some-line s)))
-            (column-least s _ a))
+            (column-between s _ a .0)
+            (column-between s _ a .1))
 
     pub answers-are : Answers s index a block (positionTold s index a block)
     answers-are = go (eqb (length block) 16) refl
@@ -173,7 +173,7 @@ module _ (s : List ℕ) where
         go true e = answers-by (checked-as s) refl (eqb-true (length block) 16 e)
         go false e = let n = eqb-false (length block) 16 e in rw (← position-none s index a block n) (Answers.twenty n)
 
-    -- ---- over the starts nothing else is told
+    -- ---- nothing else is told: no other refusal, and over the starts no other line and column
 
     module _ (is : take (lineCount s) index ≡ startsOf s) where
       enough : lineCount s ≤ length index
@@ -193,19 +193,19 @@ module _ (s : List ℕ) where
           let e = finds-line s index a is (g .within) in
           sym (found-told t g enough) ∙ rw (e, finds-column s index a is (g .within), k .0, k .1)
 
-      pub answers-only : {x : Told} → Answers s index a block x → positionTold s index a block ≡ x
-      answers-only (Answers.twenty n) = sym (position-none s index a block n)
-      answers-only (Answers.seventeen e l) = sym (position-refused s index a block e 17 0 _ (checked-long s l) refl)
-      answers-only (Answers.eighteen {n} e l v x) = sym (position-refused s index a block e 18 n _ (checked-invalid s l n (longest-one v (valid s)) x) refl)
-      answers-only (Answers.twentyFive t n) = sym (position-off s index a block (t .sixteen) (lineCount s) _ (taken-lines t) (off (hasText s a a) refl n) refl)
-        where
-          off : (p : Bool) → hasText s a a ≡ p → (GoodPlace s a → ⊥) → hasText s a a ≡ false
-          off true e n = absurd (n (good-place s a e))
-          off false e n = e
-      answers-only (Answers.twentySix {l} t g st x) =
-          let q = ap length (starts-are s l .1 st) in
-          let n = lines-length s in
-          absurd (omega (arith, enough))
-      answers-only (Answers.answered {l} {line} {column} t g st h p x y z) =
-          let q = starts-are s l .1 st in
-          counted-told t line column g (p (rw (← q, lines-length s) is))
+    pub answers-only : {x : Told} → (numberTold x ≡ 0 → take (lineCount s) index ≡ startsOf s) → Answers s index a block x → positionTold s index a block ≡ x
+    answers-only is (Answers.twenty n) = sym (position-none s index a block n)
+    answers-only is (Answers.seventeen e l) = sym (position-refused s index a block e 17 0 _ (checked-long s l) refl)
+    answers-only is (Answers.eighteen {n} e l v x) = sym (position-refused s index a block e 18 n _ (checked-invalid s l n (longest-one v (valid s)) x) refl)
+    answers-only is (Answers.twentyFive t n) = sym (position-off s index a block (t .sixteen) (lineCount s) _ (taken-lines t) (off (hasText s a a) refl n) refl)
+      where
+        off : (p : Bool) → hasText s a a ≡ p → (GoodPlace s a → ⊥) → hasText s a a ≡ false
+        off true e n = absurd (n (good-place s a e))
+        off false e n = e
+    answers-only is (Answers.twentySix {l} t g st x) =
+        let q = ap length (starts-are s l .1 st) in
+        let n = lines-length s in
+        sym (position-short s index a block (t .sixteen) (lineCount s) _ (taken-lines t) (place-good s a g) (omega arith) refl)
+    answers-only is (Answers.answered {l} {line} {column} t g st h p x y z u) =
+        let q = starts-are s l .1 st in
+        counted-told (is refl) t line column g (p (rw (← q, lines-length s) (is refl)))

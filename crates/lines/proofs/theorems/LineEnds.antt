@@ -2,7 +2,7 @@
 use Prim.Native.Nat.{ℕ, _+_, _<_}
 use Prim.Native.String.{String}
 use mathlib.Core.Path.{_≡_, refl, sym, _∙_, ap}
-use mathlib.Core.Bool.{Bool, true, false, _||_}
+use mathlib.Core.Bool.{Bool, true, false, or-false}
 use mathlib.Core.Logic.{_⊎_, inl, inr}
 use mathlib.Core.List.{List, [], _∷_}
 use lib.ListN.{length, drop, getD, List·getD-eq-default}
@@ -19,8 +19,8 @@ use Rattle.token.specs.paper.Shapes.{One, both, LineEnd}
 open TextLaws text-laws using (at-ascii, head-byte)
 
 -- a byte that is not 0 stands within the script
-pub within : (s : List ℕ) (i : ℕ) → 0 < getD s i 0 → i < length s
-within s i h = go (ltb i (length s)) refl
+pub in-script : (s : List ℕ) (i : ℕ) → 0 < getD s i 0 → i < length s
+in-script s i h = go (ltb i (length s)) refl
   where
     go : (t : Bool) → ltb i (length s) ≡ t → i < length s
     go true e = ltb-true i (length s) e
@@ -30,7 +30,7 @@ within s i h = go (ltb i (length s)) refl
 
 record Sign (q : String) (b : ℕ) : Type 0 where
   is : (c : ℕ) → oneOf q c ≡ eqb c b
-  some : 0 < b
+  not-nul : 0 < b
   ascii : b < 0x80
 
 module _ {q : String} {b : ℕ} (sign : Sign q b) where
@@ -42,7 +42,7 @@ module _ {q : String} {b : ℕ} (sign : Sign q b) where
   begins-byte s i = head-byte (oneOf q) class s i ∙ sign .is (getD s i 0)
 
   at-byte : (s : List ℕ) (i : ℕ) → getD s i 0 ≡ b → from s i ≡ record { code = getD s i 0; at = i } ∷ from s (i + 1)
-  at-byte s i e = at-ascii s i (within s i (omega arith)) (omega arith)
+  at-byte s i e = at-ascii s i (in-script s i (omega arith)) (omega arith)
 
   byte-one : (s : List ℕ) (i : ℕ) → getD s i 0 ≡ b → One (isAny q) (from s i) (from s (i + 1))
   byte-one s i e = rw (at-byte s i e) (One.one (sign .is (getD s i 0) ∙ eq-eqb (getD s i 0) b e))
@@ -55,15 +55,11 @@ module _ {q : String} {b : ℕ} (sign : Sign q b) where
 
 -- ---- LF and CR
 
-or-none : (t : Bool) → t || false ≡ t
-or-none true = refl
-or-none false = refl
-
 lf : Sign "\n" 0x0A
-lf = record { is = λ c. or-none (eqb c 0x0A); some = omega arith; ascii = omega arith }
+lf = record { is = λ c. or-false (eqb c 0x0A); not-nul = omega arith; ascii = omega arith }
 
 cr : Sign "\r" 0x0D
-cr = record { is = λ c. or-none (eqb c 0x0D); some = omega arith; ascii = omega arith }
+cr = record { is = λ c. or-false (eqb c 0x0D); not-nul = omega arith; ascii = omega arith }
 
 module _ (s : List ℕ) (i : ℕ) where
   pub begins-lf : isAny "\n" (from s i) ≡ eqb (getD s i 0) 0x0A

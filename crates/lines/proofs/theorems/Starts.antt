@@ -16,15 +16,15 @@ use Rattle.token.specs.paper.Shapes.{LineEnd}
 use Rattle.lines.specs.paper.Lines.{Ends, Starts}
 use Rattle.lines.specs.computed.Lines.{startsIn, startsOf}
 use Rattle.lines.proofs.theorems.Bytes.{Unbroken, starts-lf, starts-pass, starts-past}
-use Rattle.lines.proofs.theorems.LineEnds.{within, lf-ends, crlf-ends, ends-at, end-one, no-end}
+use Rattle.lines.proofs.theorems.LineEnds.{in-script, lf-ends, crlf-ends, ends-at, end-one, no-end}
 open TextLaws text-laws using (at-char, next-on, at-end, place-from, wide-tail)
 
 -- ---- one list
 
 pub ends-one : {n : ℕ} {s : Text} {l m : List ℕ} → Ends n s l → Ends n s m → l ≡ m
-ends-one Ends.none Ends.none = refl
-ends-one Ends.none (Ends.ended e y) = absurd (no-end e)
-ends-one (Ends.ended e x) Ends.none = absurd (no-end e)
+ends-one Ends.empty Ends.empty = refl
+ends-one Ends.empty (Ends.ended e y) = absurd (no-end e)
+ends-one (Ends.ended e x) Ends.empty = absurd (no-end e)
 ends-one {n} (Ends.ended {r} e x) (Ends.ended {l = m} f y) =
     let z = end-one e f in
     let y′ : Ends n r m = rw z y in
@@ -63,7 +63,7 @@ module _ (s : List ℕ) where
 
   at-last : (i : ℕ) → length s ≤ i → EndsFrom i
   unfolding startsIn
-  at-last i h = rw (at-end s i h, drop-of-length-le s h) Ends.none
+  at-last i h = rw (at-end s i h, drop-of-length-le s h) Ends.empty
 
   ends-on : (i : ℕ) → i < length s → ((j : ℕ) → i < j → j ≤ length s → EndsFrom j) → EndsFrom i
   ends-on i h more = go (eqb (getD s i 0) 0x0A) (eqb (getD s i 0) 0x0D) (eqb (getD s (i + 1) 0) 0x0A) refl refl refl
@@ -78,7 +78,7 @@ module _ (s : List ℕ) where
       go false true true a b c =
           let e = eqb-true (getD s i 0) 0x0D b in
           let f = eqb-true (getD s (i + 1) 0) 0x0A c in
-          let k = within s (i + 1) (omega arith) in
+          let k = in-script s (i + 1) (omega arith) in
           ended-at i (i + 1 + 1) (omega arith) (crlf-ends s i e f) (starts-pass s i h (eqb-false (getD s i 0) 0x0A a) ∙ starts-lf s (i + 1) k f)
           (more (i + 1 + 1) (omega arith) (omega arith))
       go false true false a b c = passed (eqb-false (getD s i 0) 0x0A a) (λ e. eqb-false (getD s (i + 1) 0) 0x0A c)

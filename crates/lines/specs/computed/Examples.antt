@@ -1,7 +1,7 @@
 -- Scripts with their line starts, and places with line and column.
 use Prim.Native.Nat.{ℕ}
 use mathlib.Core.Path.{_≡_}
-use mathlib.Core.List.{List, [], _∷_, _++_, map}
+use mathlib.Core.List.{List, [], _∷_, map}
 use lib.ListN.{replicate}
 use Rattle.words.specs.Words.{blockOf, told}
 use Rattle.entry.specs.paper.Host.{seen}
@@ -40,12 +40,12 @@ pub record LineExamples : Type 0 where
   pub wrong-block : indexSeen twoEnds (7 ∷ 7 ∷ []) (7 ∷ []) ≡ seen 20 (7 ∷ 7 ∷ []) (7 ∷ [])
   -- C0 80 is no character
   pub not-utf8 : indexSeen (0x61 ∷ 0xC0 ∷ 0x80 ∷ []) (7 ∷ []) block ≡ seen 18 (7 ∷ []) (blockOf 18 1 0 0)
-  -- a query, with a number behind the index; the script's end is a good place, one past it is none, nor is one inside `ж`
+  -- a query, with a number behind the index; the script's end is a good place, one past it is none, nor is one inside `ж`: 25 before 26
   pub asked : positionTold twoEnds (0 ∷ 3 ∷ 5 ∷ 1 ∷ []) 4 block ≡ told 0 (blockOf 0 0 2 2)
   pub asked-end : positionTold twoEnds (0 ∷ 3 ∷ 5 ∷ []) 5 block ≡ told 0 (blockOf 0 0 3 1)
   pub past-end : positionTold twoEnds [] 6 block ≡ told 25 (blockOf 25 0 0 0)
   pub within-character : positionTold inString [] 2 block ≡ told 25 (blockOf 25 0 0 0)
-  -- 25 before 26
+  -- two numbers for three lines
   pub short-index : positionTold twoEnds (0 ∷ 3 ∷ []) 4 block ≡ told 26 (blockOf 26 0 0 0)
   -- other numbers: some line of the three, and some column
   pub other-numbers : positionTold twoEnds (9 ∷ 9 ∷ 9 ∷ []) 4 block ≡ told 0 (blockOf 0 0 1 1)

@@ -3,7 +3,7 @@ use Prim.Native.Nat.{ℕ, suc}
 use mathlib.Core.Bool.{cond}
 use mathlib.Core.List.{List, _++_}
 use lib.ListN.{length, drop, getD}
-use lib.Dec.{eqb, leb, ltb}
+use lib.Dec.{eqb, ltb}
 use Rattle.words.specs.Words.{blockOf, Told, told}
 use Rattle.chars.specs.computed.Valid.{validPrefix}
 use Rattle.token.specs.paper.Records.{mostBytes}

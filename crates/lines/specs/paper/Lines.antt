@@ -18,7 +18,7 @@ NoLineEnd s = (r : Text) → LineEnd s r → ⊥
 
 -- The places behind the line ends of a text, in order, in a script of n bytes. CR LF is one line end.
 pub data Ends (n : ℕ) : Text → List ℕ → Type 0 where
-  none : Ends n [] []
+  empty : Ends n [] []
   ended : {s r : Text} {l : List ℕ} → LineEnd s r → Ends n r l → Ends n s (place n r ∷ l)
   passed : {c : Char} {s : Text} {l : List ℕ} → NoLineEnd (c ∷ s) → Ends n s l → Ends n (c ∷ s) l
 

@@ -1,14 +1,12 @@
 -- `lines::count::count_block` meets its contract: the loop keeps how many of the bytes passed are counted, which is at most 255.
 use Prim.Native.Nat.{_≤_, _-_}
-use mathlib.Core.Path.{_≡_, refl, _∙_}
+use mathlib.Core.Path.{_≡_}
 use borrow.Author.Needs.{needs}
 use native.Mathlib.Omega.{arith}
 use Rattle.lines.specs.computed.Lines.{part, countIn}
 use Rattle.lines.proofs.count.Laws.{count-none, count-more, count-within}
 use Rattle.lines.proofs.count.count_block.Statement.{statement}
 use Rattle.lines.proofs.count.count_block.Tie as tie
-use Rattle.lines.proofs.count.count_block.Reads as reads
-use Rattle.lines.proofs.count.count_block.Lts as lts
 
 abbrev Inv-loop : tie.InvT-loop
 Inv-loop s from to low high n₀ i₀ n i = (from ≤ i) × (i ≤ to) × (n ≡ countIn low high (part s from i))

@@ -1,13 +1,11 @@
 -- `lines::count::count_in` meets its contract: the loop keeps how many of the bytes passed are counted, block by block.
 use Prim.Native.Nat.{_≤_, _-_}
-use mathlib.Core.Path.{_≡_, _∙_, ap}
+use mathlib.Core.Path.{_≡_}
 use native.Mathlib.Omega.{arith}
 use Rattle.lines.specs.computed.Lines.{part, countIn}
 use Rattle.lines.proofs.count.Laws.{count-none, count-join, count-within}
 use Rattle.lines.proofs.count.count_in.Statement.{statement}
 use Rattle.lines.proofs.count.count_in.Tie as tie
-use Rattle.lines.proofs.count.count_in.Reads as reads
-use Rattle.lines.proofs.count.count_in.Lts as lts
 
 abbrev Inv-loop : tie.InvT-loop
 Inv-loop s from to low high n₀ i₀ n i = (from ≤ i) × (i ≤ to) × (n ≡ countIn low high (part s from i))

@@ -1,45 +1,32 @@
 -- `lines::find::find_column` meets its contract.
-use mathlib.Core.Path.{_∙_, sym, ap}
+use mathlib.Core.Path.{_∙_, ap}
 use Prim.Native.Nat.{suc, _-_}
 use native.Mathlib.Numerals.{add-one}
-use native.Mathlib.Omega.{arith}
 use Rattle.lines.specs.computed.Lines.{columnSince}
 use Rattle.lines.proofs.count.Laws.{count-within}
 use Rattle.lines.proofs.find.Laws.{column-none}
--- imports of the template ends
 use borrow.Author.Needs.{needs}
 use Rattle.lines.proofs.find.find_column.Statement.{statement}
 use Rattle.lines.proofs.find.find_column.Tie as tie
-use Rattle.lines.proofs.find.find_column.Reads as reads
-use Rattle.lines.proofs.find.find_column.Lts as lts
-use Rattle.lines.proofs.count.count_in.Reads as count-in-reads
 
--- src/find.rt:36:9
 returns : tie.Need-returns
-returns c = column-none ((c .before .before .args) .script .now) ((c .before .before .args) .start) ((c .before .before .args) .place) ((c .if1) .taken)
+returns c = column-none (c .before .before .args .script .now) (c .before .before .args .start) (c .before .before .args .place) (c .if1 .taken)
 
--- src/find.rt:38:5
 sub-result : tie.Need-sub-result
 sub-result c = search needs
 
--- src/find.rt:38:21
 count-in-requires : tie.Need-count-in-requires
 count-in-requires c κs = search needs
 
--- src/find.rt:38:5
 sub-result-2 : tie.Need-sub-result-2
-sub-result-2 c =
-    let b = count-within 0x80 0xBF ((c .before .before .before .args) .script .now) ((c .before .before .before .args) .start) ((c .before .before .before .args) .place) ((c .before .before .before .pre)) in
-    omega (arith, (c .count-in) .ensures)
+sub-result-2 c = rw (c .count-in .ensures) (count-within _ _ _ _ _ (c .before .before .before .pre))
 
--- src/find.rt:38:5
 add-result : tie.Need-add-result
 add-result c = search needs
 
--- src/find.rt:31:1
 returns-2 : tie.Need-returns-2
 unfolding columnSince
-returns-2 c = add-one _ ∙ ap (λ n. suc ((c .before .before .before .args) .place - (c .before .before .before .args) .start - n)) ((c .count-in) .ensures)
+returns-2 c = add-one _ ∙ ap (λ n. suc (c .before .before .before .args .place - c .before .before .before .args .start - n)) (c .count-in .ensures)
 
 pub find-column-spec : {M : Type 1} → statement M
 find-column-spec =

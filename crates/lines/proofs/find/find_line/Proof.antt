@@ -1,6 +1,6 @@
 -- `lines::find::find_line` meets its contract: the loop keeps what the search finds.
 use Prim.Native.Nat.{_≤_, _+_, _/_}
-use mathlib.Core.Path.{_≡_, refl, sym, _∙_, ap}
+use mathlib.Core.Path.{_≡_, refl, sym, _∙_}
 use lib.ListN.{length}
 use native.Mathlib.Omega.{arith}
 use borrow.Author.Needs.{scaled-fits}
@@ -8,8 +8,6 @@ use Rattle.lines.specs.computed.Lines.{searchIn, searchOf}
 use Rattle.lines.proofs.find.Laws.{half, search-one, search-right, search-left}
 use Rattle.lines.proofs.find.find_line.Statement.{statement}
 use Rattle.lines.proofs.find.find_line.Tie as tie
-use Rattle.lines.proofs.find.find_line.Reads as reads
-use Rattle.lines.proofs.find.find_line.Lts as lts
 
 abbrev Inv-loop : tie.InvT-loop
 Inv-loop index lines place low₀ size₀ low size =

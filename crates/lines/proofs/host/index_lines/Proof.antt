@@ -2,93 +2,84 @@
 use mathlib.Core.Path.{sym, _∙_}
 use Rattle.lines.proofs.host.Laws.{index-none, index-refused, index-short, index-built, was-lines}
 use Rattle.lines.proofs.theorems.Lines.{line-theorems}
--- imports of the template ends
 use borrow.Author.Needs.{needs}
 use Rattle.lines.proofs.host.index_lines.Statement.{statement}
 use Rattle.lines.proofs.host.index_lines.Tie as tie
-use Rattle.lines.proofs.host.index_lines.Reads as reads
-use Rattle.lines.proofs.host.index_lines.Lts as lts
-use Rattle.lines.proofs.host.check_script.Reads as check-script-reads
-use Rattle.lines.proofs.index.put_starts.Reads as put-starts-reads
-use Rattle.words.proofs.write.put_block.Reads as put-block-reads
 
--- src/host.rt:41:9
 returns : tie.Need-returns
 returns c =
-    let v = (c .before .before .before .before .args) in
-    (index-none (v .script .now) (v .index .now) (v .answer .now) ((c .if1) .taken), line-theorems (v .script .now))
+    let v = c .before .before .before .before .args in
+    (index-none (v .script .now) (v .index .now) (v .answer .now) (c .if1 .taken), line-theorems (v .script .now))
 
--- src/host.rt:43:9
 check-script-requires : tie.Need-check-script-requires
 check-script-requires c κs = search needs
 
--- src/host.rt:45:26
 enum-known-checked : tie.Need-enum-known-checked
 enum-known-checked c = search needs
 
--- src/host.rt:46:31
 cast-put-block : tie.Need-cast-put-block
 cast-put-block c = search needs
 
--- src/host.rt:46:13
 put-block-requires : tie.Need-put-block-requires
 put-block-requires c κs = search needs
 
--- src/host.rt:47:13
 same-length : tie.Need-same-length
 same-length c = search needs
 
--- src/host.rt:47:13
 returns-2 : tie.Need-returns-2
 returns-2 c =
-    let v = (c .before .before .before .before .before .before .before .before .before .before .before .before .args) in
-    let q = sym ((c .before .before .before .before .before .checked) .given .1) ∙ (c .before .before .before .before .before .before .before .check-script) .ensures in
-    (index-refused (v .script .now) (v .index .now) (v .answer .now) ((c .before .before .before .before .before .before .before .before .if1) .left) _ _ _ q ((c .before .before .put-block) .ensures), line-theorems (v .script .now))
+    let v = c .before .before .before .before .before .before .before .before .before .before .before .before .args in
+    let size = c .before .before .before .before .before .before .before .before .if1 .left in
+    let checked = c .before .before .before .before .before .checked .given .1 in
+    let q = sym checked ∙ c .before .before .before .before .before .before .before .check-script .ensures in
+    let block = c .before .before .put-block .ensures in
+    (index-refused (v .script .now) (v .index .now) (v .answer .now) size _ _ _ q block, line-theorems (v .script .now))
 
--- src/host.rt:49:24
 enum-known-checked-2 : tie.Need-enum-known-checked-2
 enum-known-checked-2 c = search needs
 
--- src/host.rt:51:17
 put-block-requires-2 : tie.Need-put-block-requires-2
 put-block-requires-2 c κs = search needs
 
--- src/host.rt:52:17
 same-length-2 : tie.Need-same-length-2
 same-length-2 c = search needs
 
--- src/host.rt:52:17
 returns-3 : tie.Need-returns-3
 returns-3 c =
-    let v = (c .before .before .before .before .before .before .before .before .before .before .before .before .before .args) in
-    let q = sym ((c .before .before .before .before .before .before .checked2) .given .1) ∙ (c .before .before .before .before .before .before .before .before .check-script) .ensures in
-    (index-short (v .script .now) (v .index .now) (v .answer .now) ((c .before .before .before .before .before .before .before .before .before .if1) .left) _ _ q ((c .before .before .before .before .if2) .taken) ((c .before .before .put-block2) .ensures), line-theorems (v .script .now))
+    let v = c .before .before .before .before .before .before .before .before .before .before .before .before .before .args in
+    let size = c .before .before .before .before .before .before .before .before .before .if1 .left in
+    let checked = c .before .before .before .before .before .before .checked2 .given .1 in
+    let q = sym checked ∙ c .before .before .before .before .before .before .before .before .check-script .ensures in
+    let short = c .before .before .before .before .if2 .taken in
+    let block = c .before .before .put-block2 .ensures in
+    (index-short (v .script .now) (v .index .now) (v .answer .now) size _ _ q short block, line-theorems (v .script .now))
 
--- src/host.rt:54:13
 put-starts-requires : tie.Need-put-starts-requires
 put-starts-requires c κs =
-    let v = (c .before .before .before .before .before .before .before .before .before .before .args) in
-    let q = was-lines (v .script .now) _ (sym ((c .before .before .before .checked2) .given .1) ∙ (c .before .before .before .before .before .check-script) .ensures) in
-    (q .0, rw (← q .1) ((c .before .if2) .left))
+    let v = c .before .before .before .before .before .before .before .before .before .before .args in
+    let checked = c .before .before .before .checked2 .given .1 in
+    let q = was-lines (v .script .now) _ (sym checked ∙ c .before .before .before .before .before .check-script .ensures) in
+    (q .0, rw (← q .1) (c .before .if2 .left))
 
--- src/host.rt:55:13
 put-block-requires-3 : tie.Need-put-block-requires-3
 put-block-requires-3 c κs = search needs
 
--- src/host.rt:56:13
 same-length-3 : tie.Need-same-length-3
 same-length-3 c = search needs
 
--- src/host.rt:56:13
 same-length-4 : tie.Need-same-length-4
 same-length-4 c = search needs
 
--- src/host.rt:56:13
 returns-4 : tie.Need-returns-4
 returns-4 c =
-    let v = (c .before .before .before .before .before .before .before .before .before .before .before .before .before .before .before .before .before .args) in
-    let q = sym ((c .before .before .before .before .before .before .before .before .before .before .checked2) .given .1) ∙ (c .before .before .before .before .before .before .before .before .before .before .before .before .check-script) .ensures in
-    (index-built (v .script .now) (v .index .now) (v .answer .now) ((c .before .before .before .before .before .before .before .before .before .before .before .before .before .if1) .left) _ _ q _ ((c .before .before .before .before .before .before .before .before .if2) .left) ((c .before .before .before .before .before .before .put-starts) .ensures) ((c .before .before .put-block3) .ensures), line-theorems (v .script .now))
+    let v = c .before .before .before .before .before .before .before .before .before .before .before .before .before .before .before .before .before .args in
+    let size = c .before .before .before .before .before .before .before .before .before .before .before .before .before .if1 .left in
+    let checked = c .before .before .before .before .before .before .before .before .before .before .checked2 .given .1 in
+    let q = sym checked ∙ c .before .before .before .before .before .before .before .before .before .before .before .before .check-script .ensures in
+    let fits = c .before .before .before .before .before .before .before .before .if2 .left in
+    let built = c .before .before .before .before .before .before .put-starts .ensures in
+    let block = c .before .before .put-block3 .ensures in
+    (index-built (v .script .now) (v .index .now) (v .answer .now) size _ _ q _ fits built block, line-theorems (v .script .now))
 
 pub index-lines-spec : {M : Type 1} → statement M
 index-lines-spec =

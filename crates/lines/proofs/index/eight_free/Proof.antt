@@ -1,5 +1,4 @@
 -- `lines::index::eight_free` meets its contract.
-use mathlib.Core.Path.{_∙_}
 use borrow.Author.Needs.{needs}
 use Rattle.lines.proofs.index.Laws.{no-lf-join}
 use Rattle.lines.proofs.index.eight_free.Statement.{statement}

@@ -1,20 +1,16 @@
 -- `lines::index::put_starts` meets its contract: the loop keeps that behind the first line's start the starts behind the LFs passed are stored.
 use Prim.Native.Nat.{ℕ, _≤_, _+_, _-_}
-use mathlib.Core.Path.{_≡_, refl, sym, _∙_, ap}
+use mathlib.Core.Path.{_≡_, sym, _∙_, ap}
 use mathlib.Core.Logic.{⊎-elim}
-use mathlib.Core.List.{List, _++_}
+use mathlib.Core.List.{List}
 use lib.ListN.{length, set, length-set}
 use lib.Seq.{sets, length-sets}
 use native.Mathlib.Omega.{arith}
 use borrow.Author.Tests.{not-false}
-use Rattle.lines.specs.computed.Lines.{part, startsIn, lineCount}
-use Rattle.lines.proofs.index.Laws.{starts-none, starts-count, starts-most, starts-stored, starts-free, starts-front, starts-fit, lines-all}
+use Rattle.lines.specs.computed.Lines.{part, startsIn}
+use Rattle.lines.proofs.index.Laws.{starts-none, starts-sum, starts-stored, starts-free, starts-front, starts-fit, lines-all}
 use Rattle.lines.proofs.index.put_starts.Statement.{statement}
 use Rattle.lines.proofs.index.put_starts.Tie as tie
-use Rattle.lines.proofs.index.put_starts.Reads as reads
-use Rattle.lines.proofs.index.put_starts.Lts as lts
-use Rattle.lines.proofs.index.eight_free.Reads as eight-free-reads
-use Rattle.lines.proofs.index.put_each.Reads as put-each-reads
 
 abbrev Inv-loop : tie.InvT-loop
 Inv-loop index₀ s k₀ i₀ index k i =
@@ -66,7 +62,7 @@ loop-again : tie.Need-loop-again Inv-loop μ-loop
 loop-again c =
     let l = c .before .before .before .loop in
     let v = c .before .before .before .before .before .before .args in
-    let m = starts-most (v .s .now) 0 (l .i) (l .i + 8) (omega arith) (omega arith) (omega arith) in
+    let m = starts-sum (v .s .now) 0 (l .i) (l .i + 8) (omega arith) (omega arith) (omega arith) in
     let on = starts-stored (v .s .now) (set (v .index .now) 0 0) (l .index) 1 0 (l .i) (l .i + 8) (l .k) (omega arith) (omega arith) (omega arith) (l .inv .2) (l .inv .1) in
     ⊎-elim
     (λ w. (omega arith, w .6 ∙ omega (arith, w .2 .ensures .0, l .inv .1), w .5 ∙ w .2 .ensures .1 ∙ on))

@@ -1,6 +1,5 @@
 -- `lines::index::two_free` meets its contract.
 use borrow.Author.Needs.{needs}
-use native.Mathlib.Omega.{arith}
 use Rattle.lines.proofs.index.Laws.{no-lf-two}
 use Rattle.lines.proofs.index.two_free.Statement.{statement}
 use Rattle.lines.proofs.index.two_free.Tie as tie
