@@ -118,12 +118,13 @@ uint32_t ergo_index_lines(const uint8_t *script, size_t n, uint32_t *index, size
  *     at ERGO_ANSWER_AT_LINE    the line, for 0
  *     at ERGO_ANSWER_AT_COLUMN  the column, for 0
  *
- * and 0 where nothing is to be said: on a refusal everything behind the place, the number of lines at 26 too. With any other k the answer is 20
- * and the block keeps its values. The order is 20, 17, 18, 25, 26.
+ * and 0 where nothing is to be said: on a refusal everything behind the place is 0, also at 26. With any other k the answer is 20 and the block
+ * keeps its values. The order is 20, 17, 18, 25, 26. To show the place of an 18, ask over the bytes before it, n being that place: they are UTF-8,
+ * and their end has the same line and column.
  *
  * Only the first numbers of the index are looked at, as many as the script has lines; the others may be anything. Over other numbers than the
- * script's own starts a query still ends, with some line from 1 to the number of lines and some column of at least 1: nothing tells the host
- * that they are others. So build the index again whenever the script changes.
+ * script's own starts a query still ends, with some line from 1 to the number of lines and some column from 1 to one more than the place:
+ * nothing tells the host that they are others. So build the index again whenever the script changes.
  *
  * The m numbers must be readable, and aligned as uint32_t is; m = 0 may come with any pointer, NULL included. Of the other pointers the same is
  * asked as by ergo_tokenize, and the block may overlap neither script nor index. */

@@ -348,7 +348,7 @@ fn other_numbers() {
                 let [number, at, line, column] = answer;
                 assert_eq!((number, at), (0, 0), "{script:?} at {place}, {index:?}");
                 assert!((1..=lines as u32).contains(&line), "{script:?} at {place}, {index:?}: {line}");
-                assert!(column >= 1, "{script:?} at {place}, {index:?}");
+                assert!((1..=place as u32 + 1).contains(&column), "{script:?} at {place}, {index:?}: {column}");
                 assert_eq!(asked(script.as_bytes(), &more, place as u32), answer);
                 others += usize::from(Some((line, column)) != *position);
             }
