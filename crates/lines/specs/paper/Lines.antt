@@ -12,7 +12,7 @@ use Rattle.entry.specs.paper.TokenText.{insideCharacter}
 -- "LF and CR LF end a line everywhere, also inside strings": wherever a line end stands (`LineEnd`, LF or CR LF), whatever piece it is in. A CR alone
 -- ends none.
 
--- with no line end does the text begin
+-- the text begins with no line end
 abbrev pub NoLineEnd : Text → Type 0
 NoLineEnd s = (r : Text) → LineEnd s r → ⊥
 
