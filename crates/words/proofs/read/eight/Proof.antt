@@ -16,17 +16,17 @@ add-four c = search rules
 four-requires-2 : tie.Need-four-requires-2
 four-requires-2 c κs = search rules
 
-mul-result : tie.Need-overflow-mul-result
+mul-result : tie.Need-overflow_mul-result
 mul-result c = search rules
 
-add-result : tie.Need-overflow-add-result
+add-result : tie.Need-overflow_add-result
 add-result c = search rules
 
 returns : tie.Need-returns
 unfolding eightAt
 returns c =
     let low = c.before.four.ensures in
-    let high = c.four2.ensures in
+    let high = c.four-2.ensures in
     (omega (arith, low, high), (omega (arith, low, high), joins))
 
 pub eight-spec : {M : Type 1} → statement M

@@ -15,15 +15,15 @@ add-two c = search rules
 two-requires-2 : tie.Need-two-requires-2
 two-requires-2 c κs = search rules
 
-mul-result : tie.Need-overflow-mul-result
+mul-result : tie.Need-overflow_mul-result
 mul-result c = search rules
 
-add-result : tie.Need-overflow-add-result
+add-result : tie.Need-overflow_add-result
 add-result c = search rules
 
 returns : tie.Need-returns
 unfolding fourAt
-returns c = omega (arith, c.two2.ensures, c.before.two.ensures)
+returns c = omega (arith, c.two-2.ensures, c.before.two.ensures)
 
 pub four-spec : {M : Type 1} → statement M
 four-spec = tie.close (tie.spec two-requires add-two two-requires-2 mul-result add-result returns)

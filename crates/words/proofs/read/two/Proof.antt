@@ -15,15 +15,15 @@ add-one c = search rules
 one-requires-2 : tie.Need-one-requires-2
 one-requires-2 c κs = search rules
 
-mul-result : tie.Need-overflow-mul-result
+mul-result : tie.Need-overflow_mul-result
 mul-result c = search rules
 
-add-result : tie.Need-overflow-add-result
+add-result : tie.Need-overflow_add-result
 add-result c = search rules
 
 returns : tie.Need-returns
 unfolding twoAt
-returns c = omega (arith, c.one2.ensures, c.before.one.ensures)
+returns c = omega (arith, c.one-2.ensures, c.before.one.ensures)
 
 pub two-spec : {M : Type 1} → statement M
 two-spec = tie.close (tie.spec one-requires add-one one-requires-2 mul-result add-result returns)

@@ -28,7 +28,7 @@ slice-write-out c =
     let loop' = c.before.before.loop in
     omega (arith, pre'.0, loop'.invariant.1)
 
-add-i : tie.Need-overflow-add-i invariant-loop decreases-loop
+add-i : tie.Need-overflow_add-i invariant-loop decreases-loop
 add-i c =
     let pre' = c.before.before.before.requires in
     omega (arith, pre'.1)

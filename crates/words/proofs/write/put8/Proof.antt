@@ -17,7 +17,7 @@ same_length : tie.Need-same-length
 same_length c = search rules
 
 returns : tie.Need-returns
-returns c = put-eight _ _ _ _ _ c.before.before.before.before.before.before.put4.ensures c.before.before.put42.ensures
+returns c = put-eight _ _ _ _ _ c.before.before.before.before.before.before.put4.ensures c.before.before.put4-2.ensures
 
 pub put8-spec : {M : Type 1} → statement M
 put8-spec = tie.close (tie.spec put4-requires add-put4 put4-requires-2 same_length returns)

@@ -34,7 +34,7 @@ returns c =
     let third = fourth.before.before.before.before in
     let second = third.before.before.before.before in
     let first = second.before.before.before.before in
-    put-four-numbers _ _ _ _ _ _ _ _ _ _ first.put4.ensures second.put42.ensures third.put43.ensures fourth.put44.ensures
+    put-four-numbers _ _ _ _ _ _ _ _ _ _ first.put4.ensures second.put4-2.ensures third.put4-3.ensures fourth.put4-4.ensures
 
 pub put-numbers-spec : {M : Type 1} → statement M
 put-numbers-spec =
