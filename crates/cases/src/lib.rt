@@ -1,4 +1,6 @@
 // Lists of cases with the answers that are to be given again: what the programs that replay them share. Numbers are four bytes each, little-endian.
+#![tactic(auto)]
+
 ghost use Rattle.std.specs.Prelude.{◌≡◌, true, ◌↔◌, ◌+◌, ◌≤◌, length};
 ghost use Rattle.cases.specs.Cases.{zeros, Listed};
 

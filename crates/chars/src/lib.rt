@@ -1,4 +1,6 @@
 // Bytes into characters, and the classes of a character: document 01, "Bytes into characters" and "Character classes".
+#![tactic(auto)]
+
 pub mod tables; // range tables of Unicode 16.0
 pub mod utf8; // one character at a byte offset; the longest valid prefix
 pub mod runs; // bytes of a range, or other than four, eight by one test

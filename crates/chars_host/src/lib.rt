@@ -1,5 +1,7 @@
 // The functions of crates/chars for hosts written in C or Rust, and for the comparisons of compare/utf8. `rt staticlib chars_host` makes the
 // library, target/staticlib/libchars_host.a. A slice is passed as a pointer and a length.
+#![tactic(auto)]
+
 ghost use Rattle.std.specs.Prelude.{◌≡◌, cond, ◌≤◌};
 ghost use Rattle.chars.specs.computed.Valid.{validPrefix};
 ghost use Rattle.chars.specs.code.Utf8.{decodeAt};

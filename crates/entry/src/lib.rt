@@ -1,4 +1,6 @@
 // What hosts call: the length limit, the order of refusals, the answer block, token text. Document 01, "Host entry and text". The crate `ergo`
 // exports these functions.
+#![tactic(auto)]
+
 pub mod host; // a script in, its records and the answer block out
 pub mod text; // token text

@@ -1,5 +1,7 @@
 // Every function that hosts call, for C and Rust to link, and nothing else: each is one call, with its callee's contract. `include/ergo_token.h`
 // declares them.
+#![tactic(auto)]
+
 ghost use Rattle.std.specs.Prelude.{◌≡◌};
 ghost use Rattle.words.specs.Words.{told};
 ghost use Rattle.entry.specs.paper.Host.{seen};

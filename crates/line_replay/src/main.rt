@@ -14,6 +14,8 @@
 //
 // A case agrees when the list holds all of it, it lends at most 512 numbers, ergo_index_lines hands back the number that its block begins with and
 // leaves block and lent numbers as they are listed, and ergo_line_column, over the lent numbers as they are then, does so with each place's block.
+#![tactic(auto)]
+
 ghost use Rattle.std.specs.Prelude.{◌≡◌, true, ◌↔◌, ◌+◌, ◌*◌, ◌≤◌, ◌<◌, length};
 ghost use Rattle.entry.specs.paper.Host.{bufferSeen};
 ghost use Rattle.cases.specs.Cases.{Replays};

@@ -2,6 +2,8 @@
 // and holds what it prints to `stdout`; `compare/tokenize FOLDER --listing` wrote both, the listings by the published tokenize alone.
 //
 // Standard input holds cases, one directly after the other. A case is four decimal digits, the script's length, a line feed, and the script.
+#![tactic(auto)]
+
 ghost use Rattle.std.specs.Prelude.{◌≡◌, length, ◌+◌, ◌<◌, ◌≤◌};
 ghost use Rattle.listing_cases.specs.Cases.{digit as digitOf, scriptLength, caseEnd, casePlace, case_of, case_count};
 ghost use Rattle.std.proofs.lemmas.List.Edits.{sets};

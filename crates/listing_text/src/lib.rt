@@ -1,4 +1,6 @@
 // The text of the listing program. Document 01, "Host entry and text".
+#![tactic(auto)]
+
 mod fields;
 mod lines;
 mod puts;

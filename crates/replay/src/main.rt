@@ -11,6 +11,8 @@
 //
 // A case agrees when the list holds all of it, it lends at most 4,096 bytes, ergo_tokenize hands back the number, the block is the one listed, the
 // records stand in the lent bytes, and every other lent byte is as it was.
+#![tactic(auto)]
+
 ghost use Rattle.std.specs.Prelude.{◌≡◌, true, ◌↔◌, ◌+◌, ◌≤◌, ◌<◌, length};
 ghost use Rattle.entry.specs.paper.Host.{bufferSeen};
 ghost use Rattle.cases.specs.Cases.{untouched, Replays};

@@ -11,6 +11,8 @@
 //
 // A case agrees when ergo_read_roll hands back the number that the roll's block begins with and fills the block as it is listed, and
 // ergo_read_record does so for each record.
+#![tactic(auto)]
+
 ghost use Rattle.std.specs.Prelude.{◌≡◌, true, ◌↔◌, ◌+◌, ◌*◌, ◌≤◌, ◌<◌, length};
 ghost use Rattle.cases.specs.Cases.{Replays};
 ghost use Rattle.roll_replay.specs.Cases.{RollAgrees, RecordAgrees, RecordsAgree, CaseAgrees, next_at};

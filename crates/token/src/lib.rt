@@ -1,4 +1,6 @@
 // From script bytes to token records: document 01, "Piece table" to "Records".
+#![tactic(auto)]
+
 pub mod kinds; // keywords and token kinds, their record numbers and lengths
 mod cursor; // a place in a script, and what stands there
 mod piece; // what reading one piece answers
