@@ -12,7 +12,7 @@ use borrow.Author.Tests.{eqb-true, eqb-false}
 use Rattle.chars.specs.paper.Quoted.{between}
 use Rattle.chars.proofs.theorems.Promises.{code_laws}
 use Rattle.lines.specs.computed.Lines.{part, countIn}
-open code_laws use {Between-in, between-out}
+open code_laws use {between_in, between-out}
 
 -- ---- parts
 
@@ -56,7 +56,7 @@ pub between-lf : (b : ℕ) → between 0x0A 0x0A b ≡ eqb b 0x0A
 between-lf b = go (eqb b 0x0A) refl
   where
     go : (t : Bool) → eqb b 0x0A ≡ t → between 0x0A 0x0A b ≡ t
-    go true e = let z = eqb-true b 0x0A e in Between-in 0x0A 0x0A b (omega arith) (omega arith)
+    go true e = let z = eqb-true b 0x0A e in between_in 0x0A 0x0A b (omega arith) (omega arith)
     go false e = between-out 0x0A 0x0A b (λ l. let z = eqb-false b 0x0A e in omega arith)
 
 module _ (low high : ℕ) where

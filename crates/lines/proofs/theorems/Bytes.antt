@@ -15,7 +15,7 @@ use Rattle.chars.specs.code.Runs.{Each, AllIn}
 use Rattle.chars.proofs.theorems.Promises.{code_laws}
 use Rattle.lines.specs.computed.Lines.{part, countIn, startsIn, columnFrom, lfsBefore, line_at, columnAt, columnSince}
 use Rattle.lines.proofs.count.Laws.{between-lf, part_join, part-front, part_length, count-append, count-one, count_most}
-open code_laws use {Between-in, between-out}
+open code_laws use {between_in, between-out}
 
 -- no LF stands from the place i to the place j
 abbrev pub Unbroken : List ℕ → ℕ → ℕ → Type 0
@@ -114,7 +114,7 @@ module _ (s : List ℕ) where
   pub past-tail : (i : ℕ) → i < length s → 0x80 ≤ get_or s i 0 → get_or s i 0 ≤ 0xBF → (line_at s (i + 1) ≡ line_at s i) × (columnAt s (i + 1) ≡ columnAt s i)
   past-tail i h l m =
       let z = ne_eqb (get_or s i 0) 0x0A (λ e. omega arith) in
-      (line-next i h ∙ rw (z, add-zero), column-next i h ∙ rw (z, Between-in 0x80 0xBF (get_or s i 0) l m))
+      (line-next i h ∙ rw (z, add-zero), column-next i h ∙ rw (z, between_in 0x80 0xBF (get_or s i 0) l m))
 
   -- every other byte a column
   pub past-other : (i : ℕ) → i < length s → (get_or s i 0 ≡ 0x0A → ⊥) → (0x80 ≤ get_or s i 0 → 0xBF < get_or s i 0)

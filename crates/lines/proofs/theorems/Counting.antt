@@ -20,7 +20,7 @@ use Rattle.lines.specs.paper.Lines.{Counts, Position, GoodPlace}
 use Rattle.lines.specs.computed.Lines.{countIn, columnFrom, lfsBefore, line_at, columnAt}
 use Rattle.lines.proofs.theorems.Bytes.{past-lf, past-other, past-tails}
 use Rattle.lines.proofs.theorems.LineEnds.{in-script, begins-lf, lf-ends, ends_at}
-open code_laws use {Between-in, between-out}
+open code_laws use {between_in, between-out}
 open text-laws use {at-char, next-on, at-end, place-from, ascii-next, wide-tail}
 open valid-laws use {next-valid}
 
@@ -121,7 +121,7 @@ module _ (s : List ℕ) where
           let m = ltb-true a (charEnd s i) e in
           let w = wide-tail s i h a l m in
           let y = lt-ltb a (length s) (omega arith) in
-          let z = Between-in 0x80 0xBF (get_or s a 0) w.0 w.1 in
+          let z = between_in 0x80 0xBF (get_or s a 0) w.0 w.1 in
           clash (sym g.outside ∙ rw (y, z))
 
   -- behind one more character

@@ -26,7 +26,7 @@ use Rattle.token.specs.declared.digits.Value.TheVariants as value
 use Rattle.token.proofs.Base.{zero_one}
 use Rattle.token.proofs.cursor.Bytes.{any-byte, ascii-list, inside, past, two_bytes}
 use Rattle.token.proofs.theorems.Numbers.{valueAfter, digitsOf, read_is}
-open code_laws use {Between-in, between-out, in_between, not-between}
+open code_laws use {between_in, between-out, in_between, not-between}
 open text-laws use {head_byte, at_ascii, at-end, place-from}
 
 -- ---- the digits of a base
@@ -38,7 +38,7 @@ module _ (base b : ℕ) where
 
   pub digit_low : 0x30 ≤ b → b ≤ 0x39 → digitIn base b ≡ true
   unfolding isDigit
-  digit_low h k = kinds true false false (Between-in 0x30 0x39 b h k) (between-out 0x41 0x46 b (λ l. omega arith)) (between-out 0x61 0x66 b (λ l. omega arith)) ∙ go (eqb base 16)
+  digit_low h k = kinds true false false (between_in 0x30 0x39 b h k) (between-out 0x41 0x46 b (λ l. omega arith)) (between-out 0x61 0x66 b (λ l. omega arith)) ∙ go (eqb base 16)
     where
       go : (t : Bool) → cond t true true ≡ true
       go true = refl
@@ -50,11 +50,11 @@ module _ (base b : ℕ) where
 
   pub digit-upper : 0x41 ≤ b → b ≤ 0x46 → digitIn base b ≡ eqb base 16
   unfolding isDigit
-  digit-upper h k = kinds false true false (between-out 0x30 0x39 b (λ l. omega arith)) (Between-in 0x41 0x46 b h k) (between-out 0x61 0x66 b (λ l. omega arith)) ∙ letter (eqb base 16)
+  digit-upper h k = kinds false true false (between-out 0x30 0x39 b (λ l. omega arith)) (between_in 0x41 0x46 b h k) (between-out 0x61 0x66 b (λ l. omega arith)) ∙ letter (eqb base 16)
 
   pub digit-lower : 0x61 ≤ b → b ≤ 0x66 → digitIn base b ≡ eqb base 16
   unfolding isDigit
-  digit-lower h k = kinds false false true (between-out 0x30 0x39 b (λ l. omega arith)) (between-out 0x41 0x46 b (λ l. omega arith)) (Between-in 0x61 0x66 b h k) ∙ letter (eqb base 16)
+  digit-lower h k = kinds false false true (between-out 0x30 0x39 b (λ l. omega arith)) (between-out 0x41 0x46 b (λ l. omega arith)) (between_in 0x61 0x66 b h k) ∙ letter (eqb base 16)
 
   pub no_digit : (0x30 ≤ b → 0x39 < b) → (0x41 ≤ b → 0x46 < b) → (0x61 ≤ b → 0x66 < b) → digitIn base b ≡ false
   unfolding isDigit

@@ -42,7 +42,7 @@ use Rattle.token.proofs.theorems.Dispatch.{Fact, start-fact, clear, clear-head, 
 use Rattle.token.proofs.cursor.Bytes.{any-byte}
 use Rattle.token.proofs.lexer.Seeks.{gap-strict, seek-line, seek-block, seek-end, seek-token, seek-stuck, left_at}
 use Rattle.token.proofs.theorems.Shorter.{Strict}
-open code_laws use {carry, no_member, Between-in, between-out}
+open code_laws use {carry, no_member, between_in, between-out}
 open text-laws use {head_byte, at-char, at-end, at_ascii, place-from, next-on}
 
 -- ---- digits
@@ -152,7 +152,7 @@ no-digit-byte b h = between-out 0x30 0x39 b h
 
 pub is-digit-byte : (b : ℕ) → 0x30 ≤ b → b ≤ 0x39 → isDigit b ≡ true
 unfolding isDigit
-is-digit-byte b h k = Between-in 0x30 0x39 b h k
+is-digit-byte b h k = between_in 0x30 0x39 b h k
 
 pub wordless-none : (s : List ℕ) (i : ℕ) → keyed (get_or s i 0) ≡ false → isDigit (get_or s i 0) ≡ false → isAny " \t\n\r" (from s i) ≡ false → isAny wordless (from s i) ≡ false
 unfolding isDigit

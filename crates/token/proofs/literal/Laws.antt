@@ -32,7 +32,7 @@ use Rattle.token.proofs.cursor.Bytes.{any-byte, ascii-list}
 use Rattle.token.proofs.digits.Laws.{digits-ascii, class-at, digit_value, digit-under, digit-stops, base-some, read_next, read-stop, hex-bytes, hex-number, dec-number, long-piece, int-piece}
 use Rattle.token.proofs.lexer.Laws.{number_at}
 use Rattle.token.proofs.theorems.Numbers.{valueAfter, digitsOf, read_is}
-open code_laws use {carry-not, carry-span, no_member, in_between, Between-in, between-out}
+open code_laws use {carry-not, carry-span, no_member, in_between, between_in, between-out}
 open text-laws use {place-from, run-place}
 
 -- ---- the lesser of two
@@ -95,7 +95,7 @@ module _ (s : List ℕ) (i b : ℕ) (e : b ≡ get_or s i 0) where
       let n = or-neither (ltb b 0x30) (ltb 0x39 b) q in
       let k = ltb-false b 0x30 n.0 in
       let l = ltb-false 0x39 b n.1 in
-      let d = Between-in 0x30 0x39 (get_or s i 0) (omega arith) (omega arith) in
+      let d = between_in 0x30 0x39 (get_or s i 0) (omega arith) (omega arith) in
       record { digit = d; value = ap (λ x. x % 16) e ∙ low_value (get_or s i 0) d }
 
   pub dec-stops : ltb b 0x30 || ltb 0x39 b ≡ true → digitIn 10 (get_or s i 0) ≡ false

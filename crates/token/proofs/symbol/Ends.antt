@@ -15,7 +15,7 @@ use Rattle.token.specs.code.Quoted.{codedEnd, escapeEnd}
 use Rattle.token.specs.code.Symbol.{plain_byte, endsChar, closedChar, escapedCharEnd, behindTick, operatorSymbolEnd, nameSymbolEnd, semiBefore, semiEnd, charSymBy, charSymEnd}
 use Rattle.token.specs.declared.names.Here.{Here}
 use Rattle.token.proofs.names.Bytes.{class-inside}
-open code_laws use {Between-in, between-out}
+open code_laws use {between_in, between-out}
 
 -- ---- a character that stands for itself
 
@@ -27,7 +27,7 @@ module _ (b : ℕ) where
   plain-above h = sym (ap (λ z. z && not (eqb b 0x5C)) (between-out 0x20 0x7E b (λ l. h)))
 
   pub plain-within : 0x20 ≤ b → b ≤ 0x7E → not (eqb b 0x5C) ≡ plain_byte b
-  plain-within h k = sym (ap (λ z. z && not (eqb b 0x5C)) (Between-in 0x20 0x7E b h k))
+  plain-within h k = sym (ap (λ z. z && not (eqb b 0x5C)) (between_in 0x20 0x7E b h k))
 
 module _ (s : List ℕ) (at a x : ℕ) (q : x ≡ get_or s (at + 2) 0) where
   pub char-unclosed : (x ≡ 0x27 → ⊥) → false ≡ endsChar s at a

@@ -251,7 +251,7 @@ newline-other : (mark : Bool) → tk.Newline mark ≡ tk.Eof → ⊥
 newline-other mark e = let z = ap kindNumber e in omega arith
 
 module _ (script : List ℕ) where
-  tokens-bounded : {gap ps : List Piece} {ts : List Token} {s r : Text} → ScriptText script s → Rising (length script) s
+  tokens-bounded : {ps : List Piece} {ts : List Token} {s r : Text} {gap : List Piece} → ScriptText script s → Rising (length script) s
       → Pieces (length script) s ps r → Tokens script gap ps ts → AllBounded (length script) ts
   tokens-bounded t h Pieces.done (Tokens.eof c) = (record { start = omega arith; end = omega arith; values = tt }, tt)
   tokens-bounded t h (Pieces.piece {k} {s} {m} w v) (Tokens.skip o x) =
@@ -273,7 +273,7 @@ module _ (script : List ℕ) where
   all-bounded ts h = tokens-bounded (0, refl) (script-rising script) h.reading h.tokens
 
   -- a text from p or past it has its tokens in order, from p on
-  tokens-in-order : {gap ps : List Piece} {ts : List Token} {s r : Text} (p : ℕ) → p ≤ place (length script) s → Rising (length script) s
+  tokens-in-order : {ps : List Piece} {ts : List Token} {s r : Text} {gap : List Piece} (p : ℕ) → p ≤ place (length script) s → Rising (length script) s
       → Pieces (length script) s ps r → Tokens script gap ps ts → InOrder p ts
   tokens-in-order {s = s} p l h Pieces.done (Tokens.eof c) = let a = rising-most (length script) s h in (omega arith, tt)
   tokens-in-order p l h (Pieces.piece {k} {s} {m} w v) (Tokens.skip o x) =
