@@ -22,8 +22,8 @@ Lent = Bor (List ℕ)
 -- "As a part": no copy. It points into the script's own block, as many bytes past where the script begins as start says, and has the bytes from
 -- there to end.
 pub record PartOf (script : Lent) (a e : ℕ) (part : Lent) : Type 0 where
-  pub memory : part.ptr.0 ≡ script.ptr.0
-  pub offset : part.ptr.1 ≡ script.ptr.1 + a
+  pub memory : part.ref_ptr.0 ≡ script.ref_ptr.0
+  pub offset : part.ref_ptr.1 ≡ script.ref_ptr.1 + a
   pub bytes : part.now ≡ take (e - a) (drop a script.now)
 
 -- Token text is the script's bytes from start to end, as a part; at 21 the empty part at 0.

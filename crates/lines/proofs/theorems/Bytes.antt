@@ -55,7 +55,7 @@ module _ (s : List ℕ) where
 pub column-append : (c : ℕ) (x y : List ℕ) → columnFrom c (x ++ y) ≡ columnFrom (columnFrom c x) y
 unfolding columnFrom
 column-append c [] y = refl
-column-append c (b ∷ x) y = column-append _ x y
+column-append c (b ∷ x) y = column-append (cond (eqb b 0x0A) 1 (cond (between 0x80 0xBF b) c (suc c))) x y
 
 -- without LF each byte is a column but those 0x80 to 0xBF
 pub column-plain : (c : ℕ) (x : List ℕ) → countIn 0x0A 0x0A x ≡ 0 → columnFrom c x ≡ c + (length x - countIn 0x80 0xBF x)
