@@ -3,11 +3,13 @@ use Prim.Native.Nat.{ℕ, zero, suc, ◌+◌, ◌≤◌, ◌<◌}
 use mathlib.Core.Path.{◌≡◌, refl, ◌∙◌, ap}
 use mathlib.Core.Bool.{Bool, true, false, cond, not, ◌&&◌}
 use mathlib.Core.List.{List}
+use mathlib.Core.Logic.{◌⊎◌, inl, inr}
 use lib.ListN.{length, get_or}
 use lib.Dec.{eqb, leb, ltb}
 use native.Mathlib.Omega.{arith}
 use borrow.Author.Tests.{leb-true, ltb-true, ltb-false, eqb-false, not-true}
 use Rattle.chars.specs.code.Runs.{Each, stepsIn, stepsOver, fourBy, eightBy, sixteenBy, thirtyTwoBy, Within, AllIn, twoIn, eightIn, thirtyTwoIn, Other, andOther, twoNot, eightNot, Neither, twoNeither, eightNeither}
+use Rattle.chars.specs.promises.Runs.{RunLaws}
 use Rattle.chars.proofs.Bools.{and_both}
 
 -- ---- any property
@@ -36,10 +38,10 @@ module _ (P : ℕ → Type 0) (s : List ℕ) where
 
 -- ---- a loop that passes `step` bytes at a time, by a test of them
 
-pub steps-stop : (step : ℕ) (holds : ℕ → Bool) (n i : ℕ) → holds i ≡ false → i ≡ stepsIn n step holds i
+pub steps_stop : (step : ℕ) (holds : ℕ → Bool) (n i : ℕ) → holds i ≡ false → stepsIn n step holds i ≡ i
 unfolding stepsIn
-steps-stop step holds zero i e = refl
-steps-stop step holds (suc n) i e = rw e
+steps_stop step holds zero i e = refl
+steps_stop step holds (suc n) i e = rw e
 
 -- where the test holds, so many bytes stand
 module _ (step : ℕ) (test : List ℕ → ℕ → Bool) (s : List ℕ) (moves : 0 < step) (stand : (i : ℕ) → test s i ≡ true → i + step ≤ length s) where
@@ -71,21 +73,20 @@ pub record Passed (P : ℕ → Type 0) (step : ℕ) (test : List ℕ → ℕ →
   pub each : Each P s a i
   pub same : stepsOver step test s i ≡ stepsOver step test s a
 
-module _ {P : ℕ → Type 0} {step : ℕ} {test : List ℕ → ℕ → Bool} {s : List ℕ} where
-  pub passed_none : (a : ℕ) → Passed P step test s a a
-  passed_none a = record { onward = omega arith; within = λ h. h; each = λ k l m. absurd (omega arith); same = refl }
-
-  pub passed-out : (a i : ℕ) → Passed P step test s a i → test s i ≡ false
-      → (a ≤ i) × (a ≤ length s → i ≤ length s) × Each P s a i × (test s i ≡ false) × (i ≡ stepsOver step test s a)
-  passed-out a i p e = (p.onward, p.within, p.each, e, steps-stop step (test s) (length s) i e ∙ p.same)
+-- one turn at the place i: so many bytes stand there, each has the property, and the loop stops where it did
+pub record Turn (P : ℕ → Type 0) (step : ℕ) (test : List ℕ → ℕ → Bool) (s : List ℕ) (i : ℕ) : Type 0 where
+  pub stand : i + step ≤ length s
+  pub each : Each P s i (i + step)
+  pub same : stepsOver step test s (i + step) ≡ stepsOver step test s i
 
 -- by a test of bytes that each have the property
 module _ (P : ℕ → Type 0) (step : ℕ) (test : List ℕ → ℕ → Bool) (s : List ℕ) (moves : 0 < step) (here : (i : ℕ) → test s i ≡ true → (i + step ≤ length s) × Each P s i (i + step)) where
-  pub passed_on : (a i : ℕ) → Passed P step test s a i → test s i ≡ true → (i + step ≤ length s) × Passed P step test s a (i + step)
-  passed_on a i p e =
-      let h = here i e in
-      let l = p.onward in
-      (h.0, record { onward = omega arith; within = λ m. h.0; each = each-join P s a i (i + step) p.each h.1; same = over-on step test s moves (λ j q. (here j q).0) i e ∙ p.same })
+  turn : (i : ℕ) → (test s i ≡ false) ⊎ Turn P step test s i
+  turn i = go (test s i) refl
+    where
+      go : (x : Bool) → test s i ≡ x → (test s i ≡ false) ⊎ Turn P step test s i
+      go false e = inl e
+      go true e = let h = here i e in inr record { stand = h.0; each = h.1; same = over-on step test s moves (λ j q. (here j q).0) i e }
 
 -- a test of two bytes by which both have it
 module _ (P : ℕ → Type 0) (s : List ℕ) (two : List ℕ → ℕ → Bool) (both : (i : ℕ) → two s i ≡ true → P (get_or s i 0) × P (get_or s (i + 1) 0)) where
@@ -127,18 +128,21 @@ module _ (low high : ℕ) (s : List ℕ) where
   pub eight-all : (i : ℕ) → eightIn low high s i ≡ true → (i + 8 ≤ length s) × AllIn low high s i (i + 8)
   eight-all = eight-each (Within low high) s (twoIn low high) both-in
 
-  -- where `skip_eights` stands, and `skip_long`
+  -- where `skip_eights` stands, and `skip_long`; and their turns
   abbrev pub InEights : ℕ → ℕ → Type 0
   InEights = Passed (Within low high) 8 (eightIn low high) s
 
-  pub all_more : (i j : ℕ) → InEights i j → eightIn low high s j ≡ true → (j + 8 ≤ length s) × InEights i (j + 8)
-  all_more = passed_on (Within low high) 8 (eightIn low high) s (omega arith) eight-all
+  pub eight_turn : (i : ℕ) → (eightIn low high s i ≡ false) ⊎ Turn (Within low high) 8 (eightIn low high) s i
+  eight_turn = turn (Within low high) 8 (eightIn low high) s (omega arith) eight-all
 
   abbrev pub InLong : ℕ → ℕ → Type 0
   InLong = Passed (Within low high) 32 (thirtyTwoIn low high) s
 
-  pub all-long : (i j : ℕ) → InLong i j → thirtyTwoIn low high s j ≡ true → (j + 32 ≤ length s) × InLong i (j + 32)
-  all-long = passed_on (Within low high) 32 (thirtyTwoIn low high) s (omega arith) (thirty-two-each (Within low high) s (twoIn low high) both-in)
+  pub long_turn : (i : ℕ) → (thirtyTwoIn low high s i ≡ false) ⊎ Turn (Within low high) 32 (thirtyTwoIn low high) s i
+  long_turn = turn (Within low high) 32 (thirtyTwoIn low high) s (omega arith) (thirty-two-each (Within low high) s (twoIn low high) both-in)
+
+pub run_laws : RunLaws
+run_laws = record { eight-all = eight-all }
 
 -- ---- bytes that are none of four, or of two
 
@@ -161,12 +165,12 @@ module _ (a b c d : ℕ) where
         let y = and-other (andOther true a b c d (get_or s i 0)) (get_or s (i + 1) 0) e in
         ((and-other true (get_or s i 0) y.0).1, y.1)
 
-    -- where `skip_except_four` stands
+    -- where `skip_except_four` stands, and its turn
     abbrev pub NotEights : ℕ → ℕ → Type 0
     NotEights = Passed (Other a b c d) 8 (eightNot a b c d) s
 
-    pub none_more : (i j : ℕ) → NotEights i j → eightNot a b c d s j ≡ true → (j + 8 ≤ length s) × NotEights i (j + 8)
-    none_more = passed_on (Other a b c d) 8 (eightNot a b c d) s (omega arith) (eight-each (Other a b c d) s (twoNot a b c d) both-not)
+    pub not_turn : (i : ℕ) → (eightNot a b c d s i ≡ false) ⊎ Turn (Other a b c d) 8 (eightNot a b c d) s i
+    not_turn = turn (Other a b c d) 8 (eightNot a b c d) s (omega arith) (eight-each (Other a b c d) s (twoNot a b c d) both-not)
 
 module _ (a b : ℕ) (s : List ℕ) where
   both-neither : (i : ℕ) → twoNeither a b s i ≡ true → Neither a b (get_or s i 0) × Neither a b (get_or s (i + 1) 0)
@@ -179,9 +183,9 @@ module _ (a b : ℕ) (s : List ℕ) where
       let n = and_both (not (eqb x a)) (not (eqb x b)) m.0 in
       ((is-not x a n.0, is-not x b n.1), (is-not y a m.1, is-not y b l.1))
 
-  -- where `skip_except_two` stands
+  -- where `skip_except_two` stands, and its turn
   abbrev pub NeitherEights : ℕ → ℕ → Type 0
   NeitherEights = Passed (Neither a b) 8 (eightNeither a b) s
 
-  pub neither-more : (i j : ℕ) → NeitherEights i j → eightNeither a b s j ≡ true → (j + 8 ≤ length s) × NeitherEights i (j + 8)
-  neither-more = passed_on (Neither a b) 8 (eightNeither a b) s (omega arith) (eight-each (Neither a b) s (twoNeither a b) both-neither)
+  pub neither_turn : (i : ℕ) → (eightNeither a b s i ≡ false) ⊎ Turn (Neither a b) 8 (eightNeither a b) s i
+  neither_turn = turn (Neither a b) 8 (eightNeither a b) s (omega arith) (eight-each (Neither a b) s (twoNeither a b) both-neither)

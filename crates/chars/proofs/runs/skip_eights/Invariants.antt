@@ -1,0 +1,10 @@
+-- Each byte passed lies in the range, and the stop from here on is the stop from the start on.
+use Rattle.std.proofs.Common.{◌-◌, length}
+use Rattle.chars.proofs.runs.Laws.{InEights}
+use Rattle.chars.proofs.runs.skip_eights.Given as goal
+
+abbrev pub invariant-loop-i : goal.invariant-loop-i
+invariant-loop-i l = InEights l.low l.high l.s l.at l.i
+
+abbrev pub decreases-loop-i : goal.decreases-loop-i
+decreases-loop-i l = length l.s - l.i
