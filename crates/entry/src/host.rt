@@ -23,7 +23,7 @@ pub const SHORT_SCRATCH: usize = 2048;
 pub const LONG_SCRATCH: usize = 8192;
 
 // A refusal's number and place; or token count and record bytes, which are more than is lent, or are not.
-#[derive(Drop)]
+#[derive(Clone, Copy)]
 pub enum Judged {
     Refused(u32, usize),
     Short(usize, usize),

@@ -116,7 +116,7 @@ fn agrees(
 }
 
 // Where the next case starts, and whether this one agrees.
-#[derive(Drop)]
+#[derive(Clone, Copy)]
 struct Replayed {
     next: usize,
     agrees: bool,
@@ -161,7 +161,7 @@ fn replay_case(list: &[u8], at: usize) -> Replayed
 }
 
 // How many cases there are, and how many of them do not agree.
-#[derive(Drop)]
+#[derive(Clone, Copy)]
 struct Counts {
     scripts: u64,
     differ: u64,

@@ -13,7 +13,7 @@ use entry::text::has_text;
 use words::write::put_block;
 
 // The number and place of a refusal, or the number of lines.
-#[derive(Drop)]
+#[derive(Clone, Copy)]
 pub enum Checked {
     Refused(u32, usize),
     Lines(usize),

@@ -53,7 +53,7 @@ fn first_value(kind: u64, values: u64) -> u64
 }
 
 // The numbers of a listing's line. Of the values as many count as `count` says.
-#[derive(Drop)]
+#[derive(Clone, Copy)]
 pub struct Line {
     pub kind: u64,
     pub start: u64,

@@ -81,7 +81,7 @@ fn agrees(lent: &mut [u8], list: &[u8], at: usize, script: &[u8], records: &[u8]
 }
 
 // Where the next case starts, and whether this one agrees.
-#[derive(Drop)]
+#[derive(Clone, Copy)]
 struct Replayed {
     next: usize,
     agrees: bool,
@@ -124,7 +124,7 @@ fn replay_case(list: &[u8], at: usize) -> Replayed
 }
 
 // How many cases there are, and how many of them do not agree.
-#[derive(Drop)]
+#[derive(Clone, Copy)]
 struct Counts {
     scripts: u64,
     differ: u64,

@@ -62,7 +62,7 @@ fn records_agree(list: &[u8], roll: &[u8], from: usize, count: usize) -> bool
 }
 
 // Where the next case starts, and whether this one agrees.
-#[derive(Drop)]
+#[derive(Clone, Copy)]
 struct Replayed {
     next: usize,
     agrees: bool,
@@ -98,7 +98,7 @@ fn replay_case(list: &[u8], at: usize) -> Replayed
 }
 
 // How many cases there are, and how many of them do not agree.
-#[derive(Drop)]
+#[derive(Clone, Copy)]
 struct Counts {
     rolls: u64,
     differ: u64,

@@ -7,14 +7,14 @@ use token::form::Held;
 use token::kinds::{Kw, TokenKind};
 
 // A place in a roll: the offset of a record, and where the token before it ends.
-#[derive(Drop)]
+#[derive(Clone, Copy)]
 pub struct RollCursor {
     pub at: usize,
     pub previous: usize,
 }
 
 // A token, by kind with values, start, end and cut, and the cursor behind its record; or the number and place of a refusal.
-#[derive(Drop)]
+#[derive(Clone, Copy)]
 pub enum Yield {
     Token(TokenKind, usize, usize, bool, RollCursor),
     Refused(u32, usize),

@@ -7,7 +7,7 @@ use crate::record::{RollCursor, Yield, read_token};
 use token::kinds::TokenKind;
 
 // How many tokens there are, or number and place of the refusal.
-#[derive(Drop)]
+#[derive(Clone, Copy)]
 pub enum Counted {
     Tokens(usize),
     Refused(u32, usize),

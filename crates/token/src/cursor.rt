@@ -9,13 +9,13 @@ ghost use Rattle.token.specs.code.Cursor.{peek_at};
 use chars::text::Step;
 
 // A byte offset that goes in by value and comes back advanced.
-#[derive(Drop)]
+#[derive(Clone, Copy)]
 pub struct Cursor {
     pub at: usize,
 }
 
 // The character at a cursor with the cursor after it, or the end of script.
-#[derive(Drop)]
+#[derive(Clone, Copy)]
 pub enum Peeked {
     Char(u32, Cursor),
     End,

@@ -11,7 +11,7 @@ use crate::kinds::TokenKind;
 use crate::piece::Piece;
 
 // A value of at most 9223372036854775807, or that it is larger.
-#[derive(Drop)]
+#[derive(Clone, Copy)]
 pub enum Value {
     Of(u64),
     Over,

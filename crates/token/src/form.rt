@@ -168,7 +168,7 @@ pub fn put_long_if(out: &mut [u8], w: usize, start: usize, end: usize, v: u64)
 }
 
 // A record as it stands in bytes.
-#[derive(Drop)]
+#[derive(Clone, Copy)]
 pub struct Held {
     pub number: u64,
     pub length: u64,

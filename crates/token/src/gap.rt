@@ -9,7 +9,7 @@ ghost use Rattle.token.specs.code.Gap.{closedOf, fourOpen, openings, lineEndAfte
 
 use crate::cursor::{Cursor, byte_at, two_at};
 
-#[derive(Drop)]
+#[derive(Clone, Copy)]
 pub struct Gap {
     pub newline: bool, // a line end of the gap came
     pub comment: bool, // a comment came since its last line end
@@ -79,7 +79,7 @@ impl Gap {
 }
 
 // Where a block comment ends, or that it is open at the end of script.
-#[derive(Drop)]
+#[derive(Clone, Copy)]
 pub enum Closed {
     At(Cursor),
     Open,
@@ -109,7 +109,7 @@ fn pair_at(s: &[u8], at: usize) -> u32
 }
 
 // A place inside nested comments, and how many are open there besides the outermost.
-#[derive(Drop)]
+#[derive(Clone, Copy)]
 pub struct Nest {
     pub at: usize,
     pub depth: usize,

@@ -6,7 +6,7 @@ ghost use Rattle.token.specs.code.Form.{form_of, plainForm};
 ghost use Rattle.token.specs.code.Keyword.{keywordBy};
 ghost use Rattle.token.specs.declared.kinds.TokenKind.TheVariants as tk;
 
-#[derive(Drop)]
+#[derive(Clone, Copy)]
 pub enum Kw {
     Case,
     Else,
@@ -24,7 +24,7 @@ pub enum Kw {
     At,
 }
 
-#[derive(Drop)]
+#[derive(Clone, Copy)]
 pub enum TokenKind {
     Ident,
     OpId,
@@ -174,7 +174,7 @@ impl TokenKind {
 }
 
 // What a record has of its kind: the kind's number, the length of the whole record, and the values as one number, the first in the lowest bytes.
-#[derive(Drop)]
+#[derive(Clone, Copy)]
 pub struct Form {
     pub number: u16,
     pub length: u16,
@@ -242,7 +242,7 @@ pub fn bit_of(b: bool) -> u8
 }
 
 // A keyword, or that a kind is none.
-#[derive(Drop)]
+#[derive(Clone, Copy)]
 pub enum Keyword {
     Is(Kw),
     Not,

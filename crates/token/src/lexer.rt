@@ -13,7 +13,7 @@ use crate::piece::Piece;
 
 // What comes next: a token with its start, the cursor after it and its cut; a line end with its start, the cursor after it, its mark and the
 // gap with it; the end of script with its cut; or a refusal's number and place.
-#[derive(Drop)]
+#[derive(Clone, Copy)]
 pub enum Next {
     Token(TokenKind, usize, Cursor, bool),
     LineEnd(usize, Cursor, bool, Gap),
@@ -22,7 +22,7 @@ pub enum Next {
 }
 
 // Past a comment, with the gap so far; or that it is open at the end of script.
-#[derive(Drop)]
+#[derive(Clone, Copy)]
 pub enum Passed {
     To(Cursor, Gap),
     Open,

@@ -12,7 +12,7 @@ use crate::digits::{digit_of, hex_ahead};
 
 // Where a number ends, its value, and whether it is a LongLit. Where the value is above the most of its kind, the number is refused, or not
 // recognised: whoever asks tests that, so that the place of the next token does not wait for the value.
-#[derive(Drop)]
+#[derive(Clone, Copy)]
 pub struct NumberLit {
     pub end: usize,
     pub value: u64,

@@ -9,7 +9,7 @@ use crate::byte_class::{SLASH, WIDE, class_at, class_of, in_run, in_word, is_op}
 use crate::cursor::byte_at;
 
 // A place, and what the byte there is.
-#[derive(Drop)]
+#[derive(Clone, Copy)]
 pub struct Here {
     pub at: usize,
     pub class: u8,

@@ -156,7 +156,7 @@ fn triple_end(s: &[u8], t: &[u8; 256], at: usize) -> usize
 }
 
 // A string from its opening on: where it ends, and how many quotes open it.
-#[derive(Drop)]
+#[derive(Clone, Copy)]
 pub struct Quoted {
     pub end: usize,
     pub quotes: usize,

@@ -17,7 +17,7 @@ use crate::walk::{Walked, walk_pieces};
 use words::write::copy;
 
 // What measuring finds: how many tokens and record bytes, or a refusal's number and place.
-#[derive(Drop)]
+#[derive(Clone, Copy)]
 pub enum Measured {
     Total(usize, usize),
     Refused(u32, usize),
@@ -25,7 +25,7 @@ pub enum Measured {
 
 // Where a walk stands: its place, the gap there, the record bytes before it, and how many of them are values. Every record has a head, so that the
 // tokens need not be counted.
-#[derive(Drop)]
+#[derive(Clone, Copy)]
 pub struct Stand {
     pub at: usize,
     pub gap: Gap,

@@ -14,7 +14,7 @@ use crate::kinds::TokenKind;
 use crate::piece::{Ended, Piece};
 
 // A string's content: where it starts and ends.
-#[derive(Drop)]
+#[derive(Clone, Copy)]
 pub struct Span {
     pub start: usize,
     pub end: usize,

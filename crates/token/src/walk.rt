@@ -39,7 +39,7 @@ const LONG: usize = TokenKind::LONG_LIT_LENGTH as usize;
 // Where a walk stands, while no cut is set and none may come: its place with the class of its byte, the record bytes so far, and how many of them are
 // values. `line` and `mark` are what `bytes` was just behind the last line end and the last comment: these came since the last token exactly if it
 // is so still. So a token changes neither.
-#[derive(Drop)]
+#[derive(Clone, Copy)]
 pub struct Walked {
     pub at: usize,
     pub class: u8,
