@@ -27,6 +27,7 @@ short (row ∷ rows) = leb (length row) 4 && short rows
 row-short : {rows : List (List Range)} {row : List Range} → short rows ≡ true → Row rows row → length row ≤ 4
 row-short {rows = row ∷ rows} e here = leb-true (length row) 4 (and_both (leb (length row) 4) (short rows) e).0
 row-short {rows = other ∷ rows} e (later w) = row-short (and_both (leb (length other) 4) (short rows) e).1 w
+row-short {rows = []} e w = elim w [ ]
 
 pub width-most : (t : List ℕ) → (width t ≤ 4) × (width t ≤ length t)
 width-most t = go (width-found t)
