@@ -115,6 +115,15 @@ module _ {x : Range} {row : List Range} (w : Row table37 (x ∷ row)) (s : List 
 pub rows-stand : (x : Range) (row : List Range) (s : List ℕ) (i : ℕ) → row_at (x ∷ row) s i ≡ true → rowsOver (x ∷ row) s (i + length (x ∷ row)) ≡ rowsOver (x ∷ row) s i
 rows-stand x row s = over-on (length (x ∷ row)) (row_at (x ∷ row)) s (omega arith) (fit-within x row s)
 
+-- where no character of the row stands, its characters end
+pub rows_end : (row : List Range) (s : List ℕ) (i : ℕ) → row_at row s i ≡ false → i ≡ rowsOver row s i
+unfolding stepsIn
+rows_end row s i e = go (length s)
+  where
+    go : (n : ℕ) → i ≡ stepsIn n (length row) (row_at row s) i
+    go zero = refl
+    go (suc n) = rw e
+
 -- ---- ASCII bytes
 
 module _ (s : List ℕ) where

@@ -1,9 +1,7 @@
 -- A character of the row is passed, or the place is where the row's characters end.
-use Rattle.std.proofs.Common.{[], ◌∷◌, length, ◌∙◌, sym}
+use Rattle.std.proofs.Common.{[], ◌∷◌, ◌∙◌, sym}
 use Rattle.chars.specs.paper.Ranges.{◌to◌}
-use Rattle.chars.specs.code.Utf8.{row_at}
-use Rattle.chars.proofs.runs.Laws.{steps-stop}
-use Rattle.chars.proofs.utf8.Widths.{rows-stand}
+use Rattle.chars.proofs.utf8.Widths.{rows-stand, rows_end}
 use Rattle.chars.proofs.utf8.skip_threes.Goals as goal
 
 pub loop-i-preserved : goal.loop-i-preserved
@@ -12,5 +10,4 @@ loop-i-preserved c =
 
 pub returns : goal.returns
 returns c =
-    let s = c.args.s.now in
-    steps-stop 3 (row_at (0xE1 to 0xEC ∷ 0x80 to 0xBF ∷ 0x80 to 0xBF ∷ []) s) (length s) _ (sym c.loop-i-test.ensures) ∙ c.loop-i.invariant
+    rows_end (0xE1 to 0xEC ∷ 0x80 to 0xBF ∷ 0x80 to 0xBF ∷ []) c.args.s.now c.loop-i.i (sym c.loop-i-test.ensures) ∙ c.loop-i.invariant
