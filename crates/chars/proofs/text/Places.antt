@@ -2,7 +2,7 @@
 use Prim.Native.Nat.{ℕ, zero, suc, ◌+◌, ◌-◌, ◌≤◌, ◌<◌}
 use mathlib.Core.Path.{◌≡◌, refl, sym, ◌∙◌, ap}
 use mathlib.Core.Bool.{Bool, true, false, cond}
-use mathlib.Core.Logic.{◌⊎◌, ⊎_elim}
+use mathlib.Core.Logic.{⊎_elim}
 use mathlib.Core.List.{List, [], ◌∷◌}
 use lib.ListN.{length, drop, get_or, length-drop, drop_of_length-le, get_or-eq_default}
 use lib.Seq.{drop-drop, get_or-drop}
@@ -11,7 +11,7 @@ use native.Mathlib.Nat.{add-zero}
 use native.Mathlib.Omega.{arith}
 use borrow.Author.Tests.{ltb-true, ltb-false}
 use Rattle.chars.specs.paper.Utf8.{WellFormed, width, code_of}
-use Rattle.chars.specs.paper.Text.{Char, Text, charsAt, from, place, headIs}
+use Rattle.chars.specs.paper.Text.{Text, charsAt, from, place, headIs}
 use Rattle.chars.specs.code.Text.{code_at, charEnd, stepAt}
 use Rattle.chars.specs.promises.Texts.{AsciiClass, PastWide}
 use Rattle.chars.specs.computed.Runs.{afterRun}

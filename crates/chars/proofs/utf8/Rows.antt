@@ -16,14 +16,6 @@ use Rattle.chars.specs.paper.Utf8.{fits, width}
 pub here : (s : List ℕ) (i : ℕ) → i < length s → drop i s ≡ get_or s i 0 ∷ drop (i + 1) s
 here s i h = rw add-one (drop-cons s i 0 h)
 
--- three of them
-pub here-three : (s : List ℕ) (i : ℕ) → i + 3 ≤ length s → drop i s ≡ get_or s i 0 ∷ get_or s (i + 1) 0 ∷ get_or s (i + 2) 0 ∷ drop (i + 3) s
-here-three s i h =
-    let y : i + 1 + 1 ≡ i + 2 = omega arith in
-    let z : i + 2 + 1 ≡ i + 3 = omega arith in
-    here s i (omega arith)
-    ∙ ap (λ t. get_or s i 0 ∷ t) (here s (i + 1) (omega arith) ∙ ap (λ t. get_or s (i + 1) 0 ∷ t) (ap (λ j. drop j s) y ∙ here s (i + 2) (omega arith) ∙ ap (λ j. get_or s (i + 2) 0 ∷ drop j s) z))
-
 -- a row is met where its first range and the rest of it are
 pub fits_next : (a b : ℕ) (row : List Range) (s : List ℕ) (i : ℕ) → fits (a to b ∷ row) (drop i s) ≡ fits (a to b ∷ []) (drop i s) && fits row (drop (i + 1) s)
 fits_next a b row s i = go (drop i s) refl
@@ -88,10 +80,6 @@ fits_last a b (◌to◌ p q) y s i =
     (sym (and_assoc (fits (a to b ∷ []) (drop i s)) (fits (p to q ∷ []) (drop (i + 1) s)) (fits (y ∷ []) (drop (i + 2) s))))
 
 -- what a width says of the test that gave it
-pub none-given : (b : Bool) (k : ℕ) → cond b (k + 1) 0 ≡ 0 → b ≡ false
-none-given true k e = absurd (omega arith)
-none-given false k e = refl
-
 pub some-given : (b : Bool) (k : ℕ) → (cond b (k + 1) 0 ≡ 0 → ⊥) → b ≡ true
 some-given true k e = refl
 some-given false k e = absurd (e refl)

@@ -46,6 +46,7 @@ first_above h {rows = (◌to◌ low high ∷ r) ∷ rows} e here (b ∷ u) f =
     (b, u, refl, omega arith)
 first_above h {rows = [] ∷ rows} e (later w) t f = clash e
 first_above h {rows = (◌to◌ low high ∷ r) ∷ rows} e (later w) t f = first_above h (and_both (ltb h low) (above h rows) e).1 w t f
+first_above h {rows = []} e w t f = elim w [ ]
 
 -- the row that fits is the one that is found
 first-fit : {rows : List (List Range)} {row : List Range} → rising rows ≡ true → Row rows row → (t : List ℕ) → fits row t ≡ true → rowLength rows t ≡ length row
@@ -158,6 +159,7 @@ row-long h = by rising-rows h
     by {rows = (x ∷ r) ∷ rows} e here = (length r, refl)
     by {rows = [] ∷ rows} e (later w) = clash e
     by {rows = (◌to◌ low high ∷ r) ∷ rows} e (later w) = by (and_both (above high rows) (rising rows) e).1 w
+    by {rows = []} e w = elim w [ ]
 
 -- one character in front
 valid-char : (row : List Range) (t : List ℕ) → Row table37 row → fits row t ≡ true → length row ≤ length t → validPrefix t ≡ length row + validPrefix (drop (length row) t)

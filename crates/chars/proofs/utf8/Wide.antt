@@ -1,5 +1,5 @@
 -- Characters past ASCII: each of their bytes is past ASCII too, and so is their code.
-use Prim.Native.Nat.{ℕ, zero, suc, ◌-◌, ◌≤◌, ◌<◌}
+use Prim.Native.Nat.{ℕ, zero, suc, ◌≤◌, ◌<◌}
 use mathlib.Core.Path.{◌≡◌}
 use mathlib.Core.Bool.{Bool, true, false, ◌&&◌}
 use mathlib.Core.Logic.{◌⊎◌, inl, inr, ⊎_elim}
@@ -96,6 +96,7 @@ met (later (later (later (later (later here))))) t f = inr (three 0xEE 0xEF 0x80
 met (later (later (later (later (later (later here)))))) t f = inr (four 0xF0 0xF0 0x90 0xBF (omega arith) (omega arith) (omega arith) (omega arith) (inr (omega arith)) t f)
 met (later (later (later (later (later (later (later here))))))) t f = inr (four 0xF1 0xF3 0x80 0xBF (omega arith) (omega arith) (omega arith) (omega arith) (inl (omega arith)) t f)
 met (later (later (later (later (later (later (later (later here)))))))) t f = inr (four 0xF4 0xF4 0x80 0x8F (omega arith) (omega arith) (omega arith) (omega arith) (inl (omega arith)) t f)
+met (later (later (later (later (later (later (later (later (later w))))))))) t f = elim w [ ]
 
 -- a first byte past ASCII begins a wide character or none
 pub wide : (t : List ℕ) → 0x80 ≤ get_or t 0 0 → (width t ≡ 0) ⊎ Wide (width t) t

@@ -27,6 +27,7 @@ short (row ∷ rows) = leb (length row) 4 && short rows
 row-short : {rows : List (List Range)} {row : List Range} → short rows ≡ true → Row rows row → length row ≤ 4
 row-short {rows = row ∷ rows} e here = leb-true (length row) 4 (and_both (leb (length row) 4) (short rows) e).0
 row-short {rows = other ∷ rows} e (later w) = row-short (and_both (leb (length other) 4) (short rows) e).1 w
+row-short {rows = []} e w = elim w [ ]
 
 pub width-most : (t : List ℕ) → (width t ≤ 4) × (width t ≤ length t)
 width-most t = go (width-found t)
@@ -113,6 +114,15 @@ module _ {x : Range} {row : List Range} (w : Row table37 (x ∷ row)) (s : List 
 
 pub rows-stand : (x : Range) (row : List Range) (s : List ℕ) (i : ℕ) → row_at (x ∷ row) s i ≡ true → rowsOver (x ∷ row) s (i + length (x ∷ row)) ≡ rowsOver (x ∷ row) s i
 rows-stand x row s = over-on (length (x ∷ row)) (row_at (x ∷ row)) s (omega arith) (fit-within x row s)
+
+-- where no character of the row stands, its characters end
+pub rows_end : (row : List Range) (s : List ℕ) (i : ℕ) → row_at row s i ≡ false → i ≡ rowsOver row s i
+unfolding stepsIn
+rows_end row s i e = go (length s)
+  where
+    go : (n : ℕ) → i ≡ stepsIn n (length row) (row_at row s) i
+    go zero = refl
+    go (suc n) = rw e
 
 -- ---- ASCII bytes
 
