@@ -6,7 +6,7 @@ ghost use Rattle.chars.specs.promises.Texts.{TextLaws};
 use crate::utf8::Decoded;
 
 // The first character from a place on: its code, and where it ends.
-#[derive(Drop)]
+#[derive(Clone, Copy)]
 pub enum Step {
     Char { code: u32, next: usize },
     End,

@@ -9,7 +9,7 @@ ghost use Rattle.chars.specs.promises.Utf8.{Decoding, ValidLaws, EncodingLaws};
 use crate::runs::{skip_eights, skip_long};
 
 // The character that stands at a byte offset, or that none does.
-#[derive(Drop)]
+#[derive(Clone, Copy)]
 pub enum Decoded {
     Char { code: u32, width: usize },
     Nothing,
