@@ -1,7 +1,7 @@
 -- A test that is computed at a few codes, carried to each code that is one of them.
 use Prim.Native.Nat.{ℕ, zero, suc, ◌+◌, ◌≤◌, ◌<◌}
 use mathlib.Core.Path.{◌≡◌, refl, sym, ◌∙◌}
-use mathlib.Core.Bool.{Bool, true, false, not, ◌||◌, and-eq-true_iff, or-true, or-false}
+use mathlib.Core.Bool.{Bool, true, false, not, ◌||◌, and-eq-true_iff, or-true}
 use mathlib.Core.List.{List, [], ◌∷◌}
 use mathlib.Core.Logic.{inl, inr, ⊎_elim}
 use native.Mathlib.Omega.{arith}
@@ -48,15 +48,6 @@ in_span a (suc n) c h k = go (eqb c a) refl (λ z. in_span (suc a) n c z (omega 
 
 pub carry-span : (f : ℕ → Bool) (a n c : ℕ) → every f (span a n) ≡ true → a ≤ c → c < a + n → f c ≡ true
 carry-span f a n c h p q = carry f (span a n) c h (in_span a n c p q)
-
-pub each-not : (f : ℕ → Bool) (a n c : ℕ) → every (λ x. not (f x)) (span a n) ≡ true → a ≤ c → c < a + n → f c ≡ false
-each-not f a n c h p q = not-true (f c) (carry-span (λ x. not (f x)) a n c h p q)
-
--- the same where some codes are left out
-pub each-but : (f : ℕ → Bool) (ks : List ℕ) (a n c : ℕ) → every (λ x. not (f x) || member ks x) (span a n) ≡ true → a ≤ c → c < a + n → member ks c ≡ false → f c ≡ false
-each-but f ks a n c h p q e =
-    let z = carry-span (λ x. not (f x) || member ks x) a n c h p q in
-    not-true (f c) (sym (or-false (not (f c))) ∙ (rw e at z))
 
 pub agree : (x y : Bool) → alike x y ≡ true → x ≡ y
 agree true y e = sym e

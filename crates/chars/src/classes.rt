@@ -53,6 +53,7 @@ fn is_between(low: u32, high: u32, c: u32) -> bool
 }
 
 // Whether c is an operator sign.
+#[tactic(auto, unfolding(crate::specs::paper::Classes::isOpSign))]
 pub fn is_op_char(c: u32) -> bool
     ensures { result ≡ isOpSign c }
 {
@@ -82,6 +83,7 @@ pub fn is_op_char(c: u32) -> bool
 
 // Whether the byte's bit is set in one of two masks, for the codes up to 0x3F and from 0x40 to 0x7F: two tests where a `match` takes a dozen.
 // The second clause: what is computed at a few codes is carried to a code that is one of them.
+#[tactic(auto, using(crate::proofs::theorems::Promises::code_laws), unfolding(crate::specs::code::Classes::bitIn))]
 pub fn has_bit(b: u8, low: u64, high: u64) -> bool
     ensures value { result ≡ bitIn low high b }
     ensures code_laws { CodeLaws }
@@ -103,6 +105,7 @@ pub fn is_op_byte(b: u8) -> bool
 }
 
 // Whether c is printable.
+#[tactic(auto, unfolding(crate::specs::paper::Classes::isPrintable))]
 pub fn is_printable_char(c: u32) -> bool
     ensures { result ≡ isPrintable c }
 {
@@ -117,6 +120,7 @@ pub fn is_printable_char(c: u32) -> bool
 
 // Whether c may start an identifier. A table is written to the stack where a function that lends it begins, so that ASCII and the Russian
 // letters are answered before such a function is called. The second clause: what the classes exclude of each other, and that the tables ascend.
+#[tactic(auto, using(crate::proofs::classes::Laws::start_laws))]
 pub fn is_id_start(c: u32) -> bool
     ensures value { result ≡ isIdStart c }
     ensures class_laws { ClassLaws }
@@ -140,12 +144,14 @@ pub fn is_id_start(c: u32) -> bool
     is_uppercase(k)
 }
 
+#[tactic(auto, unfolding(crate::specs::paper::Classes::lowercase))]
 fn is_lowercase(k: u16) -> bool
     ensures { result ≡ lowercase k }
 {
     in_ranges(k, &LOWERCASE)
 }
 
+#[tactic(auto, unfolding(crate::specs::paper::Classes::uppercase))]
 fn is_uppercase(k: u16) -> bool
     ensures { result ≡ uppercase k }
 {
@@ -179,6 +185,7 @@ fn is_id_char_past_ascii(c: u32) -> bool
 }
 
 // The same by the tables that are lent.
+#[tactic(auto, using(crate::proofs::classes::Laws::id_laws), unfolding(crate::specs::paper::Classes::nd))]
 fn is_wide_id_char(c: u32, alphabetic: &[u16], marks: &[u16], digits: &[u16]) -> bool
     requires { (0x80 ≤ c) × IdTables alphabetic.now marks.now digits.now }
     ensures { result ≡ isIdChar c }
@@ -194,6 +201,7 @@ fn is_wide_id_char(c: u32, alphabetic: &[u16], marks: &[u16], digits: &[u16]) ->
 }
 
 // Whether k is Alphabetic outside ALPHA_NOT_LETTER.
+#[tactic(auto, unfolding(crate::specs::paper::Classes::alphabetic, crate::specs::paper::Classes::alphaNotLetter))]
 fn is_letter(k: u16, table: &[u16], marks: &[u16]) -> bool
     requires { (pairs table.now ≡ alphabeticTable) × (pairs marks.now ≡ alphaNotLetterTable) }
     ensures { result ≡ alphabetic k && not (alphaNotLetter k) }
@@ -213,6 +221,7 @@ fn is_ascii_id_char(c: u32) -> bool
 }
 
 // Whether a byte is an ASCII character that starts an identifier: a letter, `$` or `_`. The commonest are tested first.
+#[tactic(auto, using(crate::proofs::classes::Laws::ascii_bytes))]
 pub fn is_ascii_start(b: u8) -> bool
     ensures { result ≡ ltb b 0x80 && isIdStart b }
 {
@@ -229,6 +238,7 @@ pub fn is_ascii_start(b: u8) -> bool
 }
 
 // Whether a byte is an ASCII id character: a letter, a digit or `$`. The commonest are tested first.
+#[tactic(auto, using(crate::proofs::classes::Laws::ascii_bytes))]
 fn is_id_byte(b: u8) -> bool
     ensures { result ≡ ltb b 0x80 && isIdChar b }
 {
@@ -245,6 +255,7 @@ fn is_id_byte(b: u8) -> bool
 }
 
 // Whether a Russian letter stands at a place: U+0410 to U+044F.
+#[tactic(auto, unfolding(crate::specs::code::Classes::cyrillicAt))]
 pub fn is_cyrillic_at(s: &[u8], at: usize) -> bool
     ensures { result ≡ cyrillicAt s.now at }
 {

@@ -206,3 +206,11 @@ pub russian-id : (c : ℕ) → between 0x0410 0x044F c ≡ true → isIdChar c �
 russian-id c e =
     let r = in_between 0x0410 0x044F c e in
     wide-id c (omega arith) (omega arith) ∙ rw (letter-range c r.0 r.1, mark-range c r.0 r.1)
+
+-- ---- what `src/classes.rt` names for the prover
+
+pub ruleset ascii_bytes = (byte-start, byte-id)
+
+pub ruleset start_laws = (above-no-start, circled-no-start, wide-start, russian-start)
+
+pub ruleset id_laws = (above-no-id, wide-id)

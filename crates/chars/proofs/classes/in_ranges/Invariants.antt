@@ -7,7 +7,7 @@ invariant-loop-a l = record {
   ordered : l.a ≤ l.b;
   within : l.b ≤ length l.table / 2;
   before : (k : ℕ) → suc k ≡ l.a → get_or l.table (k * 2) 0 ≤ l.c;
-  after : l.b < length l.table / 2 → l.c < get_or l.table (l.b * 2) 0
+  after : l.b < length l.table / 2 → l.c < get_or l.table (l.b * 2) 0;
 }
 
 abbrev pub decreases-loop-a : goal.decreases-loop-a
