@@ -1,0 +1,10 @@
+-- `literal::decimal_number`: The loop keeps the digits that have been read; as many as they are, their value needs no test.
+use Prim.Native.Nat.{◌-◌}
+use Rattle.token.proofs.literal.Laws.{DigitsTo}
+use Rattle.token.proofs.literal.decimal_number.Given as goal
+
+abbrev pub invariant-loop-i : goal.invariant-loop-i
+invariant-loop-i l = DigitsTo 10 19 l.s l.start l.i l.v
+
+abbrev pub decreases-loop-i : goal.decreases-loop-i
+decreases-loop-i l = l.stop - l.i
