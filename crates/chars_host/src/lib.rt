@@ -38,6 +38,7 @@ fn bit(set: bool, weight: u32) -> u32
 }
 
 // The classes of a character: bit 0 id start, 1 id character, 2 operator sign, 3 printable.
+#[tactic(auto, unfolding(crate::specs::Packing::bits))]
 #[unsafe(no_mangle)]
 pub extern "C" fn chars_classes(c: u32) -> u32
     ensures { result ≡ bits c }

@@ -3,13 +3,14 @@
 // `token.rs` itself.
 #![tactic(auto)]
 
-ghost use Rattle.std.specs.Prelude.{◌≡◌, ◌-◌, length};
+ghost use Rattle.std.specs.Prelude.{◌≡◌, ◌-◌, length, IfOk};
 ghost use Rattle.class_runs.specs.Lines.{glyph, inClass, runText};
 
 use chars::classes::{is_id_char, is_id_start, is_op_char, is_printable_char};
-use libc::STDOUT_FILENO;
+use std::io;
 
 // Whether c belongs to the class of number k.
+#[tactic(auto, unfolding(crate::specs::Lines::inClass))]
 fn belongs(k: u32, c: u32) -> bool
     ensures { result ≡ inClass k c }
 {
@@ -22,6 +23,7 @@ fn belongs(k: u32, c: u32) -> bool
 }
 
 // The last hexadecimal digit of n, in upper case.
+#[tactic(auto, unfolding(crate::specs::Lines::glyph))]
 fn hex_digit(n: u32) -> u8
     ensures { result ≡ glyph n }
 {
@@ -50,45 +52,41 @@ fn run_text(first: u32, last: u32) -> [u8; 11]
 
 // Writes the runs of class k among the characters from `from` up to `end`, not included, and counts those characters. The run at hand is
 // from start up to c.
-fn print_runs(k: u32, name: &[u8], from: u32, end: u32) -> u32
-    ensures { result ≡ end - from }
+fn print_runs(rt: &impl Print, k: u32, name: &[u8], from: u32, end: u32) -> io::Result<u32>
+    ensures { IfOk result (λ walked. walked ≡ end - from) }
 {
     let mut walked: u32 = 0;
     let mut start = from;
-    let mut c = from;
-    while c < end {
+    for c in from..end {
         if !belongs(k, c) {
             if start < c {
-                io::write_all(STDOUT_FILENO, name);
-                io::write_all(STDOUT_FILENO, &run_text(start, c - 1));
+                rt.write_all(name)?;
+                rt.write_all(&run_text(start, c - 1))?;
             }
             start = c + 1;
         }
-        c += 1;
         walked += 1;
     }
-    if start < c {
-        io::write_all(STDOUT_FILENO, name);
-        io::write_all(STDOUT_FILENO, &run_text(start, c - 1));
+    if start < end {
+        rt.write_all(name)?;
+        rt.write_all(&run_text(start, end - 1))?;
     }
-    walked
+    Ok(walked)
 }
 
 // The same for all characters up to U+FFFF. The surrogates between the two parts are none.
-fn print_class(k: u32, name: &[u8]) -> u32
-    ensures { result ≡ 63488 }
+fn print_class(rt: &impl Print, k: u32, name: &[u8]) -> io::Result<u32>
+    ensures { IfOk result (λ walked. walked ≡ 63488) }
 {
-    let below = print_runs(k, name, 0, 0xD800);
-    let above = print_runs(k, name, 0xE000, 0x10000);
-    below + above
+    let below = print_runs(rt, k, name, 0, 0xD800)?;
+    let above = print_runs(rt, k, name, 0xE000, 0x10000)?;
+    Ok(below + above)
 }
 
-fn main() {
-    print_class(0, b"id-start");
-    print_class(1, b"id-char");
-    print_class(2, b"op-char");
-    let walked = print_class(3, b"printable");
-    io::write_all(STDOUT_FILENO, b"characters ");
-    io::print_decimal(STDOUT_FILENO, walked as u64);
-    io::write_all(STDOUT_FILENO, b"\n");
+fn main(rt: HostRuntime) -> io::Result<()> {
+    print_class(&rt, 0, b"id-start")?;
+    print_class(&rt, 1, b"id-char")?;
+    print_class(&rt, 2, b"op-char")?;
+    let walked = print_class(&rt, 3, b"printable")?;
+    println!(rt; "characters {walked}")
 }

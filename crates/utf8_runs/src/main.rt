@@ -4,14 +4,15 @@
 // --summary made of Rust's std::str::from_utf8.
 #![tactic(auto)]
 
-ghost use Rattle.std.specs.Prelude.{◌≡◌, ◌≤◌, length};
+ghost use Rattle.std.specs.Prelude.{◌≡◌, ◌≤◌, length, IfOk};
 ghost use Rattle.utf8_runs.specs.Sequences.{bytesOf, rows, tallied, walked};
 
-use libc::STDOUT_FILENO;
+use std::io;
 
 const EDGES: [u8; 4] = [0x7F, 0x80, 0xBF, 0xC0];
 
 // The bytes of the sequence of number k that begins with a, of which the first n count.
+#[tactic(auto, unfolding(crate::specs::Sequences::bytesOf))]
 fn bytes_of(n: usize, a: u8, k: u32) -> [u8; 4]
     ensures { (result ≡ bytesOf n a k) × (4 ≡ length result) }
 {
@@ -30,6 +31,7 @@ fn bytes_of(n: usize, a: u8, k: u32) -> [u8; 4]
 }
 
 // Counts an answer.
+#[tactic(auto, unfolding(crate::specs::Sequences::tallied))]
 fn tally(counts: &mut [u32; 5], answer: usize)
     ensures { counts.new ≡ tallied counts.old answer }
 {
@@ -53,52 +55,41 @@ fn walk(n: usize, a: u8, tails: u32, counts: &mut [u32; 5], all: &mut [u32; 5])
     }
 }
 
-fn wide(x: u32) -> u64
-    ensures { result ≡ x }
-{
-    x as u64
-}
-
 // Writes the counts, and ends the line. Hands back how many numbers it wrote.
-fn print_counts(counts: &[u32; 5]) -> usize
-    ensures { result ≡ 5 }
+fn print_counts(rt: &impl Print, counts: &[u32; 5]) -> io::Result<usize>
+    ensures { IfOk result (λ written. written ≡ 5) }
 {
-    let mut i: usize = 0;
-    while i < 5 {
-        io::write_all(STDOUT_FILENO, b" ");
-        io::print_decimal(STDOUT_FILENO, wide(counts[i]));
-        i += 1;
+    let mut written: usize = 0;
+    for count in counts {
+        print!(rt; " {count}")?;
+        written += 1;
     }
-    io::write_all(STDOUT_FILENO, b"\n");
-    i
+    println!(rt)?;
+    Ok(written)
 }
 
 // Writes the lines of length n, and hands back the counts of the last, for all first bytes. For each first byte there are as many sequences
 // as `tails` says.
-fn print_rows(n: usize, tails: u32) -> [u32; 5]
+fn print_rows(rt: &impl Print, n: usize, tails: u32) -> io::Result<[u32; 5]>
     requires { n ≤ 4 }
-    ensures { result ≡ rows n tails 256 }
+    ensures { IfOk result (λ all. all ≡ rows n tails 256) }
 {
     let mut all = [0u32; 5];
-    let mut a: u32 = 0;
-    while a < 256 {
+    for a in 0u32..256 {
         let mut counts = [0u32; 5];
         walk(n, a as u8, tails, &mut counts, &mut all);
-        io::print_decimal(STDOUT_FILENO, n as u64);
-        io::write_all(STDOUT_FILENO, b" ");
-        io::print_hex(STDOUT_FILENO, a as u64, 2);
-        print_counts(&counts);
-        a += 1;
+        print!(rt; "{n} {a:02x}")?;
+        print_counts(rt, &counts)?;
     }
-    io::print_decimal(STDOUT_FILENO, n as u64);
-    io::write_all(STDOUT_FILENO, b" all");
-    print_counts(&all);
-    all
+    print!(rt; "{n} all")?;
+    print_counts(rt, &all)?;
+    Ok(all)
 }
 
-fn main() {
-    print_rows(1, 1);
-    print_rows(2, 256);
-    print_rows(3, 65536);
-    print_rows(4, 4096);
+fn main(rt: HostRuntime) -> io::Result<()> {
+    print_rows(&rt, 1, 1)?;
+    print_rows(&rt, 2, 256)?;
+    print_rows(&rt, 3, 65536)?;
+    print_rows(&rt, 4, 4096)?;
+    Ok(())
 }
