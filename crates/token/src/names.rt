@@ -77,6 +77,7 @@ pub fn ends_low(s: &[u8], start: usize, end: usize) -> bool
 
 // Where the identifier ends that begins at `start` and whose id characters and underscores end at `end`. `start`, where a character past ASCII
 // stands behind it.
+#[tactic(auto, unfolding(crate::specs::code::Names::nameEnd, crate::specs::code::Names::nameTo))]
 pub fn name_end(s: &[u8], t: &[u8; 256], start: usize, end: Here) -> Here
     requires { (start < length s.now) × (end ≡ here_of s.now (runTo in_word s.now (start + 1))) × ByteClasses t.now }
     ensures { result ≡ nameEnd s.now start }

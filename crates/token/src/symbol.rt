@@ -35,6 +35,7 @@ fn is_char(s: &[u8], at: usize, a: u8) -> bool
 }
 
 // Where the escape ends whose backslash stands behind the `'` at a place; the backslash's place, where it is refused.
+#[tactic(auto, unfolding(crate::specs::code::Quoted::escapeEnd))]
 fn char_escape_end(s: &[u8], at: usize) -> usize
     requires { at + 1 < length s.now }
     ensures { result ≡ escapeEnd s.now (at + 1) }
@@ -46,6 +47,7 @@ fn char_escape_end(s: &[u8], at: usize) -> usize
 }
 
 // Where the escaped character ends whose `'` and backslash stand there; the place itself, where it is refused.
+#[tactic(auto, unfolding(crate::specs::code::Symbol::escapedCharEnd))]
 fn escaped_char_end(s: &[u8], at: usize) -> usize
     requires { at + 1 < length s.now }
     ensures { result ≡ escapedCharEnd s.now at }
@@ -61,6 +63,7 @@ fn escaped_char_end(s: &[u8], at: usize) -> usize
 }
 
 // Where the symbol of operator signs ends whose `'` stands there; the place itself, where none stands or a character past ASCII stands behind it.
+#[tactic(auto, unfolding(crate::specs::code::Symbol::operatorSymbolEnd))]
 fn operator_symbol_end(s: &[u8], t: &[u8; 256], at: usize) -> usize
     requires { ByteClasses t.now × (at < length s.now) }
     ensures { result ≡ operatorSymbolEnd s.now at }
@@ -73,6 +76,7 @@ fn operator_symbol_end(s: &[u8], t: &[u8; 256], at: usize) -> usize
 }
 
 // The same for `;`: the place itself, where an operator sign or a character past ASCII stands behind it.
+#[tactic(auto, unfolding(crate::specs::code::Symbol::semiEnd))]
 fn semi_end(s: &[u8], t: &[u8; 256], at: usize) -> usize
     requires { ByteClasses t.now × (at < length s.now) }
     ensures { result ≡ semiEnd s.now at }
@@ -88,6 +92,7 @@ fn semi_end(s: &[u8], t: &[u8; 256], at: usize) -> usize
 }
 
 // The same for an identifier: the place itself, where a character past ASCII stands behind it.
+#[tactic(auto, unfolding(crate::specs::code::Symbol::nameSymbolEnd))]
 fn name_symbol_end(s: &[u8], t: &[u8; 256], at: usize) -> usize
     requires { ByteClasses t.now × (at + 1 < length s.now) }
     ensures { result ≡ nameSymbolEnd s.now at }
@@ -101,6 +106,7 @@ fn name_symbol_end(s: &[u8], t: &[u8; 256], at: usize) -> usize
 
 // Where the character or symbol ends whose `'` stands there; the place itself, where it is refused, and where a character past ASCII stands in it or
 // behind it.
+#[tactic(auto, unfolding(crate::specs::code::Symbol::charSymEnd, crate::specs::code::Symbol::charSymBy))]
 pub fn char_sym_end(s: &[u8], t: &[u8; 256], at: usize) -> usize
     requires { ByteClasses t.now × (at < length s.now) × (get_or s.now at 0 ≡ 0x27) }
     ensures { result ≡ charSymEnd s.now at }
