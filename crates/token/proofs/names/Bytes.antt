@@ -6,14 +6,14 @@ use mathlib.Core.List.{List}
 use native.Mathlib.Omega.{arith}
 use lib.ListN.{length, get_or, get_or-eq_default}
 use lib.Dec.{eqb, ltb}
-use borrow.Author.Tests.{ltb-true, ltb-false, eq-eqb, ne_eqb}
+use borrow.Author.Tests.{ltb-true, ltb-false, ne_eqb}
 use Rattle.chars.specs.paper.Quoted.{one_of}
 use Rattle.chars.proofs.Bools.{clash}
 use Rattle.token.specs.computed.Answer.{sign_of}
 use Rattle.token.specs.code.Ascii.{signNumber}
 use Rattle.token.specs.code.Loops.{stepsWhile}
-use Rattle.token.specs.code.ByteClass.{class_of, class_at, otherClass, wideClass, slashClass, in_word, isSign, inRun}
-use Rattle.token.specs.code.Names.{here_of, declined, bytesTo, runTo, lowBefore, freeAt, nameTo, nameEnd, operatorTo, operatorFrom}
+use Rattle.token.specs.code.ByteClass.{class_of, class_at, otherClass, wideClass, slashClass, in_word, inRun}
+use Rattle.token.specs.code.Names.{here_of, declined, bytesTo, runTo, freeAt, nameTo, nameEnd, operatorTo, operatorFrom}
 use Rattle.token.specs.declared.names.Here.{Here}
 use Rattle.token.proofs.Loops.{Going, going_on, going-stop, steps-keep}
 
@@ -107,14 +107,11 @@ module _ (s : List ℕ) (i : ℕ) where
   pub free-inside : freeAt s i ≡ true → i < length s
   free-inside e = inside-or s i (freeAt s i) free_off e
 
-  -- a `/` goes on by the byte behind it, any other byte by its class
-  pub free-slash : class_at s i ≡ slashClass → (b : Bool) → one_of "*/" (get_or s (i + 1) 0) ≡ b → freeAt s i ≡ not b
-  free-slash q b e = rw (q, e)
-
+  -- any other byte than a `/` goes on by its class
   pub free_other : (class_at s i ≡ slashClass → ⊥) → freeAt s i ≡ inRun (class_at s i)
   free_other h = ap (λ z. inRun (class_at s i) || (z && not (one_of "*/" (get_or s (i + 1) 0)))) (ne_eqb (class_at s i) slashClass h) ∙ or-false (inRun (class_at s i))
 
--- ---- where an identifier ends, by where its id characters and underscores end
+-- ---- the word of an identifier ends within the script
 
 module _ (s : List ℕ) (start : ℕ) (end : Here) (q : end ≡ here_of s (runTo in_word s (start + 1))) where
   pub word-bounds : start < length s → (start < end.at) × (end.at ≤ length s)
@@ -122,55 +119,6 @@ module _ (s : List ℕ) (start : ℕ) (end : Here) (q : end ≡ here_of s (runTo
       let w = pass-within (λ j. in_word (class_at s j)) s (λ i e. class-inside s i in_word refl e) (start + 1) (omega arith) in
       let z : end.at ≡ runTo in_word s (start + 1) = ap (λ (x : Here). x.at) q in
       (omega arith, omega arith)
-
-  name_by : (b : Bool) → isSign end.class && lowBefore s start end.at ≡ b → nameTo s start ≡ cond b (runTo isSign s end.at) end.at
-  unfolding nameTo
-  name_by b z =
-      ap (λ (x : Here). cond (isSign x.class && lowBefore s start x.at) (runTo isSign s x.at) x.at) (sym q)
-      ∙ ap (λ x. cond x (runTo isSign s end.at) end.at) z
-
-  name-word : (to : Here) → isSign end.class && lowBefore s start end.at ≡ false → to ≡ end → to ≡ here_of s (nameTo s start)
-  name-word to a r = r ∙ q ∙ ap (here_of s) (sym (ap (λ (x : Here). x.at) q)) ∙ sym (ap (here_of s) (name_by false a))
-
-  -- the operator signs behind it are part of it; they are not, or there are none
-  pub name-signs : (to : Here) → isSign end.class ≡ true → lowBefore s start end.at ≡ true → to ≡ here_of s (runTo isSign s end.at) → to ≡ here_of s (nameTo s start)
-  name-signs to a b r = r ∙ sym (ap (here_of s) (name_by true (ap (λ x. x && lowBefore s start end.at) a ∙ b)))
-
-  pub name-no-signs : (to : Here) → isSign end.class ≡ false → to ≡ end → to ≡ here_of s (nameTo s start)
-  name-no-signs to a r = name-word to (ap (λ x. x && lowBefore s start end.at) a) r
-
-  pub name-no-low : (to : Here) → isSign end.class ≡ true → lowBefore s start end.at ≡ false → to ≡ end → to ≡ here_of s (nameTo s start)
-  name-no-low to a b r = name-word to (ap (λ x. x && lowBefore s start end.at) a ∙ b) r
-
--- ---- the answer at the end e: that place, or the start, where a character past ASCII stands there
-
-module _ (s : List ℕ) (start e : ℕ) (to : Here) (q : to ≡ here_of s e) where
-  by-class : (b : Bool) → eqb to.class wideClass ≡ b → cond (eqb (class_at s e) wideClass) (declined start) (here_of s e) ≡ cond b (declined start) to
-  by-class b z = ap (λ (x : Here). cond (eqb x.class wideClass) (declined start) x) (sym q) ∙ ap (λ x. cond x (declined start) to) z
-
-module _ (s : List ℕ) (start : ℕ) (to : Here) where
-  pub name-here : to ≡ here_of s (nameTo s start) → (to.class ≡ wideClass → ⊥) → to ≡ nameEnd s start
-  unfolding nameEnd
-  name-here q n = sym (by-class s start (nameTo s start) to q false (ne_eqb to.class wideClass n))
-
-  pub name-declined : to ≡ here_of s (nameTo s start) → to.class ≡ wideClass → declined start ≡ nameEnd s start
-  unfolding nameEnd
-  name-declined q n = sym (by-class s start (nameTo s start) to q true (eq-eqb to.class wideClass n))
-
-module _ (s : List ℕ) (start from i k : ℕ) (q : k ≡ class_at s i) (r : i ≡ operatorTo s from) where
-  abbrev stop : Here
-  stop = record { at = i; class = k }
-
-  stop-here : stop ≡ here_of s (operatorTo s from)
-  stop-here = ap (λ x. record { at = i; class = x }) q ∙ ap (here_of s) r
-
-  pub operator-here : (k ≡ wideClass → ⊥) → record { at = i; class = k } ≡ operatorFrom s start from
-  unfolding operatorFrom
-  operator-here n = sym (by-class s start (operatorTo s from) stop stop-here false (ne_eqb k wideClass n))
-
-  pub operator-declined : k ≡ wideClass → record { at = start; class = k } ≡ operatorFrom s start from
-  unfolding operatorFrom
-  operator-declined n = ap (λ x. record { at = start; class = x }) n ∙ sym (by-class s start (operatorTo s from) stop stop-here true (eq-eqb k wideClass n))
 
 -- ---- what an answer says
 

@@ -1,26 +1,32 @@
 -- The free signs from here on end where those from the place on end from which they are passed.
-use Rattle.std.proofs.Common.{◌≡◌, true, false, arith, rules}
-use Rattle.token.specs.code.Names.{freeAt}
-use Rattle.token.proofs.names.Bytes.{pass-first, pass-more, pass-stop, free-inside, operator-here, operator-declined}
+use Rattle.std.proofs.Common.{◌≡◌, true, arith, rules}
+use Rattle.token.specs.code.Names.{freeAt, operatorFrom}
+use Rattle.token.proofs.names.Bytes.{pass-first, pass-more, pass-stop, free-inside}
 use Rattle.token.proofs.names.operator_end.Goals as goal
 
 pub loop-start-init : goal.loop-start-init
 loop-start-init c = pass-first _ _ _ c.requires.0
 
 pub returns-then-opens_with : goal.returns-then-opens_with
+unfolding operatorFrom
 returns-then-opens_with c =
-    let e : freeAt c.args.s.now c.loop-start.i ≡ false = search rules in
-    operator-here _ _ _ _ _ c.class_at-e.ensures (pass-stop _ _ _ _ e c.loop-start.invariant) (λ z. absurd (omega arith))
+    let s = c.args.s.now in
+    let p = pass-stop (freeAt s) s c.args.from c.loop-start.i (search rules) c.loop-start.invariant in
+    search rules
 
 pub returns-then-e-2 : goal.returns-then-e-2
+unfolding operatorFrom
 returns-then-e-2 c =
-    let e : freeAt c.args.s.now c.loop-start.i ≡ false = search rules in
-    operator-declined _ _ _ _ _ c.class_at-e.ensures (pass-stop _ _ _ _ e c.loop-start.invariant) c.if-e-2.true
+    let s = c.args.s.now in
+    let p = pass-stop (freeAt s) s c.args.from c.loop-start.i (search rules) c.loop-start.invariant in
+    search rules
 
 pub returns-then-not-in_run : goal.returns-then-not-in_run
+unfolding operatorFrom
 returns-then-not-in_run c =
-    let e : freeAt c.args.s.now c.loop-start.i ≡ false = search rules in
-    operator-here _ _ _ _ _ c.class_at-e.ensures (pass-stop _ _ _ _ e c.loop-start.invariant) c.if-e-2.false
+    let s = c.args.s.now in
+    let p = pass-stop (freeAt s) s c.args.from c.loop-start.i (search rules) c.loop-start.invariant in
+    search rules
 
 pub loop-start-smaller : goal.loop-start-smaller
 loop-start-smaller c =
