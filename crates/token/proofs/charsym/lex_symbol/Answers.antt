@@ -52,11 +52,11 @@ returns-then-sign_at c =
     let at = c.args.c.at in
     let h = peeked-char s at _ _ c.in-Char.ensures in
     sym-stuck s 16 at _ c.requires
-        (semi-sign-is _ _ _ _ h (sym c.if-is_id_start.ensures.value) (sym c.if-is_op_char.ensures) (eq-eqb _ 0x3B c.if-code-ne59.false) (sym c.if-sign_at.ensures))
+    (semi-sign-is _ _ _ _ h (sym c.if-is_id_start.ensures.value) (sym c.if-is_op_char.ensures) (eq-eqb _ 0x3B c.if-code-ne59.false) (sym c.if-sign_at.ensures))
 
 pub returns : goal.returns
 returns c =
     let s = c.args.s.now in
     let h = peeked-char s c.args.c.at _ _ c.in-Char.ensures in
     sym-token s _ _ _ h.within refl
-        (semi-is _ _ _ _ h (sym c.if-is_id_start.ensures.value) (sym c.if-is_op_char.ensures) (eq-eqb _ 0x3B c.if-code-ne59.false) (sym c.if-sign_at.ensures))
+    (semi-is _ _ _ _ h (sym c.if-is_id_start.ensures.value) (sym c.if-is_op_char.ensures) (eq-eqb _ 0x3B c.if-code-ne59.false) (sym c.if-sign_at.ensures))
