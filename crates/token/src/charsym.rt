@@ -45,6 +45,7 @@ fn lex_escaped_char(s: &[u8], c: Cursor) -> Piece
 }
 
 // The `'` after an escape.
+#[tactic(auto, using(crate::proofs::charsym::Laws::tick_next))]
 fn close_char(s: &[u8], c: Cursor) -> Piece
     requires { c.at ≤ length s.now }
     ensures { result ≡ piece_of (length s.now) (tickNext (from s.now c.at)) }

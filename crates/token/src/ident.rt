@@ -117,6 +117,7 @@ pub fn consume_op_run(s: &[u8], c: Cursor) -> Cursor
 }
 
 // Does `//` or `/*` stand there?
+#[tactic(auto, using(crate::proofs::ident::Laws::comment_bytes))]
 pub fn opens_comment(s: &[u8], c: Cursor) -> bool
     requires { c.at ≤ length s.now }
     ensures { result ≡ opensComment (from s.now c.at) }

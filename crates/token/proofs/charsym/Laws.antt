@@ -59,6 +59,15 @@ module _ (s : List ℕ) (i : ℕ) where
   pub tick-lacks : i ≤ length s → eqb (get_or s i 0) 0x27 ≡ false → piece.Refused 15 i ≡ piece_of (length s) (tickNext (from s i))
   tick-lacks h e = sym-stuck s 15 i _ h (rw (tick-byte ∙ e))
 
+-- the byte behind an escape
+pub tick_next : (s : List ℕ) (i : ℕ) → i ≤ length s
+    → piece_of (length s) (tickNext (from s i)) ≡ cond (eqb (get_or s i 0) 0x27) (piece.Token tk.CharSym (cursorAt (i + 1))) (piece.Refused 15 i)
+tick_next s i h = go (eqb (get_or s i 0) 0x27) refl
+  where
+    go : (b : Bool) → eqb (get_or s i 0) 0x27 ≡ b → piece_of (length s) (tickNext (from s i)) ≡ cond b (piece.Token tk.CharSym (cursorAt (i + 1))) (piece.Refused 15 i)
+    go true e = sym (tick-closes s i e)
+    go false e = sym (tick-lacks s i h e)
+
 -- ---- an escape, from behind its backslash
 
 text-within : (s : List ℕ) (t : Text) → ScriptText s t → place (length s) t ≤ length s

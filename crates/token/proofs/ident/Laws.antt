@@ -1,7 +1,7 @@
 -- How identifiers, operators and backticks are read place by place.
 use Prim.Native.Nat.{ℕ, zero, suc, ◌+◌, ◌-◌, ◌≤◌, ◌<◌}
-use mathlib.Core.Path.{◌≡◌, refl, sym, ◌∙◌, ap}
-use mathlib.Core.Bool.{Bool, true, false, cond, or-false}
+use mathlib.Core.Path.{◌≡◌, refl, sym, ◌∙◌, ap, ap₂}
+use mathlib.Core.Bool.{Bool, true, false, cond, ◌&&◌, ◌||◌, or-false}
 use mathlib.Core.List.{List, [], ◌∷◌}
 use mathlib.Core.Option.{Option, some}
 use lib.ListN.{length, drop, get_or, get_or-eq_default}
@@ -13,11 +13,11 @@ use Rattle.chars.specs.paper.Text.{Char, Text, from, place, headIs, idChar}
 use Rattle.chars.specs.code.Text.{charEnd}
 use Rattle.chars.specs.computed.Runs.{afterRun}
 use Rattle.chars.specs.code.Runs.{AllIn, Within}
-use Rattle.chars.specs.paper.Classes.{isIdStart, isIdChar}
+use Rattle.chars.specs.paper.Classes.{isIdStart, isIdChar, isOpSign}
 use Rattle.chars.proofs.Bools.{clash}
 use Rattle.chars.specs.promises.Texts.{Suffix}
 use Rattle.chars.proofs.theorems.Promises.{text-laws}
-use Rattle.token.proofs.Classes.{under-no-id}
+use Rattle.token.proofs.Classes.{under-no-id, nul-no-sign, sign-byte}
 use Rattle.token.proofs.cursor.Wide.{byte-by-byte}
 use Rattle.token.specs.paper.Tests.{isAny, begins, quote, opSign, freeSign, opensComment, notBacktick}
 use Rattle.token.specs.paper.Kinds.{word_of, run_of}
@@ -32,6 +32,7 @@ use Rattle.token.specs.declared.piece.Piece.TheVariants as piece
 use Rattle.token.proofs.cursor.Bytes.{any-byte, inside, one_byte}
 use Rattle.token.proofs.theorems.Runs.{after_next, after_stop, run-after, run-suffix}
 use Rattle.token.proofs.cursor.Laws.{all_past}
+use Rattle.token.proofs.gap.Laws.{opens-line, opens-block}
 use Rattle.token.proofs.theorems.Idents.{ident-finds, start-rest, rest-suffix}
 open text-laws use {run-stays, run-done, run-place, suffix_trans, drop-suffix, at-char, at_ascii, at-end, next-on, place-from}
 
@@ -117,6 +118,15 @@ module _ (p : ℕ → Bool) (s : List ℕ) (i : ℕ) where
       go : (b : Bool) → headIs p (from s i) ≡ b → j ≡ cond b (charEnd s i) i → (i < length s) × (headIs p (from s i) ≡ true) × (charEnd s i ≡ j)
       go true h e = (head-inside p s i h, h, sym e)
       go false h e = absurd (n e)
+
+-- an ASCII byte tells whether an operator sign stands there
+pub sign-here : (s : List ℕ) (i b : ℕ) (r : Bool) → b ≡ get_or s i 0 → b < 0x80 → r ≡ ltb b 0x80 && isOpSign b → headIs isOpSign (from s i) ≡ r
+sign-here s i b r e l q = head-low isOpSign s i nul-no-sign (omega arith) ∙ ap isOpSign (sym e) ∙ sign-byte b l ∙ sym q
+
+-- two bytes tell whether a comment opens there
+pub comment_bytes : (s : List ℕ) (i : ℕ)
+    → opensComment (from s i) ≡ (eqb (get_or s i 0) 0x2F && eqb (get_or s (i + 1) 0) 0x2F) || (eqb (get_or s i 0) 0x2F && eqb (get_or s (i + 1) 0) 0x2A)
+comment_bytes s i = ap₂ ◌||◌ (opens-line s i) (opens-block s i)
 
 pub quote-byte : (s : List ℕ) (i : ℕ) → quote (from s i) ≡ eqb (get_or s i 0) 0x22
 unfolding begins

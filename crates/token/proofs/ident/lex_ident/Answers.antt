@@ -1,0 +1,43 @@
+-- By the keyword that was found, or none.
+use Rattle.std.proofs.Common.{length, false, refl, sym, ap, ◌∙◌}
+use mathlib.Core.Option.{some, none}
+use Rattle.chars.specs.paper.Text.{from}
+use Rattle.token.specs.computed.Answer.{afterIdent}
+use Rattle.token.specs.code.Piece.{piece_of}
+use Rattle.token.specs.declared.kinds.TokenKind.TheVariants as tk
+use Rattle.token.proofs.keyword.Laws.{by-ident, key-is, key-not, told-by}
+use Rattle.token.proofs.ident.Laws.{left-to, ident-left, scan-word, token-at}
+use Rattle.token.proofs.ident.lex_ident.Goals as goal
+
+pub word_number-requires : goal.word_number-requires
+word_number-requires c =
+    let s = c.args.s.now in
+    let i = c.args.c.at in
+    let e = c.skip_id_rest-end.ensures in
+    left-to s i _ _ c.requires.0 e.0 (e.1 ∙ ap (afterIdent false) c.requires.3) (ident-left (from s i) c.requires.1)
+
+pub or_prefixed-requires : goal.or_prefixed-requires
+or_prefixed-requires c =
+    let s = c.args.s.now in
+    let i = c.args.c.at in
+    let e = c.skip_id_rest-end.ensures in
+    let l = left-to s i _ _ c.requires.0 e.0 (e.1 ∙ ap (afterIdent false) c.requires.3) (ident-left (from s i) c.requires.1) in
+    (l.0, l.1)
+
+pub returns-in-Is : goal.returns-in-Is
+returns-in-Is c =
+    let s = c.args.s.now in
+    let e = c.skip_id_rest-end.ensures in
+    let r = from s c.skip_id_rest-end.result.at in
+    let key = key-is _ c.in-Is.k (told-by 1 by-ident _ _ _ c.word_number.ensures c.in-Is.ensures) in
+    let w = scan-word (length s) (from s c.args.c.at) r (some c.in-Is.k) (e.1 ∙ ap (afterIdent false) c.requires.3) key in
+    token-at s (tk.Kw c.in-Is.k) _ r e.0 refl ∙ ap (piece_of (length s)) (sym w)
+
+pub returns-in-Not : goal.returns-in-Not
+returns-in-Not c =
+    let s = c.args.s.now in
+    let e = c.skip_id_rest-end.ensures in
+    let r = from s c.skip_id_rest-end.result.at in
+    let key = key-not _ (told-by 1 by-ident _ _ _ c.word_number.ensures c.in-Not.ensures) in
+    let w = scan-word (length s) (from s c.args.c.at) r none (e.1 ∙ ap (afterIdent false) c.requires.3) key in
+    c.or_prefixed.ensures ∙ ap (piece_of (length s)) (sym w)
