@@ -19,6 +19,7 @@ pub fn head_of(length: u16, number: u16) -> u32
 }
 
 // Length and kind, start, end and cut.
+#[tactic(auto, using(crate::proofs::form::Stores::put_head))]
 fn put_head(out: &mut [u8], w: usize, head: u32, start: usize, end: usize, cut: bool)
     requires { w + headLength ≤ length out.old }
     ensures { out.new ≡ sets out.old w (headBytes head start end cut) }
@@ -30,6 +31,7 @@ fn put_head(out: &mut [u8], w: usize, head: u32, start: usize, end: usize, cut: 
 }
 
 // The values: as many bytes of them as the record's length has.
+#[tactic(auto, using(crate::proofs::form::Laws::record_stores))]
 fn put_values(out: &mut [u8], w: usize, size: u16, values: u64)
     requires { Known size × (w + (size - headLength) ≤ length out.old) }
     ensures { out.new ≡ sets out.old w (take (size - headLength) (le8 values)) }
@@ -43,6 +45,7 @@ fn put_values(out: &mut [u8], w: usize, size: u16, values: u64)
 }
 
 // A record by its form.
+#[tactic(auto, using(crate::proofs::form::Laws::record_stores))]
 pub fn put_record(out: &mut [u8], w: usize, form: Form, start: usize, end: usize, cut: bool)
     requires { Known form.length × (w + form.length ≤ length out.old) }
     ensures { out.new ≡ sets out.old w (byForm form start end cut) }
@@ -57,6 +60,7 @@ pub fn put_record(out: &mut [u8], w: usize, form: Form, start: usize, end: usize
 }
 
 // The same, where it fits.
+#[tactic(auto, using(crate::proofs::form::Shapes::fitting))]
 pub fn put_if(out: &mut [u8], w: usize, form: Form, start: usize, end: usize, cut: bool)
     requires { Known form.length × (w + form.length ≤ 18446744073709551615) }
     ensures { out.new ≡ storedIf out.old w (byForm form start end cut) }
@@ -68,6 +72,7 @@ pub fn put_if(out: &mut [u8], w: usize, form: Form, start: usize, end: usize, cu
 }
 
 // The same for each shape by itself, where no cut is set: what is known of it is compiled in. A token without values, by its length and kind.
+#[tactic(auto, using(crate::proofs::form::Shapes::fitting))]
 pub fn put_head_if(out: &mut [u8], w: usize, head: u32, start: usize, end: usize)
     requires { w + headLength ≤ 18446744073709551615 }
     ensures { out.new ≡ storedIf out.old w (headBytes head start end false) }
@@ -79,6 +84,7 @@ pub fn put_head_if(out: &mut [u8], w: usize, head: u32, start: usize, end: usize
 }
 
 // A token without values, by its kind's number.
+#[tactic(auto, using(crate::proofs::form::Shapes::head_plain))]
 pub fn put_plain_if(out: &mut [u8], w: usize, number: u16, start: usize, end: usize)
     requires { w + headLength ≤ 18446744073709551615 }
     ensures { out.new ≡ storedIf out.old w (byForm (plainForm number) start end false) }
@@ -87,6 +93,7 @@ pub fn put_plain_if(out: &mut [u8], w: usize, number: u16, start: usize, end: us
 }
 
 // A line end, with its after-comment mark.
+#[tactic(auto, using(crate::proofs::form::Shapes::fitting))]
 pub fn put_line_if(out: &mut [u8], w: usize, start: usize, end: usize, mark: bool)
     requires { w + lineLength ≤ 18446744073709551615 }
     ensures { out.new ≡ storedIf out.old w (byForm (form_of (tk.Newline mark)) start end false) }
@@ -106,6 +113,7 @@ pub fn put_line_if(out: &mut [u8], w: usize, start: usize, end: usize, mark: boo
 }
 
 // A string, with where its content starts and ends.
+#[tactic(auto, using(crate::proofs::form::Shapes::fitting))]
 pub fn put_str_if(out: &mut [u8], w: usize, start: usize, end: usize, from: usize, to: usize)
     requires { w + strLength ≤ 18446744073709551615 }
     ensures { out.new ≡ storedIf out.old w (byForm (form_of (tk.Str from to)) start end false) }
@@ -126,6 +134,7 @@ pub fn put_str_if(out: &mut [u8], w: usize, start: usize, end: usize, from: usiz
 }
 
 // An IntLit, with its value.
+#[tactic(auto, using(crate::proofs::form::Shapes::fitting))]
 pub fn put_int_if(out: &mut [u8], w: usize, start: usize, end: usize, v: u64)
     requires { w + intLength ≤ 18446744073709551615 }
     ensures { out.new ≡ storedIf out.old w (byForm (form_of (tk.IntLit v)) start end false) }
@@ -149,6 +158,7 @@ pub fn put_int_if(out: &mut [u8], w: usize, start: usize, end: usize, v: u64)
 }
 
 // A LongLit, with its value.
+#[tactic(auto, using(crate::proofs::form::Shapes::fitting))]
 pub fn put_long_if(out: &mut [u8], w: usize, start: usize, end: usize, v: u64)
     requires { w + longLength ≤ 18446744073709551615 }
     ensures { out.new ≡ storedIf out.old w (byForm (form_of (tk.LongLit v)) start end false) }
@@ -185,6 +195,7 @@ const INT_LENGTH: u64 = TokenKind::INT_LIT_LENGTH as u64;
 const LONG_LENGTH: u64 = TokenKind::LONG_LIT_LENGTH as u64;
 
 // The values as one number: as many bytes of them as the record's length has.
+#[tactic(auto, unfolding(crate::specs::code::Form::valuesAt))]
 fn read_values(bytes: &[u8], at: usize, size: u64) -> u64
     requires { at + 8 ≤ 18446744073709551615 }
     ensures { result ≡ valuesAt bytes.now at size }
@@ -199,6 +210,7 @@ fn read_values(bytes: &[u8], at: usize, size: u64) -> u64
 
 // Every record is read here. Every byte is allowed: past the end a byte counts as 0. The second clause: what is stored is read back, and what is
 // read is stored again.
+#[tactic(auto, using(crate::proofs::form::ReadBack::reads), unfolding(crate::specs::code::Form::held_at))]
 pub fn read_record(bytes: &[u8], at: usize) -> Held
     requires { at + mostLength ≤ 18446744073709551615 }
     ensures value { result ≡ held_at bytes.now at }

@@ -10,6 +10,7 @@ ghost use Rattle.token.specs.code.Keyword.{numberOr, keywordAt};
 use crate::kinds::{Kw, TokenKind};
 
 // Two bytes as one number, the lowest first, and four.
+#[tactic(auto, unfolding(words::specs::Words::twoAt))]
 fn two_of(s: &[u8], at: usize) -> u32
     requires { at + 2 ≤ length s.now }
     ensures { result ≡ twoAt s.now at }
@@ -17,6 +18,7 @@ fn two_of(s: &[u8], at: usize) -> u32
     s[at] as u32 + 256 * (s[at + 1] as u32)
 }
 
+#[tactic(auto, unfolding(words::specs::Words::twoAt, words::specs::Words::fourAt))]
 fn four_of(s: &[u8], at: usize) -> u32
     requires { at + 4 ≤ length s.now }
     ensures { result ≡ fourAt s.now at }
@@ -32,6 +34,7 @@ fn number_if(found: bool, number: u16) -> u16
 }
 
 // The kind's number of the word of four bytes that stands there.
+#[tactic(auto, using(crate::proofs::keyword::Laws::keywords))]
 fn four_number(s: &[u8], at: usize) -> u16
     requires { at + 4 ≤ length s.now }
     ensures { result ≡ numberOr 1 (keywordAt wordKeywords 4 s.now at) }
@@ -46,6 +49,7 @@ fn four_number(s: &[u8], at: usize) -> u16
 }
 
 // The same for five bytes, six and eight.
+#[tactic(auto, using(crate::proofs::keyword::Laws::keywords))]
 fn five_number(s: &[u8], at: usize) -> u16
     requires { at + 5 ≤ length s.now }
     ensures { result ≡ numberOr 1 (keywordAt wordKeywords 5 s.now at) }
@@ -57,6 +61,7 @@ fn five_number(s: &[u8], at: usize) -> u16
     }
 }
 
+#[tactic(auto, using(crate::proofs::keyword::Laws::keywords))]
 fn six_number(s: &[u8], at: usize) -> u16
     requires { at + 6 ≤ length s.now }
     ensures { result ≡ numberOr 1 (keywordAt wordKeywords 6 s.now at) }
@@ -67,6 +72,7 @@ fn six_number(s: &[u8], at: usize) -> u16
     )
 }
 
+#[tactic(auto, using(crate::proofs::keyword::Laws::keywords))]
 fn eight_number(s: &[u8], at: usize) -> u16
     requires { at + 8 ≤ length s.now }
     ensures { result ≡ numberOr 1 (keywordAt wordKeywords 8 s.now at) }
@@ -78,6 +84,7 @@ fn eight_number(s: &[u8], at: usize) -> u16
 }
 
 // The kind's number of the identifier from `at` to `end`. Most differ from all nine words in their length.
+#[tactic(auto, using(crate::proofs::keyword::Laws::keywords))]
 pub fn word_number(s: &[u8], at: usize, end: usize) -> u16
     requires { (at ≤ end) × (end ≤ length s.now) × Suffix (from s.now end) (from s.now at) }
     ensures { result ≡ numberOr 1 (word_of (codesTo (from s.now at) (from s.now end))) }
@@ -93,6 +100,7 @@ pub fn word_number(s: &[u8], at: usize, end: usize) -> u16
 }
 
 // The kind's number of one operator sign.
+#[tactic(auto, unfolding(crate::specs::code::Keyword::numberOr, crate::specs::paper::Kinds::run_of))]
 fn sign_number(b: u8) -> u16
     ensures { result ≡ numberOr 2 (run_of (b ∷ [])) }
 {
@@ -106,6 +114,7 @@ fn sign_number(b: u8) -> u16
 }
 
 // The kind's number of the operator from `at` to `end`, if no comment stands behind it.
+#[tactic(auto, using(crate::proofs::keyword::Laws::keywords))]
 pub fn run_number(s: &[u8], at: usize, end: usize) -> u16
     requires { (at ≤ end) × (end ≤ length s.now) × Suffix (from s.now end) (from s.now at) }
     ensures { result ≡ numberOr 2 (run_of (codesTo (from s.now at) (from s.now end))) }

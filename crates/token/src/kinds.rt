@@ -146,6 +146,7 @@ impl TokenKind {
 
     pub const NEWLINE_LENGTH: u16 = TokenKind::HEAD_LENGTH + 1;
 
+    #[tactic(auto, unfolding(crate::specs::code::Form::form_of, crate::specs::paper::Records::recordLength, crate::specs::paper::Records::values))]
     pub fn form(self) -> Form
         ensures { result ≡ form_of self }
     {
@@ -193,6 +194,7 @@ impl Form {
         }
     }
 
+    #[tactic(auto, using(crate::proofs::form::Shapes::forms))]
     pub fn int(v: u64) -> Form
         ensures { result ≡ form_of (tk.IntLit v) }
     {
@@ -203,6 +205,7 @@ impl Form {
         }
     }
 
+    #[tactic(auto, using(crate::proofs::form::Shapes::forms))]
     pub fn long(v: u64) -> Form
         ensures { result ≡ form_of (tk.LongLit v) }
     {
@@ -214,6 +217,7 @@ impl Form {
     }
 
     // A string, by its content's start and end.
+    #[tactic(auto, using(crate::proofs::form::Shapes::forms))]
     pub fn span(from: usize, to: usize) -> Form
         ensures { result ≡ form_of (tk.Str from to) }
     {
@@ -224,6 +228,7 @@ impl Form {
         }
     }
 
+    #[tactic(auto, using(crate::proofs::form::Shapes::forms))]
     pub fn line(mark: bool) -> Form
         ensures { result ≡ form_of (tk.Newline mark) }
     {
@@ -249,6 +254,7 @@ pub enum Keyword {
 }
 
 // The keyword of a kind's number.
+#[tactic(auto, unfolding(crate::specs::code::Keyword::keywordBy, crate::specs::code::Keyword::keywordAmong))]
 pub fn keyword_of(number: u16) -> Keyword
     ensures { result ≡ keywordBy number }
 {

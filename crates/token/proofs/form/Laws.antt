@@ -32,14 +32,6 @@ known-most Known.int = omega arith
 known-most Known.long = omega arith
 known-most Known.str = omega arith
 
--- no other length is left
-pub known-else : {n : ℕ} → Known n → (n ≡ lineLength → ⊥) → (n ≡ intLength → ⊥) → (n ≡ longLength → ⊥) → n ≡ headLength
-known-else Known.bare a b c = refl
-known-else Known.line a b c = absurd (a refl)
-known-else Known.int a b c = absurd (b refl)
-known-else Known.long a b c = absurd (c refl)
-known-else Known.str a b c = absurd (c refl)
-
 length-eight : (x : ℕ) → length (le8 x) ≡ 8
 unfolding le8 le4
 length-eight x = refl
@@ -161,11 +153,6 @@ pub form-record : (t : Token) → byForm (form_of t.kind) t.start t.end t.cut �
 unfolding byForm form_of recordOf head_of
 form-record t = ap (λ v. fields_of (recordLength t.kind) (kindNumber t.kind) t.start t.end t.cut ++ v) (form-values t.kind)
 
--- a line end's form, from its mark as a number
-pub line-form : (mark : Bool) (b : ℕ) → b ≡ bit mark → ◌≡◌ {A = Form} (record { number = kindNumber (tk.Newline mark); length = lineLength; values = b }) (form_of (tk.Newline mark))
-unfolding form_of recordLength values
-line-form mark b e = ap (λ v. record { number = kindNumber (tk.Newline mark); length = lineLength; values = v }) e
-
 -- the same for a form that is known to be the kind's
 pub record-by : (f : Form) (t : Token) → f ≡ form_of t.kind → byForm f t.start t.end t.cut ≡ recordOf t
 record-by f t e = ap (λ g. byForm g t.start t.end t.cut) e ∙ form-record t
@@ -189,25 +176,26 @@ eof-form = refl
 
 -- ---- stores
 
-pub put_one : (l : List ℕ) (w v n : ℕ) → n ≡ lineLength → set l w (v % 256) ≡ sets l w (take (n - headLength) (le8 v))
-put_one l w v n e = rw e (ap (sets l w) (sym (take-one v)))
+-- in as many bytes as the length has
+module _ (l : List ℕ) (w n v : ℕ) where
+  pub put_one : n ≡ lineLength → sets l w (take (n - headLength) (le8 v)) ≡ set l w (v % 256)
+  put_one e = rw e (ap (sets l w) (take-one v))
 
-pub put_some : (l m : List ℕ) (w v n : ℕ) → n ≡ intLength → m ≡ sets l w (le4 (v % 4294967296)) → m ≡ sets l w (take (n - headLength) (le8 v))
-put_some l m w v n e q = q ∙ ap (sets l w) (sym (ap (λ k. take (k - headLength) (le8 v)) e ∙ take-four v))
+  pub put_some : n ≡ intLength → sets l w (take (n - headLength) (le8 v)) ≡ sets l w (le4 (v % 4294967296))
+  put_some e = rw e (ap (sets l w) (take-four v))
 
-pub put-most : (l m : List ℕ) (w v n : ℕ) → n ≡ longLength → m ≡ sets l w (le8 v) → m ≡ sets l w (take (n - headLength) (le8 v))
-put-most l m w v n e q = q ∙ ap (sets l w) (sym (ap (λ k. take (k - headLength) (le8 v)) e ∙ take-eight v))
+  pub put_most : n ≡ longLength → sets l w (take (n - headLength) (le8 v)) ≡ sets l w (le8 v)
+  put_most e = rw e (ap (sets l w) (take-eight v))
 
-pub put-none : (l : List ℕ) (w v n : ℕ) → n ≡ headLength → l ≡ sets l w (take (n - headLength) (le8 v))
-put-none l w v n e = sym (ap (λ k. sets l w (take (k - headLength) (le8 v))) e)
-
-pub put_both : (f : Form) (l m n : List ℕ) (w h start end : ℕ) (cut : Bool) → Known f.length → h ≡ headNumber f.length f.number
-    → m ≡ sets l w (headBytes h start end cut) → n ≡ sets m (w + headLength) (take (f.length - headLength) (le8 f.values)) → n ≡ sets l w (byForm f start end cut)
+-- the head and the values are the record
+pub put_both : (l : List ℕ) (w h start end : ℕ) (cut : Bool) (f : Form) → Known f.length → h ≡ headNumber f.length f.number
+    → sets (sets l w (headBytes h start end cut)) (w + headLength) (take (f.length - headLength) (le8 f.values)) ≡ sets l w (byForm f start end cut)
 unfolding byForm
-put_both f l m n w h start end cut k e p q =
+put_both l w h start end cut f k e =
     let a = known-most k in
     let fields = fields_of f.length f.number start end cut in
     let head = head-fields h f.length f.number start end cut (omega arith) e in
-    q
-    ∙ after fields (take (f.length - headLength) (le8 f.values)) l m w (w + headLength) (p ∙ ap (sets l w) head)
+    after fields (take (f.length - headLength) (le8 f.values)) l _ w (w + headLength) (ap (sets l w) head)
     (ap (λ j. w + j) (sym (length_fields f.length f.number start end cut)))
+
+pub ruleset record_stores = (known-least, put_one, put_some, put_most, put_both)

@@ -101,3 +101,5 @@ stored-again l w =
 
 pub record-form : RecordForm
 record-form = record { held_on = held_on; read_back = read_back; stored-again = stored-again }
+
+pub ruleset reads = (record-form)

@@ -36,19 +36,18 @@ length-record t = length-append (head_of t) (values t.kind) ∙ ap (λ n. n + le
 
 -- ---- heads
 
-pub put-head : (h a e c : ℕ) (b : Bool) (l m n o : List ℕ) (w : ℕ) → c ≡ bit b → m ≡ sets l w (le4 h) → n ≡ sets m (w + 4) (le4 a) → o ≡ sets n (w + 8) (le4 e)
-    → set o (w + 12) c ≡ sets l w (headBytes h a e b)
+pub put_head : (l : List ℕ) (w h a e : ℕ) (b : Bool)
+    → set (sets (sets (sets l w (le4 h)) (w + 4) (le4 a)) (w + 8) (le4 e)) (w + 12) (bit b) ≡ sets l w (headBytes h a e b)
 unfolding headBytes
-put-head h a e c b l m n o w ec p1 p2 p3 =
+put_head l w h a e b =
     let cut = bit b ∷ [] in
     let end = le4 e ++ cut in
     let n1 = length-four h in
     let n2 = length-four a in
     let n3 = length-four e in
-    ap (set o (w + 12)) ec
-    ∙ after (le4 e) cut n o (w + 8) (w + 12) p3 (omega arith)
-    ∙ after (le4 a) end m n (w + 4) (w + 8) p2 (omega arith)
-    ∙ after (le4 h) (le4 a ++ end) l m w (w + 4) p1 (omega arith)
+    after (le4 e) cut _ _ (w + 8) (w + 12) refl (omega arith)
+    ∙ after (le4 a) end _ _ (w + 4) (w + 8) refl (omega arith)
+    ∙ after (le4 h) (le4 a ++ end) l _ w (w + 4) refl (omega arith)
 
 -- length and kind as one number are stored as both are
 pub head-fields : (h l k start end : ℕ) (cut : Bool) → l < 65536 → h ≡ headNumber l k → headBytes h start end cut ≡ fields_of l k start end cut

@@ -1,7 +1,7 @@
 -- A keyword is recognised from its length and from its bytes, which are compared as numbers.
 use Prim.Native.Nat.{ℕ, suc, ◌+◌, ◌-◌, ◌*◌, ◌≤◌, ◌<◌}
 use mathlib.Core.Path.{◌≡◌, refl, sym, ◌∙◌, ap}
-use mathlib.Core.Bool.{Bool, true, false, cond, ◌&&◌, and-true, and-false, and_assoc}
+use mathlib.Core.Bool.{Bool, true, false, cond, ◌&&◌, and-false, and_assoc}
 use mathlib.Core.List.{List, [], ◌∷◌, ◌++◌}
 use mathlib.Core.Option.{Option, none, some}
 use lib.ListN.{length, drop, get_or}
@@ -158,13 +158,6 @@ module _ (s : List ℕ) (a b : ℕ) (h : a ≤ b) (k : b ≤ length s) (l : Suff
   unfolding run_of
   run_at = keyword-at symbolKeywords refl s a b h k l
 
-  -- the number that the code gives, where it is that of the keywords of this length
-  pub word-by : (n r : ℕ) → b - a ≡ n → r ≡ numberOr 1 (keywordAt wordKeywords n s a) → r ≡ numberOr 1 (word_of (codesTo (from s a) (from s b)))
-  word-by n r e q = q ∙ ap (numberOr 1) (sym (word_at ∙ ap (λ m. keywordAt wordKeywords m s a) e))
-
-  pub run_by : (n r : ℕ) → b - a ≡ n → r ≡ numberOr 2 (keywordAt symbolKeywords n s a) → r ≡ numberOr 2 (run_of (codesTo (from s a) (from s b)))
-  run_by n r e q = q ∙ ap (numberOr 2) (sym (run_at ∙ ap (λ m. keywordAt symbolKeywords m s a) e))
-
 -- ---- bytes, compared as one number
 
 -- the number of bytes, the lowest first
@@ -255,74 +248,80 @@ first-none ks ws n s i h e = none-at (startsIn ks) ws n s i h go
         ap (λ z. eqb n (suc (length w)) && (z && standsAt w s (i + 1))) (ne_eqb (get_or s i 0) x (λ q. clash (sym e ∙ ap (member ks) q ∙ m)))
         ∙ and-false (eqb n (suc (length w)))
 
--- ---- the keywords of each length, by numbers
+-- ---- the code's answers, by the numbers that it reads
+
+-- the number of what is there or not
+number_cond : (n : ℕ) (p : Bool) (o u : Option Kw) → numberOr n (cond p o u) ≡ cond p (numberOr n o) (numberOr n u)
+number_cond n true o u = refl
+number_cond n false o u = refl
 
 module _ (s : List ℕ) (b : Bytes s) (i : ℕ) where
-  pub of_two : (v : ℕ) → twoAt s i ≡ v → keywordAt wordKeywords 2 s i ≡ cond (eqb v 0x6669) (some kw.If) none
-  unfolding keywordAt
-  of_two v e = rw (two-stands s b 0x69 0x66 refl i v e)
+  pub two_word : numberOr 1 (keywordAt wordKeywords 2 s i) ≡ cond (eqb (twoAt s i) 0x6669) 36 1
+  unfolding keywordAt numberOr
+  two_word = rw (two-stands s b 0x69 0x66 refl i _ refl) (number_cond 1 _ _ _)
 
-  pub of_four : (v : ℕ) → fourAt s i ≡ v → keywordAt wordKeywords 4 s i
-      ≡ cond (eqb v 0x65736163) (some kw.Case)
-      (cond (eqb v 0x65736C65) (some kw.Else) (cond (eqb v 0x6E656874) (some kw.Then) (cond (eqb v 0x65757274) (some kw.True) none)))
-  unfolding keywordAt
-  of_four v e =
+  pub four_word : numberOr 1 (keywordAt wordKeywords 4 s i)
+      ≡ cond (eqb (fourAt s i) 0x65736163) 32
+      (cond (eqb (fourAt s i) 0x65736C65) 33 (cond (eqb (fourAt s i) 0x6E656874) 39 (cond (eqb (fourAt s i) 0x65757274) 40 1)))
+  unfolding keywordAt numberOr
+  four_word =
       rw (
-        four-stands s b 0x63 0x61 0x73 0x65 refl i v e,
-        four-stands s b 0x65 0x6C 0x73 0x65 refl i v e,
-        four-stands s b 0x74 0x68 0x65 0x6E refl i v e,
-        four-stands s b 0x74 0x72 0x75 0x65 refl i v e,
-      )
+        four-stands s b 0x63 0x61 0x73 0x65 refl i _ refl,
+        four-stands s b 0x65 0x6C 0x73 0x65 refl i _ refl,
+        four-stands s b 0x74 0x68 0x65 0x6E refl i _ refl,
+        four-stands s b 0x74 0x72 0x75 0x65 refl i _ refl,
+      ) (simp number_cond)
 
   -- the first byte, and the other four
-  of-five : (v : ℕ) → fourAt s (i + 1) ≡ v → keywordAt wordKeywords 5 s i
-      ≡ cond (eqb (get_or s i 0) 0x66 && eqb v 0x65736C61) (some kw.False) (cond (eqb (get_or s i 0) 0x6D && eqb v 0x68637461) (some kw.Match) none)
-  unfolding keywordAt standsAt
-  of-five v e = rw (four-stands s b 0x61 0x6C 0x73 0x65 refl (i + 1) v e, four-stands s b 0x61 0x74 0x63 0x68 refl (i + 1) v e)
-
-  pub five-alse : fourAt s (i + 1) ≡ 0x65736C61 → keywordAt wordKeywords 5 s i ≡ cond (eqb (get_or s i 0) 0x66) (some kw.False) none
-  five-alse e = of-five 0x65736C61 e ∙ rw (and-true (eqb (get_or s i 0) 0x66), and-false (eqb (get_or s i 0) 0x6D))
-
-  pub five-atch : fourAt s (i + 1) ≡ 0x68637461 → keywordAt wordKeywords 5 s i ≡ cond (eqb (get_or s i 0) 0x6D) (some kw.Match) none
-  five-atch e = of-five 0x68637461 e ∙ rw (and-false (eqb (get_or s i 0) 0x66), and-true (eqb (get_or s i 0) 0x6D))
-
-  pub five-none : (v : ℕ) → fourAt s (i + 1) ≡ v → (v ≡ 0x65736C61 → ⊥) → (v ≡ 0x68637461 → ⊥) → keywordAt wordKeywords 5 s i ≡ none
-  five-none v e f g =
-      of-five v e ∙ rw (ne_eqb v 0x65736C61 f, ne_eqb v 0x68637461 g, and-false (eqb (get_or s i 0) 0x66), and-false (eqb (get_or s i 0) 0x6D))
+  pub five_word : numberOr 1 (keywordAt wordKeywords 5 s i)
+      ≡ cond (eqb (get_or s i 0) 0x66 && eqb (fourAt s (i + 1)) 0x65736C61) 34 (cond (eqb (get_or s i 0) 0x6D && eqb (fourAt s (i + 1)) 0x68637461) 37 1)
+  unfolding keywordAt standsAt numberOr
+  five_word = rw (four-stands s b 0x61 0x6C 0x73 0x65 refl (i + 1) _ refl, four-stands s b 0x61 0x74 0x63 0x68 refl (i + 1) _ refl) (simp number_cond)
 
   -- the first four, and the others
-  pub of-six : (v w : ℕ) → fourAt s i ≡ v → twoAt s (i + 4) ≡ w
-      → keywordAt wordKeywords 6 s i ≡ cond (eqb v 0x75746572 && eqb w 0x6E72) (some kw.Return) none
-  unfolding keywordAt
-  of-six v w e f =
-      ap (λ z. cond z (some kw.Return) none) (stands-append (codes "retu") (codes "rn") s i (i + 4) refl)
-      ∙ rw (four-stands s b 0x72 0x65 0x74 0x75 refl i v e, two-stands s b 0x72 0x6E refl (i + 4) w f)
+  pub six_word : numberOr 1 (keywordAt wordKeywords 6 s i) ≡ cond (eqb (fourAt s i) 0x75746572 && eqb (twoAt s (i + 4)) 0x6E72) 38 1
+  unfolding keywordAt numberOr
+  six_word =
+      rw (
+        stands-append (codes "retu") (codes "rn") s i (i + 4) refl,
+        four-stands s b 0x72 0x65 0x74 0x75 refl i _ refl,
+        two-stands s b 0x72 0x6E refl (i + 4) _ refl,
+      ) (number_cond 1 _ _ _)
 
-  pub of-eight : (v w : ℕ) → fourAt s i ≡ v → fourAt s (i + 4) ≡ w
-      → keywordAt wordKeywords 8 s i ≡ cond (eqb v 0x636E7566 && eqb w 0x6E6F6974) (some kw.Function) none
-  unfolding keywordAt
-  of-eight v w e f =
-      ap (λ z. cond z (some kw.Function) none) (stands-append (codes "func") (codes "tion") s i (i + 4) refl)
-      ∙ rw (four-stands s b 0x66 0x75 0x6E 0x63 refl i v e, four-stands s b 0x74 0x69 0x6F 0x6E refl (i + 4) w f)
+  pub eight_word : numberOr 1 (keywordAt wordKeywords 8 s i) ≡ cond (eqb (fourAt s i) 0x636E7566 && eqb (fourAt s (i + 4)) 0x6E6F6974) 35 1
+  unfolding keywordAt numberOr
+  eight_word =
+      rw (
+        stands-append (codes "func") (codes "tion") s i (i + 4) refl,
+        four-stands s b 0x66 0x75 0x6E 0x63 refl i _ refl,
+        four-stands s b 0x74 0x69 0x6F 0x6E refl (i + 4) _ refl,
+      ) (number_cond 1 _ _ _)
 
-  pub run-two : (v : ℕ) → twoAt s i ≡ v → keywordAt symbolKeywords 2 s i ≡ cond (eqb v 0x3E3D) (some kw.FatArrow) none
-  unfolding keywordAt
-  run-two v e = rw (two-stands s b 0x3D 0x3E refl i v e)
+  pub two_run : numberOr 2 (keywordAt symbolKeywords 2 s i) ≡ cond (eqb (twoAt s i) 0x3E3D) 42 2
+  unfolding keywordAt numberOr
+  two_run = rw (two-stands s b 0x3D 0x3E refl i _ refl) (number_cond 2 _ _ _)
 
 -- a run of one sign
-pub run-one : (s : List ℕ) (i : ℕ) → keywordAt symbolKeywords 1 s i ≡ run_of (get_or s i 0 ∷ [])
+pub one_run : (s : List ℕ) (i : ℕ) → keywordAt symbolKeywords 1 s i ≡ run_of (get_or s i 0 ∷ [])
 unfolding keywordAt standsAt run_of
-run-one s i =
+one_run s i =
     let x = get_or s i 0 in
     rw (eqb-flip x 0x3A, eqb-flip x 0x3D, eqb-flip x 0x23, eqb-flip x 0x40, and-false (eqb 0x3D x))
 
--- ---- the code's answers
-
--- the number of a keyword that is there or not
-pub number-cond : (p : Bool) (k : Kw) → cond p (kwNumber k) 1 ≡ numberOr 1 (cond p (some k) none)
+-- no keyword has another length
+pub length_else : (n : ℕ) (s : List ℕ) (i : ℕ) → (n ≡ 2 → ⊥) → (n ≡ 4 → ⊥) → (n ≡ 5 → ⊥) → (n ≡ 6 → ⊥) → (n ≡ 8 → ⊥)
+    → numberOr 1 (keywordAt wordKeywords n s i) ≡ 1
 unfolding numberOr
-number-cond true k = refl
-number-cond false k = refl
+length_else n s i a b c d e =
+    ap (numberOr 1) (length_none (2 ∷ 4 ∷ 5 ∷ 6 ∷ 8 ∷ []) wordKeywords n s i refl (rw (ne_eqb n 2 a, ne_eqb n 4 b, ne_eqb n 5 c, ne_eqb n 6 d, ne_eqb n 8 e)))
+
+pub run_else : (n : ℕ) (s : List ℕ) (i : ℕ) → (n ≡ 1 → ⊥) → (n ≡ 2 → ⊥) → numberOr 2 (keywordAt symbolKeywords n s i) ≡ 2
+unfolding numberOr
+run_else n s i a b = ap (numberOr 2) (length_none (1 ∷ 2 ∷ []) symbolKeywords n s i refl (rw (ne_eqb n 1 a, ne_eqb n 2 b)))
+
+pub ruleset keywords = (word_at, two_word, four_word, five_word, six_word, eight_word, length_else, run_at, one_run, two_run, run_else)
+
+-- ---- keywords by their numbers
 
 -- a keyword by the number of its kind is the keyword
 pub by_number : (k : Kw) → keywordBy (kwNumber k) ≡ key.Is k
