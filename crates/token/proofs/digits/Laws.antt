@@ -26,7 +26,7 @@ use Rattle.token.specs.declared.digits.Value.TheVariants as value
 use Rattle.token.proofs.Base.{zero_one}
 use Rattle.token.proofs.cursor.Bytes.{any-byte, ascii-list, inside, past, two_bytes}
 use Rattle.token.proofs.theorems.Numbers.{valueAfter, digitsOf, read_is}
-open code_laws use {between_in, between-out, in_between, not-between}
+open code_laws use {hits, misses, between_in, between-out, in_between, not-between}
 open text-laws use {head_byte, at_ascii, at-end, place-from}
 
 -- ---- the digits of a base
@@ -246,6 +246,16 @@ overs v e = go (leb v 9223372036854775807) refl e
 
 -- ---- numbers
 
+-- `L` or `l` is one byte
+pub letter_byte : (s : List ℕ) (i : ℕ) → letterL (from s i) ≡ one_of "Ll" (get_or s i 0)
+letter_byte s i = any-byte "Ll" refl s i
+
+pub letter_hit : (b : ℕ) → (b ≡ 0x4C) ⊎ (b ≡ 0x6C) → one_of "Ll" b ≡ true
+letter_hit b h = hits (0x4C ∷ 0x6C ∷ []) b h
+
+pub letter_miss : (b : ℕ) → ((b ≡ 0x4C) ⊎ (b ≡ 0x6C) → ⊥) → one_of "Ll" b ≡ false
+letter_miss b h = misses (0x4C ∷ 0x6C ∷ []) b h
+
 -- the number that begins at start, whose digits of the value v end at end
 module _ (s : List ℕ) (start end v : ℕ) (h : start ≤ length s) where
   pub long-piece : v ≤ 9223372036854775807 → one_of "Ll" (get_or s end 0) ≡ true
@@ -307,9 +317,9 @@ module _ (s : List ℕ) (i : ℕ) where
       (omega arith, ap (drop 2) (at_ascii s i n (omega arith)) ∙ past s (i + 1) m (omega arith) ∙ ap (from s) z)
 
   -- `0x` and a hex digit, by their bytes
-  pub hex-bytes : hexAhead (from s i) ≡ eqb (get_or s i 0) 0x30 && eqb (get_or s (i + 1) 0) 0x78 && digitIn 16 (get_or s (i + 2) 0)
+  pub hex_bytes : hexAhead (from s i) ≡ eqb (get_or s i 0) 0x30 && eqb (get_or s (i + 1) 0) 0x78 && digitIn 16 (get_or s (i + 2) 0)
   unfolding digitIn
-  hex-bytes = go zeroX refl
+  hex_bytes = go zeroX refl
     where
       go : (t : Bool) → zeroX ≡ t → begins "0x" (from s i) && hexDigit (drop 2 (from s i)) ≡ zeroX && digitIn 16 (get_or s (i + 2) 0)
       go true e = rw (zero-x, e) (ap (headIs (digitIn 16)) (past-zero-x e).1 ∙ head_byte (digitIn 16) (digits-ascii 16) s (i + 2))

@@ -29,7 +29,7 @@ use Rattle.token.specs.declared.piece.Piece.TheVariants as piece
 use Rattle.token.specs.declared.literal.NumberLit.{NumberLit}
 use Rattle.token.proofs.byte_class.Laws.{class-digit}
 use Rattle.token.proofs.cursor.Bytes.{any-byte, ascii-list}
-use Rattle.token.proofs.digits.Laws.{digits-ascii, class-at, digit_value, digit-under, digit-stops, base-some, read_next, read-stop, hex-bytes, hex-number, dec-number, long-piece, int-piece}
+use Rattle.token.proofs.digits.Laws.{digits-ascii, class-at, digit_value, digit-under, digit-stops, base-some, read_next, read-stop, hex_bytes, hex-number, dec-number, long-piece, int-piece}
 use Rattle.token.proofs.lexer.Laws.{number_at}
 use Rattle.token.proofs.theorems.Numbers.{valueAfter, digitsOf, read_is}
 open code_laws use {carry-not, carry-span, no_member, in_between, between_in, between-out}
@@ -249,7 +249,7 @@ module _ (s : List ℕ) (at : ℕ) where
   dec-of e = sym (rw e)
 
   no-hex : eqb (get_or s (at + 1) 0) 0x78 ≡ false → hexAhead (from s at) ≡ false
-  no-hex e = hex-bytes s at ∙ go (eqb (get_or s at 0) 0x30) (digitIn 16 (get_or s (at + 2) 0))
+  no-hex e = hex_bytes s at ∙ go (eqb (get_or s at 0) 0x30) (digitIn 16 (get_or s (at + 2) 0))
     where
       go : (x y : Bool) → x && eqb (get_or s (at + 1) 0) 0x78 && y ≡ false
       go true y = rw e
@@ -338,7 +338,7 @@ reads_at s at h d = go (hexAhead (from s at)) refl
   where
     go : (b : Bool) → hexAhead (from s at) ≡ b → Reads s at
     go true e =
-        let z = and_both (eqb (get_or s at 0) 0x30 && eqb (get_or s (at + 1) 0) 0x78) (digitIn 16 (get_or s (at + 2) 0)) (sym (hex-bytes s at) ∙ e) in
+        let z = and_both (eqb (get_or s at 0) 0x30 && eqb (get_or s (at + 1) 0) 0x78) (digitIn 16 (get_or s (at + 2) 0)) (sym (hex_bytes s at) ∙ e) in
         reads_in 16 16 s at (at + 2) (omega arith) z.1 (hex-of s at e) (hex-number s at e ∙ sym (number_at s at h d))
     go false e = reads_in 10 19 s at at (omega arith) d (dec-of s at e) (dec-number s at e ∙ sym (number_at s at h d))
 
