@@ -111,8 +111,8 @@ module _ (base b : ℕ) (h : (base ≡ 10) ⊎ (base ≡ 16)) where
       go (inl e) = le-ltb (digitOf b) base (omega arith) ∙ sym (q ∙ rw e)
       go (inr e) = lt-ltb (digitOf b) base (omega arith) ∙ sym (q ∙ rw e)
 
-  pub digit-under : ltb (digitOf b) base ≡ digitIn base b
-  digit-under = go (between 0x30 0x39 b) (between 0x41 0x46 b) (between 0x61 0x66 b) refl refl refl
+  pub digit_under : ltb (digitOf b) base ≡ digitIn base b
+  digit_under = go (between 0x30 0x39 b) (between 0x41 0x46 b) (between 0x61 0x66 b) refl refl refl
     where
       go : (x y z : Bool) → between 0x30 0x39 b ≡ x → between 0x41 0x46 b ≡ y → between 0x61 0x66 b ≡ z → ltb (digitOf b) base ≡ digitIn base b
       go true y z p q r =
@@ -137,10 +137,10 @@ module _ (base b : ℕ) (h : (base ≡ 10) ⊎ (base ≡ 16)) where
           le-ltb (digitOf b) base (omega arith) ∙ sym (no_digit base b x y z)
 
   pub digit-taken : digitOf b < base → digitIn base b ≡ true
-  digit-taken k = sym digit-under ∙ lt-ltb (digitOf b) base k
+  digit-taken k = sym digit_under ∙ lt-ltb (digitOf b) base k
 
   pub digit-stops : base ≤ digitOf b → digitIn base b ≡ false
-  digit-stops k = sym digit-under ∙ le-ltb (digitOf b) base k
+  digit-stops k = sym digit_under ∙ le-ltb (digitOf b) base k
 
 -- ---- runs of a class
 
@@ -210,6 +210,17 @@ module _ (base : ℕ) (h : 1 ≤ base) where
 -- where a byte is taken as a digit the script goes on
 pub digit-inside : (base : ℕ) → (base ≡ 10) ⊎ (base ≡ 16) → (s : List ℕ) (i d : ℕ) → d ≡ digitOf (get_or s i 0) → d < base → i < length s
 digit-inside base h s i d e l = (class-at (digitIn base) (digits-ascii base) s i (digit-taken base (get_or s i 0) h (omega arith))).0
+
+-- what a byte's value tells: below the base it is one digit more, else the digits end
+module _ (base : ℕ) (h : (base ≡ 10) ⊎ (base ≡ 16)) (s : List ℕ) (i d v : ℕ) (e : d ≡ digitOf (get_or s i 0)) where
+  pub one_more : d < base → readDigits (digitIn base) base (v * base + d) (from s (i + 1)) ≡ readDigits (digitIn base) base v (from s i)
+  one_more l =
+      let p = digitIn base in
+      let t = digit-taken base (get_or s i 0) h (omega arith) in
+      ap (λ k. readDigits p base (v * base + k) (from s (i + 1))) (e ∙ digit_value (get_or s i 0) base t) ∙ read_next p (digits-ascii base) s i base v t
+
+  pub no_more : base ≤ d → numeral v (from s i) ≡ readDigits (digitIn base) base v (from s i)
+  no_more l = read-stop (digitIn base) (digits-ascii base) s i base v (digit-stops base (get_or s i 0) h (omega arith))
 
 pub base-some : (base : ℕ) → (base ≡ 10) ⊎ (base ≡ 16) → 1 ≤ base
 base-some base (inl e) = omega arith

@@ -29,7 +29,7 @@ use Rattle.token.specs.declared.piece.Piece.TheVariants as piece
 use Rattle.token.specs.declared.literal.NumberLit.{NumberLit}
 use Rattle.token.proofs.byte_class.Laws.{class-digit}
 use Rattle.token.proofs.cursor.Bytes.{any-byte, ascii-list}
-use Rattle.token.proofs.digits.Laws.{digits-ascii, class-at, digit_value, digit-under, digit-stops, base-some, read_next, read-stop, hex_bytes, hex-number, dec-number, long-piece, int-piece}
+use Rattle.token.proofs.digits.Laws.{digits-ascii, class-at, digit_value, digit_under, digit-stops, base-some, read_next, read-stop, hex_bytes, hex-number, dec-number, long-piece, int-piece}
 use Rattle.token.proofs.lexer.Laws.{number_at}
 use Rattle.token.proofs.theorems.Numbers.{valueAfter, digitsOf, read_is}
 open code_laws use {carry-not, carry-span, no_member, in_between, between_in, between-out}
@@ -64,7 +64,7 @@ pub record Taken (base : ℕ) (s : List ℕ) (i d : ℕ) : Type 0 where
 value-under : (base b : ℕ) → (base ≡ 10) ⊎ (base ≡ 16) → digitIn base b ≡ true → digitValue b < base
 value-under base b h e =
     let q = digit_value b base e in
-    let l = ltb-true (digitOf b) base (digit-under base b h ∙ e) in
+    let l = ltb-true (digitOf b) base (digit_under base b h ∙ e) in
     omega arith
 
 pub hex-taken : (s : List ℕ) (i d : ℕ) → d ≡ digitOf (get_or s i 0) → (d ≡ 16 → ⊥) → Taken 16 s i d
@@ -225,6 +225,39 @@ module _ (base most : ℕ) (h : (base ≡ 10) ⊎ (base ≡ 16)) (s : List ℕ) 
           let j = (class-at (digitIn base) (digits-ascii base) s i q).0 in
           digits-over (at-lesser stop (length s) (start + most) i e k j r.few) q
       go false q = digits-stop q
+
+-- ---- one turn of the loops
+
+-- with one digit more the value fits 64 bits
+pub record Onward (base most : ℕ) (s : List ℕ) (start i v d : ℕ) : Type 0 where
+  pub fits : v * base + d < 18446744073709551616
+  pub on : DigitsTo base most s start (i + 1) (v * base + d)
+
+module _ (s : List ℕ) (start i v stop : ℕ) where
+  pub hex-turn : DigitsTo 16 16 s (start + 2) i v → stop ≡ lesser (length s) (start + 18) → i < stop
+      → (d : ℕ) → d ≡ digitOf (get_or s i 0) → (d ≡ 16 → ⊥) → Onward 16 16 s (start + 2) i v d
+  hex-turn r q l d e n =
+      let k : i < start + 2 + 16 = omega (arith, below stop (length s) (start + 18) i q l) in
+      let t = hex-taken s i d e n in
+      record {
+        fits = digits-fit 16 16 (inr refl) s (start + 2) i v r d k t 18446744073709551616 hex-room;
+        on = digits-on 16 16 (inr refl) s (start + 2) i v r d k t;
+      }
+
+  pub hex-full : DigitsTo 16 16 s (start + 2) i v → stop ≡ lesser (length s) (start + 18) → stop ≤ i → fullEnd 16 s v i ≡ literalIn 16 16 s (start + 2)
+  hex-full r q l =
+      let z : start + 18 ≡ start + 2 + 16 = omega arith in
+      digits-full 16 16 (inr refl) s (start + 2) i v r stop (q ∙ ap (lesser (length s)) z) l
+
+  pub dec-turn : DigitsTo 10 19 s start i v → stop ≡ lesser (length s) (start + 19) → i < stop
+      → (b : ℕ) → b ≡ get_or s i 0 → ltb b 0x30 || ltb 0x39 b ≡ false → Onward 10 19 s start i v (b % 16)
+  dec-turn r q l b e n =
+      let k = (below stop (length s) (start + 19) i q l).1 in
+      let t = dec-taken s i b e n in
+      record {
+        fits = digits-fit 10 19 (inl refl) s start i v r (b % 16) k t 18446744073709551616 dec-room;
+        on = digits-on 10 19 (inl refl) s start i v r (b % 16) k t;
+      }
 
 -- ---- the number's end
 
