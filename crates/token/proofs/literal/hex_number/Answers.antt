@@ -4,13 +4,13 @@ use Rattle.token.proofs.literal.Laws.{digits-stop, hex-stops, hex-turn, hex-full
 use Rattle.token.proofs.literal.hex_number.Goals as goal
 
 pub returns-then-d-eq16 : goal.returns-then-d-eq16
-returns-then-d-eq16 c = c.literal_end.ensures ∙ digits-stop 16 16 (inr refl) _ _ _ _ c.loop-i.invariant (hex-stops _ _ _ c.digit_of-d.ensures c.if-d-eq16.true)
+returns-then-d-eq16 c = c.literal_end.ensures ∙ digits-stop 16 16 (inr refl) _ _ _ _ c.loop-i.invariant (hex-stops c.args.s.now c.loop-i.i _ c.digit_of-d.ensures c.if-d-eq16.true)
 
 pub overflow_mul-v : goal.overflow_mul-v
 overflow_mul-v c = omega (arith, (hex-turn _ _ _ _ _ c.loop-i.invariant c.least-stop.ensures c.loop-i-test.true _ c.digit_of-d.ensures c.if-d-eq16.false).fits)
 
 pub overflow_add-v : goal.overflow_add-v
-overflow_add-v c = (hex-turn _ _ _ _ _ c.loop-i.invariant c.least-stop.ensures c.loop-i-test.true _ c.digit_of-d.ensures c.if-d-eq16.false).fits
+overflow_add-v c = omega (arith, (hex-turn _ _ _ _ _ c.loop-i.invariant c.least-stop.ensures c.loop-i-test.true _ c.digit_of-d.ensures c.if-d-eq16.false).fits)
 
 pub loop-i-preserved : goal.loop-i-preserved
 loop-i-preserved c = (hex-turn _ _ _ _ _ c.loop-i.invariant c.least-stop.ensures c.loop-i-test.true _ c.digit_of-d.ensures c.if-d-eq16.false).on
