@@ -1,5 +1,5 @@
 -- A byte that is no digit ends the run; a digit is one character of it.
-use Rattle.std.proofs.Common.{◌+◌, arith, sym, ◌∙◌}
+use Rattle.std.proofs.Common.{arith, sym, ◌∙◌}
 use Rattle.token.specs.code.Digits.{digitIn}
 use Rattle.token.proofs.digits.Laws.{digits-ascii, class-at, up-stop, up_next, up-full}
 use Rattle.token.proofs.digits.consume_digits.Goals as goal

@@ -1,5 +1,5 @@
 -- A digit is one character, and a value past the limit stays past it.
-use Rattle.std.proofs.Common.{◌+◌, ◌*◌, length, arith, sym, ap, ◌∙◌}
+use Rattle.std.proofs.Common.{◌+◌, ◌*◌, length, arith, ap, ◌∙◌}
 use Rattle.chars.specs.paper.Text.{from}
 use Rattle.token.specs.computed.Answer.{readDigits, number_of}
 use Rattle.token.specs.code.Piece.{piece_of}
