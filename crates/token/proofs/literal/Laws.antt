@@ -216,14 +216,14 @@ module _ (base most : ℕ) (h : (base ≡ 10) ⊎ (base ≡ 16)) (s : List ℕ) 
           ap goesOn e ∙ sym f ∙ ap (endingBy (length s) (start + most)) (x.same ∙ r.same)
 
   -- as many digits as are read, or the end of script
-  pub digits-full : (stop : ℕ) → stop ≡ lesser (length s) (start + most) → stop ≤ i → fullEnd base s v i ≡ literalIn base most s start
+  pub digits-full : (stop m : ℕ) → stop ≡ lesser (length s) m → m ≡ start + most → stop ≤ i → fullEnd base s v i ≡ literalIn base most s start
   unfolding fullEnd
-  digits-full stop e k = go (digitIn base (get_or s i 0)) refl
+  digits-full stop m e n k = go (digitIn base (get_or s i 0)) refl
     where
       go : (t : Bool) → digitIn base (get_or s i 0) ≡ t → cond t (goesOn i) (literalEnd (length s) v (from s i)) ≡ literalIn base most s start
       go true q =
           let j = (class-at (digitIn base) (digits-ascii base) s i q).0 in
-          digits-over (at-lesser stop (length s) (start + most) i e k j r.few) q
+          digits-over (at-lesser stop (length s) m i e k j (omega (arith, r.few)) ∙ n) q
       go false q = digits-stop q
 
 -- ---- one turn of the loops
@@ -233,27 +233,22 @@ pub record Onward (base most : ℕ) (s : List ℕ) (start i v d : ℕ) : Type 0 
   pub fits : v * base + d < 18446744073709551616
   pub on : DigitsTo base most s start (i + 1) (v * base + d)
 
-module _ (s : List ℕ) (start i v stop : ℕ) where
-  pub hex-turn : DigitsTo 16 16 s (start + 2) i v → stop ≡ lesser (length s) (start + 18) → i < stop
-      → (d : ℕ) → d ≡ digitOf (get_or s i 0) → (d ≡ 16 → ⊥) → Onward 16 16 s (start + 2) i v d
-  hex-turn r q l d e n =
-      let k : i < start + 2 + 16 = omega (arith, below stop (length s) (start + 18) i q l) in
-      let t = hex-taken s i d e n in
+module _ (s : List ℕ) (start i v stop m : ℕ) where
+  pub hex-turn : DigitsTo 16 16 s start i v → stop ≡ lesser (length s) m → m ≤ start + 16 → i < stop
+      → (d : ℕ) → d ≡ digitOf (get_or s i 0) → (d ≡ 16 → ⊥) → Onward 16 16 s start i v d
+  hex-turn r q n l d e f =
+      let k : i < start + 16 = omega (arith, below stop (length s) m i q l) in
+      let t = hex-taken s i d e f in
       record {
-        fits = digits-fit 16 16 (inr refl) s (start + 2) i v r d k t 18446744073709551616 hex-room;
-        on = digits-on 16 16 (inr refl) s (start + 2) i v r d k t;
+        fits = digits-fit 16 16 (inr refl) s start i v r d k t 18446744073709551616 hex-room;
+        on = digits-on 16 16 (inr refl) s start i v r d k t;
       }
 
-  pub hex-full : DigitsTo 16 16 s (start + 2) i v → stop ≡ lesser (length s) (start + 18) → stop ≤ i → fullEnd 16 s v i ≡ literalIn 16 16 s (start + 2)
-  hex-full r q l =
-      let z : start + 18 ≡ start + 2 + 16 = omega arith in
-      digits-full 16 16 (inr refl) s (start + 2) i v r stop (q ∙ ap (lesser (length s)) z) l
-
-  pub dec-turn : DigitsTo 10 19 s start i v → stop ≡ lesser (length s) (start + 19) → i < stop
+  pub dec-turn : DigitsTo 10 19 s start i v → stop ≡ lesser (length s) m → m ≤ start + 19 → i < stop
       → (b : ℕ) → b ≡ get_or s i 0 → ltb b 0x30 || ltb 0x39 b ≡ false → Onward 10 19 s start i v (b % 16)
-  dec-turn r q l b e n =
-      let k = (below stop (length s) (start + 19) i q l).1 in
-      let t = dec-taken s i b e n in
+  dec-turn r q n l b e f =
+      let k : i < start + 19 = omega (arith, below stop (length s) m i q l) in
+      let t = dec-taken s i b e f in
       record {
         fits = digits-fit 10 19 (inl refl) s start i v r (b % 16) k t 18446744073709551616 dec-room;
         on = digits-on 10 19 (inl refl) s start i v r (b % 16) k t;
