@@ -1,12 +1,12 @@
 -- Digit runs. One fact over the base serves numbers and escapes: a digit is an ASCII character, so that a run is walked on its bytes.
-use Prim.Native.Nat.{ℕ, zero, suc, ◌+◌, ◌*◌, ◌-◌, ◌/◌, ◌≤◌, ◌<◌}
+use Prim.Native.Nat.{ℕ, zero, suc, ◌+◌, ◌*◌, ◌-◌, ◌≤◌, ◌<◌}
 use mathlib.Core.Path.{◌≡◌, refl, sym, ◌∙◌, ap}
 use mathlib.Core.Bool.{Bool, true, false, cond, ◌&&◌, ◌||◌}
 use mathlib.Core.Logic.{◌⊎◌, inl, inr}
 use mathlib.Core.List.{List, [], ◌∷◌}
 use lib.ListN.{length, drop, get_or}
 use lib.Dec.{eqb, leb, ltb}
-use native.Mathlib.Nat.{le-div_iff_mul-le, div-lt_iff_lt-mul, le-mul_of_pos_right, one-le-pow}
+use native.Mathlib.Nat.{le-mul_of_pos_right, one-le-pow}
 use native.Mathlib.Omega.{arith}
 use borrow.Author.Tests.{ltb-true, ltb-false, lt-ltb, le-ltb, leb-true, leb-false, le-leb, lt-leb, eqb-true}
 use Rattle.chars.specs.paper.Quoted.{between, codes, one_of}
@@ -199,14 +199,6 @@ module _ (p : ℕ → Bool) (a : AsciiClass p) where
 no_less : (base v : ℕ) (ds : List ℕ) → 1 ≤ base → v ≤ valueAfter base v ds
 no_less base v ds h = let m = le-mul_of_pos_right v (one-le-pow (length ds) base h) in omega (arith, m)
 
--- the test before a digit is taken
-module _ (base : ℕ) (h : 1 ≤ base) where
-  pub stays : (limit v d : ℕ) → d ≤ limit → v ≤ (limit - d) / base → v * base + d ≤ limit
-  stays limit v d k q = let m = (le-div_iff_mul-le h).0 q in omega (arith, m)
-
-  pub passes : (limit v d : ℕ) → d ≤ limit → (limit - d) / base < v → limit < v * base + d
-  passes limit v d k q = let m = (div-lt_iff_lt-mul h).0 q in omega (arith, m)
-
 -- where a byte is taken as a digit the script goes on
 pub digit-inside : (base : ℕ) → (base ≡ 10) ⊎ (base ≡ 16) → (s : List ℕ) (i d : ℕ) → d ≡ digitOf (get_or s i 0) → d < base → i < length s
 digit-inside base h s i d e l = (class-at (digitIn base) (digits-ascii base) s i (digit-taken base (get_or s i 0) h (omega arith))).0
@@ -225,19 +217,6 @@ module _ (base : ℕ) (h : (base ≡ 10) ⊎ (base ≡ 16)) (s : List ℕ) (i d 
 pub base-some : (base : ℕ) → (base ≡ 10) ⊎ (base ≡ 16) → 1 ≤ base
 base-some base (inl e) = omega arith
 base-some base (inr e) = omega arith
-
--- a value this small has room for a digit of either base
-pub safe : (base v d : ℕ) → (base ≡ 10) ⊎ (base ≡ 16) → v ≤ 576460752303423487 → d < 16 → v * base + d ≤ 9223372036854775807
-safe base v d (inl e) h k = let z : v * base ≡ v * 10 = ap (λ b. v * b) e in omega arith
-safe base v d (inr e) h k = let z : v * base ≡ v * 16 = ap (λ b. v * b) e in omega arith
-
-pub fits : (v : ℕ) → v ≤ 9223372036854775807 → value.Of v ≡ value_of v
-unfolding value_of
-fits v h = rw (le-leb v 9223372036854775807 h)
-
-pub over : (v : ℕ) → 9223372036854775807 < v → value.Over ≡ value_of v
-unfolding value_of
-over v h = rw (lt-leb v 9223372036854775807 h)
 
 pub fitted : (w v : ℕ) → value.Of w ≡ value_of v → (w ≡ v) × (v ≤ 9223372036854775807)
 unfolding value_of
@@ -258,9 +237,6 @@ overs v e = go (leb v 9223372036854775807) refl e
 -- ---- numbers
 
 -- `L` or `l` is one byte
-pub letter_byte : (s : List ℕ) (i : ℕ) → letterL (from s i) ≡ one_of "Ll" (get_or s i 0)
-letter_byte s i = any-byte "Ll" refl s i
-
 pub letter_hit : (b : ℕ) → (b ≡ 0x4C) ⊎ (b ≡ 0x6C) → one_of "Ll" b ≡ true
 letter_hit b h = hits (0x4C ∷ 0x6C ∷ []) b h
 

@@ -6,7 +6,7 @@ use mathlib.Core.Logic.{◌⊎◌, inl, inr}
 use mathlib.Core.List.{List}
 use lib.ListN.{length, get_or}
 use lib.Dec.{eqb, leb, ltb}
-use native.Mathlib.Nat.{add-mul, mul-le-mul_right, pow-suc, pow-zero, pow-le-pow_right}
+use native.Mathlib.Nat.{add-mul, mul-le-mul_right, pow-suc, pow-le-pow_right}
 use native.Mathlib.Omega.{arith}
 use borrow.Author.Tests.{ltb-true, ltb-false, leb-true, le-leb, lt-leb, eq-eqb, eqb-true}
 use Rattle.chars.specs.paper.Quoted.{between, codes, one_of}
@@ -155,11 +155,6 @@ pub record DigitsTo (base most : ℕ) (s : List ℕ) (start i v : ℕ) : Type 0 
   pub few : i ≤ start + most
   pub small : v < base ^ (i - start)
   pub same : readDigits (digitIn base) base v (from s i) ≡ readDigits (digitIn base) base 0 (from s start)
-
-pub digits-none : (base most : ℕ) (s : List ℕ) (start : ℕ) → start ≤ length s → DigitsTo base most s start start 0
-digits-none base most s start h =
-    let z : start - start ≡ 0 = omega arith in
-    record { since = omega arith; within = h; few = omega arith; small = rw (z, pow-zero base) (omega arith); same = refl }
 
 -- one digit more
 more-digit : (base v d n : ℕ) → v < base ^ n → d < base → v * base + d < base ^ suc n
