@@ -27,6 +27,7 @@ impl Value {
 }
 
 // Is the byte a digit of this base: 16, else 10?
+#[tactic(auto, unfolding(crate::specs::code::Digits::digitIn, crate::specs::paper::Tests::isDigit, crate::specs::paper::Tests::isHexDigit))]
 pub fn is_digit(b: u8, base: u64) -> bool
     ensures { result ≡ digitIn base b }
 {
@@ -39,6 +40,7 @@ pub fn is_digit(b: u8, base: u64) -> bool
 }
 
 // A hex digit's value, 16 for any other byte: one look tells whether it is a digit of a base, and which.
+#[tactic(auto, unfolding(crate::specs::code::Digits::digitOf, crate::specs::code::Digits::digitIn, crate::specs::paper::Tests::isDigit, crate::specs::paper::Tests::isHexDigit))]
 pub fn digit_of(b: u8) -> u64
     ensures { result ≡ digitOf b }
 {
@@ -68,6 +70,7 @@ pub fn consume_digits(s: &[u8], c: Cursor, base: u64, most: usize) -> Cursor
 }
 
 // A value with one more digit. Most values are far from the limit, and only the others need a division.
+#[tactic(auto, unfolding(crate::specs::code::Digits::value_of))]
 fn push_digit(v: u64, d: u64, base: u64) -> Value
     requires { (d < 16) × ((base ≡ 10) ⊎ (base ≡ 16)) }
     ensures { result ≡ value_of (v * base + d) }
@@ -82,6 +85,7 @@ fn push_digit(v: u64, d: u64, base: u64) -> Value
 }
 
 // Do `0x` and a hex digit stand there?
+#[tactic(auto, using(crate::proofs::digits::Laws::hex_bytes))]
 pub fn hex_ahead(s: &[u8], c: Cursor) -> bool
     requires { c.at ≤ length s.now }
     ensures { result ≡ hexAhead (from s.now c.at) }
@@ -129,6 +133,7 @@ fn number_end(s: &[u8], start: usize, v: u64, end: usize) -> Piece
 }
 
 // An IntLit, unless it is too large.
+#[tactic(auto, unfolding(crate::specs::code::Digits::intOr))]
 fn int_literal(start: usize, v: u64, end: Cursor) -> Piece
     ensures { result ≡ intOr start v end }
 {

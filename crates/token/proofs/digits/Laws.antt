@@ -1,12 +1,12 @@
 -- Digit runs. One fact over the base serves numbers and escapes: a digit is an ASCII character, so that a run is walked on its bytes.
-use Prim.Native.Nat.{ℕ, zero, suc, ◌+◌, ◌*◌, ◌-◌, ◌/◌, ◌≤◌, ◌<◌}
+use Prim.Native.Nat.{ℕ, zero, suc, ◌+◌, ◌*◌, ◌-◌, ◌≤◌, ◌<◌}
 use mathlib.Core.Path.{◌≡◌, refl, sym, ◌∙◌, ap}
 use mathlib.Core.Bool.{Bool, true, false, cond, ◌&&◌, ◌||◌}
 use mathlib.Core.Logic.{◌⊎◌, inl, inr}
 use mathlib.Core.List.{List, [], ◌∷◌}
 use lib.ListN.{length, drop, get_or}
 use lib.Dec.{eqb, leb, ltb}
-use native.Mathlib.Nat.{le-div_iff_mul-le, div-lt_iff_lt-mul, le-mul_of_pos_right, one-le-pow}
+use native.Mathlib.Nat.{le-mul_of_pos_right, one-le-pow}
 use native.Mathlib.Omega.{arith}
 use borrow.Author.Tests.{ltb-true, ltb-false, lt-ltb, le-ltb, leb-true, leb-false, le-leb, lt-leb, eqb-true}
 use Rattle.chars.specs.paper.Quoted.{between, codes, one_of}
@@ -26,7 +26,7 @@ use Rattle.token.specs.declared.digits.Value.TheVariants as value
 use Rattle.token.proofs.Base.{zero_one}
 use Rattle.token.proofs.cursor.Bytes.{any-byte, ascii-list, inside, past, two_bytes}
 use Rattle.token.proofs.theorems.Numbers.{valueAfter, digitsOf, read_is}
-open code_laws use {between_in, between-out, in_between, not-between}
+open code_laws use {hits, misses, between_in, between-out, in_between, not-between}
 open text-laws use {head_byte, at_ascii, at-end, place-from}
 
 -- ---- the digits of a base
@@ -111,8 +111,8 @@ module _ (base b : ℕ) (h : (base ≡ 10) ⊎ (base ≡ 16)) where
       go (inl e) = le-ltb (digitOf b) base (omega arith) ∙ sym (q ∙ rw e)
       go (inr e) = lt-ltb (digitOf b) base (omega arith) ∙ sym (q ∙ rw e)
 
-  pub digit-under : ltb (digitOf b) base ≡ digitIn base b
-  digit-under = go (between 0x30 0x39 b) (between 0x41 0x46 b) (between 0x61 0x66 b) refl refl refl
+  pub digit_under : ltb (digitOf b) base ≡ digitIn base b
+  digit_under = go (between 0x30 0x39 b) (between 0x41 0x46 b) (between 0x61 0x66 b) refl refl refl
     where
       go : (x y z : Bool) → between 0x30 0x39 b ≡ x → between 0x41 0x46 b ≡ y → between 0x61 0x66 b ≡ z → ltb (digitOf b) base ≡ digitIn base b
       go true y z p q r =
@@ -137,10 +137,10 @@ module _ (base b : ℕ) (h : (base ≡ 10) ⊎ (base ≡ 16)) where
           le-ltb (digitOf b) base (omega arith) ∙ sym (no_digit base b x y z)
 
   pub digit-taken : digitOf b < base → digitIn base b ≡ true
-  digit-taken k = sym digit-under ∙ lt-ltb (digitOf b) base k
+  digit-taken k = sym digit_under ∙ lt-ltb (digitOf b) base k
 
   pub digit-stops : base ≤ digitOf b → digitIn base b ≡ false
-  digit-stops k = sym digit-under ∙ le-ltb (digitOf b) base k
+  digit-stops k = sym digit_under ∙ le-ltb (digitOf b) base k
 
 -- ---- runs of a class
 
@@ -199,34 +199,24 @@ module _ (p : ℕ → Bool) (a : AsciiClass p) where
 no_less : (base v : ℕ) (ds : List ℕ) → 1 ≤ base → v ≤ valueAfter base v ds
 no_less base v ds h = let m = le-mul_of_pos_right v (one-le-pow (length ds) base h) in omega (arith, m)
 
--- the test before a digit is taken
-module _ (base : ℕ) (h : 1 ≤ base) where
-  pub stays : (limit v d : ℕ) → d ≤ limit → v ≤ (limit - d) / base → v * base + d ≤ limit
-  stays limit v d k q = let m = (le-div_iff_mul-le h).0 q in omega (arith, m)
-
-  pub passes : (limit v d : ℕ) → d ≤ limit → (limit - d) / base < v → limit < v * base + d
-  passes limit v d k q = let m = (div-lt_iff_lt-mul h).0 q in omega (arith, m)
-
 -- where a byte is taken as a digit the script goes on
 pub digit-inside : (base : ℕ) → (base ≡ 10) ⊎ (base ≡ 16) → (s : List ℕ) (i d : ℕ) → d ≡ digitOf (get_or s i 0) → d < base → i < length s
 digit-inside base h s i d e l = (class-at (digitIn base) (digits-ascii base) s i (digit-taken base (get_or s i 0) h (omega arith))).0
 
+-- what a byte's value tells: below the base it is one digit more, else the digits end
+module _ (base : ℕ) (h : (base ≡ 10) ⊎ (base ≡ 16)) (s : List ℕ) (i d v : ℕ) (e : d ≡ digitOf (get_or s i 0)) where
+  pub one_more : d < base → readDigits (digitIn base) base (v * base + d) (from s (i + 1)) ≡ readDigits (digitIn base) base v (from s i)
+  one_more l =
+      let p = digitIn base in
+      let t = digit-taken base (get_or s i 0) h (omega arith) in
+      ap (λ k. readDigits p base (v * base + k) (from s (i + 1))) (e ∙ digit_value (get_or s i 0) base t) ∙ read_next p (digits-ascii base) s i base v t
+
+  pub no_more : base ≤ d → numeral v (from s i) ≡ readDigits (digitIn base) base v (from s i)
+  no_more l = read-stop (digitIn base) (digits-ascii base) s i base v (digit-stops base (get_or s i 0) h (omega arith))
+
 pub base-some : (base : ℕ) → (base ≡ 10) ⊎ (base ≡ 16) → 1 ≤ base
 base-some base (inl e) = omega arith
 base-some base (inr e) = omega arith
-
--- a value this small has room for a digit of either base
-pub safe : (base v d : ℕ) → (base ≡ 10) ⊎ (base ≡ 16) → v ≤ 576460752303423487 → d < 16 → v * base + d ≤ 9223372036854775807
-safe base v d (inl e) h k = let z : v * base ≡ v * 10 = ap (λ b. v * b) e in omega arith
-safe base v d (inr e) h k = let z : v * base ≡ v * 16 = ap (λ b. v * b) e in omega arith
-
-pub fits : (v : ℕ) → v ≤ 9223372036854775807 → value.Of v ≡ value_of v
-unfolding value_of
-fits v h = rw (le-leb v 9223372036854775807 h)
-
-pub over : (v : ℕ) → 9223372036854775807 < v → value.Over ≡ value_of v
-unfolding value_of
-over v h = rw (lt-leb v 9223372036854775807 h)
 
 pub fitted : (w v : ℕ) → value.Of w ≡ value_of v → (w ≡ v) × (v ≤ 9223372036854775807)
 unfolding value_of
@@ -245,6 +235,13 @@ overs v e = go (leb v 9223372036854775807) refl e
     go false q e = leb-false v 9223372036854775807 q
 
 -- ---- numbers
+
+-- `L` or `l` is one byte
+pub letter_hit : (b : ℕ) → (b ≡ 0x4C) ⊎ (b ≡ 0x6C) → one_of "Ll" b ≡ true
+letter_hit b h = hits (0x4C ∷ 0x6C ∷ []) b h
+
+pub letter_miss : (b : ℕ) → ((b ≡ 0x4C) ⊎ (b ≡ 0x6C) → ⊥) → one_of "Ll" b ≡ false
+letter_miss b h = misses (0x4C ∷ 0x6C ∷ []) b h
 
 -- the number that begins at start, whose digits of the value v end at end
 module _ (s : List ℕ) (start end v : ℕ) (h : start ≤ length s) where
@@ -307,9 +304,9 @@ module _ (s : List ℕ) (i : ℕ) where
       (omega arith, ap (drop 2) (at_ascii s i n (omega arith)) ∙ past s (i + 1) m (omega arith) ∙ ap (from s) z)
 
   -- `0x` and a hex digit, by their bytes
-  pub hex-bytes : hexAhead (from s i) ≡ eqb (get_or s i 0) 0x30 && eqb (get_or s (i + 1) 0) 0x78 && digitIn 16 (get_or s (i + 2) 0)
+  pub hex_bytes : hexAhead (from s i) ≡ eqb (get_or s i 0) 0x30 && eqb (get_or s (i + 1) 0) 0x78 && digitIn 16 (get_or s (i + 2) 0)
   unfolding digitIn
-  hex-bytes = go zeroX refl
+  hex_bytes = go zeroX refl
     where
       go : (t : Bool) → zeroX ≡ t → begins "0x" (from s i) && hexDigit (drop 2 (from s i)) ≡ zeroX && digitIn 16 (get_or s (i + 2) 0)
       go true e = rw (zero-x, e) (ap (headIs (digitIn 16)) (past-zero-x e).1 ∙ head_byte (digitIn 16) (digits-ascii 16) s (i + 2))

@@ -6,7 +6,7 @@ use mathlib.Core.Logic.{◌⊎◌, inl, inr}
 use mathlib.Core.List.{List}
 use lib.ListN.{length, get_or}
 use lib.Dec.{eqb, leb, ltb}
-use native.Mathlib.Nat.{add-mul, mul-le-mul_right, pow-suc, pow-zero, pow-le-pow_right}
+use native.Mathlib.Nat.{add-mul, mul-le-mul_right, pow-suc, pow-le-pow_right}
 use native.Mathlib.Omega.{arith}
 use borrow.Author.Tests.{ltb-true, ltb-false, leb-true, le-leb, lt-leb, eq-eqb, eqb-true}
 use Rattle.chars.specs.paper.Quoted.{between, codes, one_of}
@@ -29,7 +29,7 @@ use Rattle.token.specs.declared.piece.Piece.TheVariants as piece
 use Rattle.token.specs.declared.literal.NumberLit.{NumberLit}
 use Rattle.token.proofs.byte_class.Laws.{class-digit}
 use Rattle.token.proofs.cursor.Bytes.{any-byte, ascii-list}
-use Rattle.token.proofs.digits.Laws.{digits-ascii, class-at, digit_value, digit-under, digit-stops, base-some, read_next, read-stop, hex-bytes, hex-number, dec-number, long-piece, int-piece}
+use Rattle.token.proofs.digits.Laws.{digits-ascii, class-at, digit_value, digit_under, digit-stops, base-some, read_next, read-stop, hex_bytes, hex-number, dec-number, long-piece, int-piece}
 use Rattle.token.proofs.lexer.Laws.{number_at}
 use Rattle.token.proofs.theorems.Numbers.{valueAfter, digitsOf, read_is}
 open code_laws use {carry-not, carry-span, no_member, in_between, between_in, between-out}
@@ -64,7 +64,7 @@ pub record Taken (base : ℕ) (s : List ℕ) (i d : ℕ) : Type 0 where
 value-under : (base b : ℕ) → (base ≡ 10) ⊎ (base ≡ 16) → digitIn base b ≡ true → digitValue b < base
 value-under base b h e =
     let q = digit_value b base e in
-    let l = ltb-true (digitOf b) base (digit-under base b h ∙ e) in
+    let l = ltb-true (digitOf b) base (digit_under base b h ∙ e) in
     omega arith
 
 pub hex-taken : (s : List ℕ) (i d : ℕ) → d ≡ digitOf (get_or s i 0) → (d ≡ 16 → ⊥) → Taken 16 s i d
@@ -156,11 +156,6 @@ pub record DigitsTo (base most : ℕ) (s : List ℕ) (start i v : ℕ) : Type 0 
   pub small : v < base ^ (i - start)
   pub same : readDigits (digitIn base) base v (from s i) ≡ readDigits (digitIn base) base 0 (from s start)
 
-pub digits-none : (base most : ℕ) (s : List ℕ) (start : ℕ) → start ≤ length s → DigitsTo base most s start start 0
-digits-none base most s start h =
-    let z : start - start ≡ 0 = omega arith in
-    record { since = omega arith; within = h; few = omega arith; small = rw (z, pow-zero base) (omega arith); same = refl }
-
 -- one digit more
 more-digit : (base v d n : ℕ) → v < base ^ n → d < base → v * base + d < base ^ suc n
 more-digit base v d n h k =
@@ -216,15 +211,43 @@ module _ (base most : ℕ) (h : (base ≡ 10) ⊎ (base ≡ 16)) (s : List ℕ) 
           ap goesOn e ∙ sym f ∙ ap (endingBy (length s) (start + most)) (x.same ∙ r.same)
 
   -- as many digits as are read, or the end of script
-  pub digits-full : (stop : ℕ) → stop ≡ lesser (length s) (start + most) → stop ≤ i → fullEnd base s v i ≡ literalIn base most s start
+  pub digits-full : (stop m : ℕ) → stop ≡ lesser (length s) m → m ≡ start + most → stop ≤ i → fullEnd base s v i ≡ literalIn base most s start
   unfolding fullEnd
-  digits-full stop e k = go (digitIn base (get_or s i 0)) refl
+  digits-full stop m e n k = go (digitIn base (get_or s i 0)) refl
     where
       go : (t : Bool) → digitIn base (get_or s i 0) ≡ t → cond t (goesOn i) (literalEnd (length s) v (from s i)) ≡ literalIn base most s start
       go true q =
           let j = (class-at (digitIn base) (digits-ascii base) s i q).0 in
-          digits-over (at-lesser stop (length s) (start + most) i e k j r.few) q
+          digits-over (at-lesser stop (length s) m i e k j (omega (arith, r.few)) ∙ n) q
       go false q = digits-stop q
+
+-- ---- one turn of the loops
+
+-- with one digit more the value fits 64 bits
+pub record Onward (base most : ℕ) (s : List ℕ) (start i v d : ℕ) : Type 0 where
+  pub fits : v * base + d < 18446744073709551616
+  pub on : DigitsTo base most s start (i + 1) (v * base + d)
+
+module _ (s : List ℕ) (start i v stop m : ℕ) where
+  pub hex-turn : DigitsTo 16 16 s start i v → stop ≡ lesser (length s) m → m ≤ start + 16 → i < stop
+      → (d : ℕ) → d ≡ digitOf (get_or s i 0) → (d ≡ 16 → ⊥) → Onward 16 16 s start i v d
+  hex-turn r q n l d e f =
+      let k : i < start + 16 = omega (arith, below stop (length s) m i q l) in
+      let t = hex-taken s i d e f in
+      record {
+        fits = digits-fit 16 16 (inr refl) s start i v r d k t 18446744073709551616 hex-room;
+        on = digits-on 16 16 (inr refl) s start i v r d k t;
+      }
+
+  pub dec-turn : DigitsTo 10 19 s start i v → stop ≡ lesser (length s) m → m ≤ start + 19 → i < stop
+      → (b : ℕ) → b ≡ get_or s i 0 → ltb b 0x30 || ltb 0x39 b ≡ false → Onward 10 19 s start i v (b % 16)
+  dec-turn r q n l b e f =
+      let k : i < start + 19 = omega (arith, below stop (length s) m i q l) in
+      let t = dec-taken s i b e f in
+      record {
+        fits = digits-fit 10 19 (inl refl) s start i v r (b % 16) k t 18446744073709551616 dec-room;
+        on = digits-on 10 19 (inl refl) s start i v r (b % 16) k t;
+      }
 
 -- ---- the number's end
 
@@ -249,7 +272,7 @@ module _ (s : List ℕ) (at : ℕ) where
   dec-of e = sym (rw e)
 
   no-hex : eqb (get_or s (at + 1) 0) 0x78 ≡ false → hexAhead (from s at) ≡ false
-  no-hex e = hex-bytes s at ∙ go (eqb (get_or s at 0) 0x30) (digitIn 16 (get_or s (at + 2) 0))
+  no-hex e = hex_bytes s at ∙ go (eqb (get_or s at 0) 0x30) (digitIn 16 (get_or s (at + 2) 0))
     where
       go : (x y : Bool) → x && eqb (get_or s (at + 1) 0) 0x78 && y ≡ false
       go true y = rw e
@@ -338,7 +361,7 @@ reads_at s at h d = go (hexAhead (from s at)) refl
   where
     go : (b : Bool) → hexAhead (from s at) ≡ b → Reads s at
     go true e =
-        let z = and_both (eqb (get_or s at 0) 0x30 && eqb (get_or s (at + 1) 0) 0x78) (digitIn 16 (get_or s (at + 2) 0)) (sym (hex-bytes s at) ∙ e) in
+        let z = and_both (eqb (get_or s at 0) 0x30 && eqb (get_or s (at + 1) 0) 0x78) (digitIn 16 (get_or s (at + 2) 0)) (sym (hex_bytes s at) ∙ e) in
         reads_in 16 16 s at (at + 2) (omega arith) z.1 (hex-of s at e) (hex-number s at e ∙ sym (number_at s at h d))
     go false e = reads_in 10 19 s at at (omega arith) d (dec-of s at e) (dec-number s at e ∙ sym (number_at s at h d))
 

@@ -1,4 +1,4 @@
--- `digits::consume_digits`: The loop keeps what follows the digits that are still allowed; a digit is one byte.
+-- The loop keeps what follows the digits that are still allowed; a digit is one byte.
 use Prim.Native.Nat.{◌≤◌}
 use mathlib.Core.Path.{◌≡◌}
 use lib.ListN.{length}

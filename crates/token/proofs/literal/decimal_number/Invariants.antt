@@ -1,4 +1,4 @@
--- `literal::decimal_number`: The loop keeps the digits that have been read; as many as they are, their value needs no test.
+-- The loop keeps the digits that have been read; as many as they are, their value needs no test.
 use Prim.Native.Nat.{◌-◌}
 use Rattle.token.proofs.literal.Laws.{DigitsTo}
 use Rattle.token.proofs.literal.decimal_number.Given as goal

@@ -1,0 +1,46 @@
+-- A digit is one character, and a value past the limit stays past it.
+use Rattle.std.proofs.Common.{◌+◌, ◌*◌, length, arith, ap, ◌∙◌}
+use Rattle.chars.specs.paper.Text.{from}
+use Rattle.token.specs.computed.Answer.{readDigits, number_of}
+use Rattle.token.specs.code.Piece.{piece_of}
+use Rattle.token.specs.code.Digits.{digitIn, digitOf}
+use Rattle.token.proofs.digits.Laws.{digit-inside, one_more, no_more, base-some, fitted, overs, over-read}
+use Rattle.token.proofs.digits.number_from.Goals as goal
+
+pub returns-then-base-d : goal.returns-then-base-d
+returns-then-base-d c =
+    let s = c.args.s.now in
+    let l = c.loop-start in
+    let d = c.digit_of-d.ensures ∙ ap digitOf c.byte_at.ensures in
+    c.number_end.ensures
+    ∙ ap (λ r. piece_of (length s) (number_of (from s c.args.start) r)) (no_more _ c.requires.2 s l.i _ l.v d c.if-base-d.true ∙ l.invariant.same)
+
+pub returns-in_default : goal.returns-in_default
+returns-in_default c =
+    let s = c.args.s.now in
+    let b = c.args.base in
+    let l = c.loop-start in
+    let d = c.digit_of-d.ensures ∙ ap digitOf c.byte_at.ensures in
+    let v = l.v * b + c.digit_of-d.result in
+    over-read s c.args.start (omega arith) (digitIn b) b (base-some b c.requires.2) v (from s (l.i + 1)) (overs v c.in_default.ensures)
+    ∙ ap (λ r. piece_of (length s) (number_of (from s c.args.start) r)) (one_more b c.requires.2 s l.i _ l.v d c.if-base-d.false ∙ l.invariant.same)
+
+pub loop-start-smaller : goal.loop-start-smaller
+loop-start-smaller c =
+    let d = c.digit_of-d.ensures ∙ ap digitOf c.byte_at.ensures in
+    omega (arith, digit-inside _ c.requires.2 c.args.s.now c.loop-start.i _ d c.if-base-d.false)
+
+pub loop-start-preserved : goal.loop-start-preserved
+loop-start-preserved c =
+    let s = c.args.s.now in
+    let b = c.args.base in
+    let l = c.loop-start in
+    let d = c.digit_of-d.ensures ∙ ap digitOf c.byte_at.ensures in
+    let k = digit-inside b c.requires.2 s l.i _ d c.if-base-d.false in
+    let f = fitted c.in-Of.w (l.v * b + c.digit_of-d.result) c.in-Of.ensures in
+    record {
+      since = omega arith;
+      within = omega arith;
+      small = omega arith;
+      same = ap (λ k. readDigits (digitIn b) b k (from s (l.i + 1))) f.0 ∙ one_more b c.requires.2 s l.i _ l.v d c.if-base-d.false ∙ l.invariant.same;
+    }
