@@ -17,6 +17,7 @@ use crate::string::{consume_quotes, three_quotes};
 // Each of the following goes past an escape, from its backslash on; the place itself, where it is refused.
 
 // Of one to three digits.
+#[tactic(auto, unfolding(crate::specs::code::Quoted::decimalEnd, crate::specs::code::Digits::digitIn))]
 fn decimal_escape_end(s: &[u8], at: usize) -> usize
     requires { at < length s.now }
     ensures { result ≡ decimalEnd s.now at }
@@ -34,6 +35,7 @@ fn decimal_escape_end(s: &[u8], at: usize) -> usize
 }
 
 // Of `u` and four hex digits.
+#[tactic(auto, unfolding(crate::specs::code::Quoted::unicodeEnd, crate::specs::code::Digits::digitIn))]
 fn unicode_escape_end(s: &[u8], at: usize) -> usize
     requires { at < length s.now }
     ensures { result ≡ unicodeEnd s.now at }
@@ -52,6 +54,7 @@ fn unicode_escape_end(s: &[u8], at: usize) -> usize
 }
 
 // Of more than one byte.
+#[tactic(auto, unfolding(crate::specs::code::Quoted::codedEnd))]
 pub fn coded_escape_end(s: &[u8], at: usize) -> usize
     requires { at < length s.now }
     ensures { result ≡ codedEnd s.now at }
@@ -70,6 +73,7 @@ pub fn is_escape(b: u8) -> bool
 }
 
 // Past the backslash that stands at a place, with the escape that it opens in a plain string. Most escapes are of one byte.
+#[tactic(auto, unfolding(crate::specs::code::Quoted::backslashEnd, crate::specs::code::Quoted::escapeEnd))]
 fn backslash_end(s: &[u8], at: usize, prefixed: bool) -> usize
     requires { at < length s.now }
     ensures { result ≡ backslashEnd prefixed s.now at }
@@ -84,6 +88,7 @@ fn backslash_end(s: &[u8], at: usize, prefixed: bool) -> usize
 }
 
 // Past the `$` that stands at a place; the place itself for `${` in a prefixed string.
+#[tactic(auto, unfolding(crate::specs::code::Quoted::dollarEnd))]
 fn dollar_end(s: &[u8], at: usize, prefixed: bool) -> usize
     requires { at < length s.now }
     ensures { result ≡ dollarEnd prefixed s.now at }
@@ -98,6 +103,7 @@ fn dollar_end(s: &[u8], at: usize, prefixed: bool) -> usize
 }
 
 // Past what stands at a place in a single string that is neither ordinary nor a quote; the place itself, where it is refused, as an LF is.
+#[tactic(auto, unfolding(crate::specs::code::Quoted::itemEnd))]
 fn item_end(s: &[u8], at: usize, b: u8, prefixed: bool) -> usize
     requires { at < length s.now }
     ensures { result ≡ itemEnd prefixed s.now at b }

@@ -1,0 +1,11 @@
+-- The masks are computed at every code of ASCII.
+use Rattle.std.proofs.Common.{refl, ◌∙◌}
+use Rattle.chars.specs.paper.Quoted.{codes, one_of}
+use Rattle.chars.specs.code.Classes.{bitIn}
+use Rattle.chars.proofs.Carry.{mask-set}
+use Rattle.token.proofs.cursor.Bytes.{ascii-list}
+use Rattle.token.proofs.quoted.is_escape.Goals as goal
+
+pub returns : goal.returns
+unfolding bitIn
+returns c = c.has_bit.ensures.value ∙ mask-set _ _ (one_of "btnfr'\"]") refl (ascii-list (codes "btnfr'\"]") refl).wide c.args.b
