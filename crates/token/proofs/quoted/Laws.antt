@@ -16,7 +16,6 @@ use Rattle.token.specs.paper.Tests.{isDigit, isHexDigit, isAny, digit, threeQuot
 use Rattle.token.specs.paper.Shapes.{tripleChar}
 use Rattle.token.specs.computed.Answer.{Esc, unbroken, broken, exactHexes, digitsUpTo, afterSlash, Closing, closed, wrong, closeTriple}
 use Rattle.token.specs.code.Cursor.{cursorAt}
-use Rattle.token.specs.code.Digits.{digitIn}
 use Rattle.token.specs.code.ByteClass as bytes
 use Rattle.token.specs.code.String.{ended_of, escEnd, escapeOf, closeSingle, isOrdinary, dollarOf, singleItem}
 use Rattle.token.specs.code.Quoted.{decimalEnd, unicodeEnd, codedEnd, escapeEnd, backslashEnd, dollarEnd, itemEnd, closedTo}
@@ -34,14 +33,6 @@ open text-laws use {head_byte, at_ascii, place-from}
 
 -- ---- what the code tells
 
-pub told-decimal : {b x : ℕ} {r : Bool} → b ≡ x → r ≡ digitIn 10 b → isDigit x ≡ r
-unfolding digitIn
-told-decimal e q = ap isDigit (sym e) ∙ sym q
-
-pub told-hex : (b : ℕ) {r : Bool} → r ≡ digitIn 16 b → isHexDigit b ≡ r
-unfolding digitIn
-told-hex b q = sym q
-
 pub told-ordinary : (b : ℕ) {e : ℕ} {r : Bool} → e ≡ bytes.class_of b → r ≡ bytes.isOrdinary e → isOrdinary b ≡ r
 unfolding isOrdinary
 told-ordinary b q w = sym (class-ordinary b) ∙ ap bytes.isOrdinary (sym q) ∙ sym w
@@ -49,19 +40,19 @@ told-ordinary b q w = sym (class-ordinary b) ∙ ap bytes.isOrdinary (sym q) ∙
 -- ---- by its bytes: where an escape ends, and what does not stand for itself
 
 module _ (s : List ℕ) (at : ℕ) where
-  pub decimal-none : isDigit (get_or s (at + 1) 0) ≡ false → at ≡ decimalEnd s at
+  decimal-none : isDigit (get_or s (at + 1) 0) ≡ false → at ≡ decimalEnd s at
   unfolding decimalEnd
   decimal-none a = rw a
 
-  pub decimal-one : isDigit (get_or s (at + 1) 0) ≡ true → isDigit (get_or s (at + 2) 0) ≡ false → at + 2 ≡ decimalEnd s at
+  decimal-one : isDigit (get_or s (at + 1) 0) ≡ true → isDigit (get_or s (at + 2) 0) ≡ false → at + 2 ≡ decimalEnd s at
   unfolding decimalEnd
   decimal-one a b = rw (a, b)
 
-  pub decimal-two : isDigit (get_or s (at + 1) 0) ≡ true → isDigit (get_or s (at + 2) 0) ≡ true → isDigit (get_or s (at + 3) 0) ≡ false → at + 3 ≡ decimalEnd s at
+  decimal-two : isDigit (get_or s (at + 1) 0) ≡ true → isDigit (get_or s (at + 2) 0) ≡ true → isDigit (get_or s (at + 3) 0) ≡ false → at + 3 ≡ decimalEnd s at
   unfolding decimalEnd
   decimal-two a b c = rw (a, b, c)
 
-  pub decimal-three : isDigit (get_or s (at + 1) 0) ≡ true → isDigit (get_or s (at + 2) 0) ≡ true → isDigit (get_or s (at + 3) 0) ≡ true → at + 4 ≡ decimalEnd s at
+  decimal-three : isDigit (get_or s (at + 1) 0) ≡ true → isDigit (get_or s (at + 2) 0) ≡ true → isDigit (get_or s (at + 3) 0) ≡ true → at + 4 ≡ decimalEnd s at
   unfolding decimalEnd
   decimal-three a b c = rw (a, b, c)
 
@@ -71,29 +62,29 @@ module _ (s : List ℕ) (at : ℕ) where
       let z : isHexDigit (get_or s (at + 5) 0) ≡ false = ap isHexDigit (get_or-eq_default s 0 h) ∙ hex-ascii.nul in
       rw (z, and-false)
 
-  pub unicode-is : {a b c d : Bool} (x : Bool) → isHexDigit (get_or s (at + 2) 0) ≡ a → isHexDigit (get_or s (at + 3) 0) ≡ b → isHexDigit (get_or s (at + 4) 0) ≡ c
+  unicode-is : {a b c d : Bool} (x : Bool) → isHexDigit (get_or s (at + 2) 0) ≡ a → isHexDigit (get_or s (at + 3) 0) ≡ b → isHexDigit (get_or s (at + 4) 0) ≡ c
       → isHexDigit (get_or s (at + 5) 0) ≡ d → ((a && b) && c) && d ≡ x → cond x (at + 6) at ≡ unicodeEnd s at
   unfolding unicodeEnd
   unicode-is x p q r t e = rw (p, q, r, t, e)
 
-  pub coded-unicode : get_or s (at + 1) 0 ≡ 0x75 → unicodeEnd s at ≡ codedEnd s at
+  coded-unicode : get_or s (at + 1) 0 ≡ 0x75 → unicodeEnd s at ≡ codedEnd s at
   unfolding codedEnd
   coded-unicode b = rw (eq-eqb (get_or s (at + 1) 0) 0x75 b)
 
-  pub coded-decimal : (get_or s (at + 1) 0 ≡ 0x75 → ⊥) → decimalEnd s at ≡ codedEnd s at
+  coded-decimal : (get_or s (at + 1) 0 ≡ 0x75 → ⊥) → decimalEnd s at ≡ codedEnd s at
   unfolding codedEnd
   coded-decimal n = rw (ne_eqb (get_or s (at + 1) 0) 0x75 n)
 
-  pub escape-one : one_of "btnfr'\"]" (get_or s (at + 1) 0) ≡ true → at + 2 ≡ escapeEnd s at
+  escape-one : one_of "btnfr'\"]" (get_or s (at + 1) 0) ≡ true → at + 2 ≡ escapeEnd s at
   unfolding escapeEnd
   escape-one e = rw e
 
-  pub escape-coded : one_of "btnfr'\"]" (get_or s (at + 1) 0) ≡ false → codedEnd s at ≡ escapeEnd s at
+  escape-coded : one_of "btnfr'\"]" (get_or s (at + 1) 0) ≡ false → codedEnd s at ≡ escapeEnd s at
   unfolding escapeEnd
   escape-coded e = rw e
 
   module _ (p : Bool) where
-    pub slash-prefixed : p ≡ true → at + 1 ≡ backslashEnd p s at
+    slash-prefixed : p ≡ true → at + 1 ≡ backslashEnd p s at
     unfolding backslashEnd
     slash-prefixed e = rw e
 
@@ -101,33 +92,27 @@ module _ (s : List ℕ) (at : ℕ) where
     unfolding backslashEnd
     slash-escape e = rw e
 
-    pub slash-one : p ≡ false → one_of "btnfr'\"]" (get_or s (at + 1) 0) ≡ true → at + 2 ≡ backslashEnd p s at
-    slash-one e o = escape-one o ∙ slash-escape e
-
-    pub slash-coded : p ≡ false → one_of "btnfr'\"]" (get_or s (at + 1) 0) ≡ false → codedEnd s at ≡ backslashEnd p s at
-    slash-coded e o = escape-coded o ∙ slash-escape e
-
-    pub dollar-plain : p ≡ false → at + 1 ≡ dollarEnd p s at
+    dollar-plain : p ≡ false → at + 1 ≡ dollarEnd p s at
     unfolding dollarEnd
     dollar-plain e = rw e
 
-    pub dollar-braced : p ≡ true → get_or s (at + 1) 0 ≡ 0x7B → at ≡ dollarEnd p s at
+    dollar-braced : p ≡ true → get_or s (at + 1) 0 ≡ 0x7B → at ≡ dollarEnd p s at
     unfolding dollarEnd
     dollar-braced e b = rw (e, b)
 
-    pub dollar-lone : p ≡ true → (get_or s (at + 1) 0 ≡ 0x7B → ⊥) → at + 1 ≡ dollarEnd p s at
+    dollar-lone : p ≡ true → (get_or s (at + 1) 0 ≡ 0x7B → ⊥) → at + 1 ≡ dollarEnd p s at
     unfolding dollarEnd
     dollar-lone e n = rw (e, ne_eqb (get_or s (at + 1) 0) 0x7B n)
 
-    pub item-slash : (b : ℕ) → b ≡ 0x5C → backslashEnd p s at ≡ itemEnd p s at b
+    item-slash : (b : ℕ) → b ≡ 0x5C → backslashEnd p s at ≡ itemEnd p s at b
     unfolding itemEnd
     item-slash b e = rw e
 
-    pub item-dollar : (b : ℕ) → b ≡ 0x24 → dollarEnd p s at ≡ itemEnd p s at b
+    item-dollar : (b : ℕ) → b ≡ 0x24 → dollarEnd p s at ≡ itemEnd p s at b
     unfolding itemEnd
     item-dollar b e = rw e
 
-    pub item-none : (b : ℕ) → (b ≡ 0x5C → ⊥) → (b ≡ 0x24 → ⊥) → at ≡ itemEnd p s at b
+    item-none : (b : ℕ) → (b ≡ 0x5C → ⊥) → (b ≡ 0x24 → ⊥) → at ≡ itemEnd p s at b
     unfolding itemEnd
     item-none b n m = rw (ne_eqb b 0x5C n, ne_eqb b 0x24 m)
 
