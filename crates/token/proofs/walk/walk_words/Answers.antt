@@ -1,13 +1,12 @@
 use Rattle.std.proofs.Common.{sym, arith}
 use Rattle.token.proofs.walk.Laws.{steps-trans, at-is}
-use Rattle.token.proofs.walk.Words.{starts_by, word-inside, word_on, plain-leaves, step-word, run-within, run_on, operator-left, run-stops, run-opens, run-sign, step-operator}
+use Rattle.token.proofs.walk.Words.{starts_by, word-inside, word_on, plain-leaves, step-word, run-within, run_on, run-left, step-run}
 use Rattle.token.proofs.walk.walk_words.Goals as goal
 
 pub word_end-end-requires : goal.word_end-end-requires
 word_end-end-requires c =
-    let g = c.loop-x.invariant.good in
     let k = starts_by c.loop-x.x.class (sym c.if-is_sign.ensures) (sym c.if-starts_word.ensures) in
-    (omega (arith, word-inside g k), c.requires.0)
+    (omega (arith, word-inside c.loop-x.invariant.good k), c.requires.0)
 
 pub put_word_if-requires : goal.put_word_if-requires
 put_word_if-requires c =
@@ -21,14 +20,13 @@ loop-x-smaller-then-starts_word c =
     let k = starts_by c.loop-x.x.class (sym c.if-is_sign.ensures) (sym c.if-starts_word.ensures) in
     let q = c.word_end-end.ensures in
     let n = sym c.if-asks_more.ensures in
-    omega (arith, at-is c.behind.ensures, word_on g k _ q n, (plain-leaves g k _ q n).1)
+    omega (arith, at-is c.behind-x.ensures, word_on g k _ q n, (plain-leaves g k _ q n).1)
 
 pub loop-x-preserved-then-starts_word : goal.loop-x-preserved-then-starts_word
 loop-x-preserved-then-starts_word c =
-    let g = c.loop-x.invariant.good in
+    let i = c.loop-x.invariant in
     let k = starts_by c.loop-x.x.class (sym c.if-is_sign.ensures) (sym c.if-starts_word.ensures) in
-    rw c.behind.ensures
-    (steps-trans c.loop-x.invariant (step-word g k _ c.word_end-end.ensures (sym c.if-asks_more.ensures) _ _ c.put_word_if.ensures))
+    rw c.behind-x.ensures (steps-trans i (step-word i.good k _ c.word_end-end.ensures (sym c.if-asks_more.ensures) _ _ c.put_word_if.ensures))
 
 pub run_end-end-requires : goal.run_end-end-requires
 run_end-end-requires c = (omega (arith, run-within c.loop-x.invariant.good (sym c.if-in_run.ensures)), c.requires.0)
@@ -36,10 +34,7 @@ run_end-end-requires c = (omega (arith, run-within c.loop-x.invariant.good (sym 
 pub put_run_if-requires : goal.put_run_if-requires
 put_run_if-requires c =
     let g = c.loop-x.invariant.good in
-    let k = sym c.if-in_run.ensures in
-    let q = c.run_end-end.ensures in
-    let n = sym c.if-asks_more-2.ensures in
-    (operator-left g (run-sign g k _ q n) (run-opens g k _ q n) _ (run-stops g k _ q n), omega (arith, g.stands.size, g.stands.within))
+    (run-left g (sym c.if-in_run.ensures) _ c.run_end-end.ensures (sym c.if-asks_more-2.ensures), omega (arith, g.stands.size, g.stands.within))
 
 pub loop-x-smaller-then-in_run : goal.loop-x-smaller-then-in_run
 loop-x-smaller-then-in_run c =
@@ -47,13 +42,10 @@ loop-x-smaller-then-in_run c =
     let k = sym c.if-in_run.ensures in
     let q = c.run_end-end.ensures in
     let n = sym c.if-asks_more-2.ensures in
-    omega (arith, at-is c.behind-2.ensures, run_on g k _ q n, (operator-left g (run-sign g k _ q n) (run-opens g k _ q n) _ (run-stops g k _ q n)).1)
+    omega (arith, at-is c.behind-x-then-in_run.ensures, run_on g k _ q n, (run-left g k _ q n).1)
 
 pub loop-x-preserved-then-in_run : goal.loop-x-preserved-then-in_run
 loop-x-preserved-then-in_run c =
-    let g = c.loop-x.invariant.good in
-    let k = sym c.if-in_run.ensures in
-    let q = c.run_end-end.ensures in
-    let n = sym c.if-asks_more-2.ensures in
-    rw c.behind-2.ensures
-    (steps-trans c.loop-x.invariant (step-operator g (run-sign g k _ q n) (run-opens g k _ q n) _ (run-stops g k _ q n) _ _ c.put_run_if.ensures))
+    let i = c.loop-x.invariant in
+    rw c.behind-x-then-in_run.ensures
+    (steps-trans i (step-run i.good (sym c.if-in_run.ensures) _ c.run_end-end.ensures (sym c.if-asks_more-2.ensures) _ _ c.put_run_if.ensures))
