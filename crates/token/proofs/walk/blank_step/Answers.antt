@@ -1,3 +1,4 @@
+-- One blank, or all that stand there.
 use Rattle.std.proofs.Common.{sym, ◌∙◌, arith}
 use Rattle.token.proofs.walk.Pieces.{step-one-blank, two_here, step-more-blanks}
 use Rattle.token.proofs.walk.blank_step.Goals as goal

@@ -1,3 +1,4 @@
+-- Where no cut may come of it the comment alone, else the line end behind it too; else it is left.
 use Rattle.std.proofs.Common.{ne_eqb, eq-eqb}
 use Rattle.token.proofs.walk.Pieces.{block_to, line-to, step_block, step-block-line}
 use Rattle.token.proofs.walk.block_step.Goals as goal

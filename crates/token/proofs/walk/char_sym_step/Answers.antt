@@ -1,3 +1,4 @@
+-- A character or symbol that is recognised; else it is left.
 use Rattle.token.proofs.walk.Words.{tick-inside, tick-here, step-symbol}
 use Rattle.token.proofs.walk.char_sym_step.Goals as goal
 

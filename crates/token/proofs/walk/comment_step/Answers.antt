@@ -1,3 +1,4 @@
+-- A line comment, or a block comment.
 use Rattle.std.proofs.Common.{sym, ◌∙◌}
 use Rattle.token.proofs.gap.Scans.{line-comment-found}
 use Rattle.token.proofs.walk.Pieces.{opens-line-here, opens-block-here, step-line-comment}

@@ -1,3 +1,4 @@
+-- One digit.
 use Rattle.token.proofs.walk.Words.{digit-inside, digit-here, step-digit}
 use Rattle.token.proofs.walk.digit_step.Goals as goal
 

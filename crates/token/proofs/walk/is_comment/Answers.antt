@@ -1,3 +1,4 @@
+-- By the class of `/` and the byte behind it.
 use Rattle.std.proofs.Common.{arith}
 use Rattle.token.proofs.names.Laws.{comment-class}
 use Rattle.token.proofs.walk.is_comment.Goals as goal

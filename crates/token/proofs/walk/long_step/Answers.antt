@@ -1,3 +1,4 @@
+-- A number that is not too large; else it is left.
 use Rattle.token.proofs.walk.Words.{step-long}
 use Rattle.token.proofs.walk.long_step.Goals as goal
 

@@ -1,3 +1,4 @@
+-- By the class of the first byte, and by what stands behind it.
 use Rattle.token.proofs.walk.Prefixes.{name-inside, name-left, name-opens, step-named}
 use Rattle.token.proofs.walk.name_step.Goals as goal
 

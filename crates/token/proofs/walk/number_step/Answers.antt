@@ -1,3 +1,4 @@
+-- One digit, or more of them.
 use Rattle.std.proofs.Common.{ap}
 use Rattle.token.specs.declared.names.Here.{Here}
 use Rattle.token.proofs.walk.Words.{digit-inside, digit-here}

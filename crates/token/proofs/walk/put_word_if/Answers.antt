@@ -1,3 +1,4 @@
+-- Where it does not fit, the bytes stay.
 use Rattle.token.specs.code.Form.{Known, plainForm}
 use Rattle.token.specs.paper.Records.{headLength}
 use Rattle.std.proofs.Common.{false}

@@ -1,3 +1,4 @@
+-- The line end's record, and on behind it; a CR alone is left.
 use Rattle.std.proofs.Common.{sym, ◌∙◌}
 use Rattle.token.proofs.walk.Pieces.{cr-here, step-line-end}
 use Rattle.token.proofs.walk.return_step.Goals as goal

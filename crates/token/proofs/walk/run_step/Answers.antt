@@ -1,3 +1,4 @@
+-- An operator that ends before no character past ASCII; else it is left.
 use Rattle.std.proofs.Common.{arith}
 use Rattle.token.proofs.names.Bytes.{moved, operator-stops}
 use Rattle.token.proofs.walk.Words.{sign-within, operator-left, step-operator}

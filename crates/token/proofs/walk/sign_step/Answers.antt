@@ -1,3 +1,4 @@
+-- The sign's record, and on behind it.
 use Rattle.std.proofs.Common.{refl}
 use Rattle.token.proofs.walk.Pieces.{step-sign}
 use Rattle.token.proofs.walk.sign_step.Goals as goal

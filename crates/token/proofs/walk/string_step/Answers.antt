@@ -1,3 +1,4 @@
+-- A string that is recognised; else it is left.
 use Rattle.std.proofs.Common.{arith}
 use Rattle.token.proofs.walk.Words.{open-within, open-off, step-string}
 use Rattle.token.proofs.walk.string_step.Goals as goal

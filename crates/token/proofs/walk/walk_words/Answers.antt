@@ -1,3 +1,4 @@
+-- Each word and each operator that nothing behind it makes more of is a step more.
 use Rattle.std.proofs.Common.{sym, arith}
 use Rattle.token.proofs.walk.Laws.{steps-trans, at-is}
 use Rattle.token.proofs.walk.Words.{starts_by, word-inside, word_on, plain-leaves, step-word, run-within, run_on, run-left, step-run}
