@@ -219,6 +219,7 @@ fn is_comment(s: &[u8], e: u8, at: usize) -> bool
 }
 
 // The kind's number of the operator from `at` to `end`: before a comment it is no keyword.
+#[tactic(auto, unfolding(crate::specs::code::Walk::operatorNumber))]
 fn operator_number(s: &[u8], at: usize, end: Here) -> u16
     requires { LeftTo s.now at end.at }
     ensures { result ≡ operatorNumber s.now at end }
@@ -328,6 +329,7 @@ fn char_sym_step(out: &mut [u8], s: &[u8], t: &[u8; 256], x: Walked) -> Walked
 }
 
 // The kind's number of the word or backtick from `at` to `end`, whose first byte has the class e.
+#[tactic(auto, unfolding(crate::specs::code::Walk::nameNumber))]
 fn name_number(s: &[u8], e: u8, at: usize, end: usize) -> u16
     requires { eqb e keywordClass ≡ true → LeftTo s.now at end }
     ensures { result ≡ nameNumber s.now e at end }
@@ -353,6 +355,7 @@ fn put_word_if(out: &mut [u8], s: &[u8], e: u8, w: usize, at: usize, end: usize)
 }
 
 // Where the identifier or backtick ends that begins there with a byte of the class e; of a quote, where it stands.
+#[tactic(auto, unfolding(crate::specs::code::Walk::prefixEnd))]
 fn prefix_end(s: &[u8], t: &[u8; 256], e: u8, at: usize) -> Here
     requires { ByteClasses t.now × (at < length s.now) × (length s.now ≤ mostBytes) × (e ≡ class_at s.now at) × (beginsName e ≡ true) }
     ensures { result ≡ prefixEnd s.now e at }

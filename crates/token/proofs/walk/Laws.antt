@@ -20,13 +20,6 @@ use Rattle.token.proofs.lexer.Turns.{Turn}
 use Rattle.token.proofs.records.Measures.{newline-length}
 use Rattle.token.proofs.records.Reach.{reach-start, reach-trans, reach-same, reach-turn}
 
-pub steps-none : {s : List ℕ} {x : Walked} {out : List ℕ} → Good s x → Steps s x out x out
-steps-none g = record { good = g; reaches = reach-start g.stands }
-
--- the same state by another name
-pub steps-is : {s : List ℕ} {x y z : Walked} {out next : List ℕ} → y ≡ z → Steps s x out z next → Steps s x out y next
-steps-is {s} {x} {y} {z} {out} {next} e h = subst (λ w. Steps s x out w next) (sym e) h
-
 pub at-is : {y z : Walked} → y ≡ z → y.at ≡ z.at
 at-is e = ap (λ (w : Walked). w.at) e
 

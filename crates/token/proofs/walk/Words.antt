@@ -128,17 +128,23 @@ module _ {s : List ℕ} {x : Walked} (g : Good s x) where
     plain : (operatorTo s (x.at + 1) ≡ e.at) × (eqb (class_at s e.at) wideClass ≡ false) × (eqb (class_at s e.at) slashClass ≡ false)
     plain = run-plain s x.at run_inside run-here e.at (ap (λ (z : Here). z.at) q) (sym (ap asksMore here-class) ∙ m)
 
-    pub run-stops : Stops s (operatorTo s (x.at + 1)) e
+    run-stops : Stops s (operatorTo s (x.at + 1)) e
     run-stops = record { place = sym plain.0; class-is = here-class; narrow = plain.1 }
 
-    pub run-opens : opensComment (from s x.at) ≡ false
+    run-opens : opensComment (from s x.at) ≡ false
     run-opens = run-clear s x.at run_inside run-here
 
-    pub run-sign : isSign x.class ≡ true
+    run-sign : isSign x.class ≡ true
     run-sign = let l = leb-true 160 x.class k in le-leb 142 x.class (omega arith)
 
     pub run_on : x.at < e.at
     run_on = (operator-rest s x.at run_inside (sign-byte run-sign) run-opens e.at (sym plain.0) plain.1).0
+
+    pub run-left : LeftTo s x.at e.at
+    run-left = operator-left run-sign run-opens e run-stops
+
+    pub step-run : (out next : List ℕ) → next ≡ storedIf out x.bytes (byForm (plainForm (operatorNumber s x.at e)) x.at e.at false) → Steps s x out (plainBehind x e) next
+    step-run = step-operator run-sign run-opens e run-stops
 
   pub run-within : inRun x.class ≡ true → x.at < length s
   run-within k = class-inside s x.at inRun refl (by-class g inRun k)

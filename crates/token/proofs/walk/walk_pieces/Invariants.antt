@@ -1,6 +1,5 @@
 -- The loop keeps that the walk comes from its start to its place.
-use Prim.Native.Nat.{◌-◌}
-use lib.ListN.{length}
+use Rattle.std.proofs.Common.{◌-◌, length}
 use Rattle.token.specs.code.Walk.{Steps}
 use Rattle.token.proofs.walk.walk_pieces.Given as goal
 

@@ -1,0 +1,10 @@
+-- The line end's record, and on behind it; a CR alone is left.
+use Rattle.std.proofs.Common.{sym, ◌∙◌}
+use Rattle.token.proofs.walk.Pieces.{cr-here, step-line-end}
+use Rattle.token.proofs.walk.return_step.Goals as goal
+
+pub returns : goal.returns
+returns c =
+    let g = c.requires.0.2 in
+    rw c.behind_line.ensures
+    (step-line-end g _ (cr-here g c.requires.1 (sym c.byte_at.ensures ∙ c.if-byte_at-ne10.false)) _ _ c.put_line_if.ensures)
