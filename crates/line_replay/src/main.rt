@@ -12,8 +12,8 @@
 //     the lent numbers afterwards
 //     for each place asked for: the place, and its block, 16 bytes: refusal, place, line, column
 //
-// A case agrees when the list holds all of it, it lends at most 512 numbers, ergo_index_lines hands back the number that its block begins with and
-// leaves block and lent numbers as they are listed, and ergo_line_column, over the lent numbers as they are then, does so with each place's block.
+// A case agrees when the list holds all of it, it lends at most 512 numbers, index_lines hands back the number that its block begins with and
+// leaves block and lent numbers as they are listed, and line_column, over the lent numbers as they are then, does so with each place's block.
 #![tactic(auto)]
 
 ghost use Rattle.std.specs.Prelude.{◌≡◌, true, ◌↔◌, ◌+◌, ◌*◌, ◌≤◌, ◌<◌, length};
@@ -21,8 +21,9 @@ ghost use Rattle.entry.specs.paper.Host.{bufferSeen};
 ghost use Rattle.cases.specs.Cases.{Replays};
 ghost use Rattle.line_replay.specs.Cases.{mostRoom, holding, builtSeen, NumbersListed, BlockAgrees, PlaceAgrees, PlacesAgree, Agrees, CaseAgrees, next_at};
 
-use cases::{UNTOUCHED, is_listed};
-use libc::{STDIN_FILENO, STDOUT_FILENO};
+use cases::{Case, Replayed, UNTOUCHED, is_listed, replay};
+use std::io;
+use std::io::Read;
 use words::read::four;
 
 const HEAD_BYTES: usize = 32;
@@ -62,7 +63,7 @@ fn place_agrees(list: &[u8], script: &[u8], index: &[u32], at: usize) -> bool
 {
     let place = four(list, at) as u32;
     let mut block = [UNTOUCHED; 16];
-    let number = ergo::ergo_line_column(script, index, place, &mut block);
+    let number = lines::host::line_column(script, index, place, &mut block);
     is_listed(list, at + 4, number, &block)
 }
 
@@ -88,7 +89,7 @@ fn block_agrees(lent: &mut [u32], list: &[u8], at: usize, script: &[u8]) -> bool
     ensures lent_after { lent.new ≡ bufferSeen (builtSeen script.now lent.old) }
 {
     let mut block = [UNTOUCHED; 16];
-    let number = ergo::ergo_index_lines(script, lent, &mut block);
+    let number = lines::host::index_lines(script, lent, &mut block);
     is_listed(list, at, number, &block)
 }
 
@@ -115,86 +116,55 @@ fn agrees(
     places_agree(list, script, lent, from + 4 * lent.len(), count)
 }
 
-// Where the next case starts, and whether this one agrees.
-#[derive(Clone, Copy)]
-struct Replayed {
-    next: usize,
-    agrees: bool,
-}
+// The kind of this program's cases.
+struct Places;
 
-// The case at a place. One that the end of the list cuts short, or that lends more than there is, does not agree.
-fn replay_case(list: &[u8], at: usize) -> Replayed
-    requires { at < length list.now }
-    ensures next_value { result.next ≡ next_at list.now at }
-    ensures at_lt_next { (at < result.next) × (result.next ≤ length list.now) }
-    ensures variant { (result.agrees ≡ true) ↔ CaseAgrees list.now at }
-{
-    let start = at + HEAD_BYTES;
-    let end = start + four(list, at) as usize;
-    let room = four(list, at + 4) as usize;
-    let count = four(list, at + 12) as usize;
-    let next = end + 4 * room + ASKED_BYTES * count;
-    if next > list.len() {
-        return Replayed {
-            next: list.len(),
-            agrees: false,
-        };
-    }
-    if room > ROOM_NUMBERS {
-        return Replayed {
-            next: next,
-            agrees: false,
-        };
-    }
-    let mut lent = number_space(four(list, at + 8) as u32);
-    Replayed {
-        next: next,
-        agrees: agrees(
-            &mut lent[..room],
-            list,
-            at + 16,
-            &list[start..end],
-            end,
-            count,
-        ),
-    }
-}
+impl Case for Places {
+    ghost next = { next_at };
 
-// How many cases there are, and how many of them do not agree.
-#[derive(Clone, Copy)]
-struct Counts {
-    scripts: u64,
-    differ: u64,
-}
+    ghost agrees = { CaseAgrees };
 
-// The cases of the list, from its start to its end.
-fn replay(list: &[u8]) -> Counts
-    ensures { Replays list.now (next_at list.now) (CaseAgrees list.now) (length list.now) result.scripts result.differ }
-{
-    let mut at: usize = 0;
-    let mut scripts: u64 = 0;
-    let mut differ: u64 = 0;
-    while at < list.len() {
-        let one = replay_case(list, at);
-        scripts += 1;
-        if !one.agrees {
-            differ += 1;
+    // The case at a place. One that the end of the list cuts short, or that lends more than there is, does not agree.
+    fn replay_case(list: &[u8], at: usize) -> Replayed {
+        let start = at + HEAD_BYTES;
+        let end = start + four(list, at) as usize;
+        let room = four(list, at + 4) as usize;
+        let count = four(list, at + 12) as usize;
+        let next = end + 4 * room + ASKED_BYTES * count;
+        if next > list.len() {
+            return Replayed {
+                next: list.len(),
+                agrees: false,
+            };
         }
-        at = one.next;
-    }
-    Counts {
-        scripts: scripts,
-        differ: differ,
+        if room > ROOM_NUMBERS {
+            return Replayed {
+                next: next,
+                agrees: false,
+            };
+        }
+        let mut lent = number_space(four(list, at + 8) as u32);
+        Replayed {
+            next: next,
+            agrees: agrees(
+                &mut lent[..room],
+                list,
+                at + 16,
+                &list[start..end],
+                end,
+                count,
+            ),
+        }
     }
 }
 
 // No ensures: no contract can speak of what was written to standard output.
-fn main() {
-    let mut list = cases::list_space();
-    let n = io::read_full(STDIN_FILENO, &mut list);
-    let counts = replay(&list[..n]);
-    io::print_decimal(STDOUT_FILENO, counts.scripts);
-    io::write_all(STDOUT_FILENO, b" scripts replayed, ");
-    io::print_decimal(STDOUT_FILENO, counts.differ);
-    io::write_all(STDOUT_FILENO, b" differ\n");
+fn main(rt: HostRuntime) -> io::Result<()> {
+    let mut list = Vec::new(rt.alloc());
+    rt.reader().read_to_end(&mut list)?;
+    let counts = replay::<Places>(&list);
+    println!(rt;
+        "{} scripts replayed, {} differ",
+        counts.cases, counts.differ
+    )
 }

@@ -6,22 +6,17 @@
 ghost use Rattle.std.specs.Prelude.{◌≡◌, ◌+◌, length};
 ghost use Rattle.listing_text.specs.Lines.{mostScript};
 
-use libc::{STDIN_FILENO, STDOUT_FILENO};
+use std::io;
+use std::io::Read;
 
 // One byte more than a listing takes.
-const SCRIPT_BYTES: usize = listing_text::MOST_BYTES + 1;
-
-fn script_space() -> [u8; SCRIPT_BYTES]
-    ensures { mostScript + 1 ≡ length result }
-{
-    [0; SCRIPT_BYTES]
-}
+const SCRIPT_BYTES: u64 = listing_text::MOST_BYTES as u64 + 1;
 
 // It reads and writes, and no contract can say what; the text is `listing_text::listing`'s.
-fn main() {
-    let mut script = script_space();
-    let n = io::read_full(STDIN_FILENO, &mut script);
+fn main(rt: HostRuntime) -> io::Result<()> {
+    let mut script = Vec::new(rt.alloc());
+    let n = rt.reader().take(SCRIPT_BYTES).read_to_end(&mut script)?;
     let mut text = [0u8; listing_text::TEXT_BYTES];
     let length = listing_text::listing(&script[..n], &mut text);
-    io::write_all(STDOUT_FILENO, &text[..length]);
+    rt.write_all(&text[..length])
 }

@@ -4,12 +4,13 @@
 // Standard input holds cases, one directly after the other. A case is four decimal digits, the script's length, a line feed, and the script.
 #![tactic(auto)]
 
-ghost use Rattle.std.specs.Prelude.{◌≡◌, length, ◌+◌, ◌<◌, ◌≤◌};
+ghost use Rattle.std.specs.Prelude.{◌≡◌, length, ◌+◌, ◌<◌, ◌≤◌, IfOk};
 ghost use Rattle.listing_cases.specs.Cases.{digit as digitOf, scriptLength, caseEnd, casePlace, case_of, case_count};
 ghost use Rattle.std.proofs.lemmas.List.Edits.{sets};
 ghost use Rattle.io.specs.Counts.{IsPrefixLen};
 
-use libc::{STDIN_FILENO, STDOUT_FILENO};
+use std::io;
+use std::io::Read;
 use listing_text::TEXT_BYTES;
 
 const HEAD_BYTES: usize = 5;
@@ -71,26 +72,27 @@ fn put_case(list: &[u8], at: usize, earlier: u64, out: &mut [u8; TEXT_BYTES]) ->
     listing_text::case_text(earlier + 1, &list[start..end], out)
 }
 
-// Writes the text of each case in turn, and hands back how many there are. What is written no contract can say: C's `write` has no record of
-// it.
-fn write_cases(list: &[u8]) -> u64
-    ensures { result ≡ case_count list.now }
+// Writes the text of each case in turn, and hands back how many there are. What is written no contract can say: that of `write_all` has no record
+// of it.
+fn write_cases(rt: &impl Print, list: &[u8]) -> io::Result<u64>
+    ensures { IfOk result (λ written. written ≡ case_count list.now) }
 {
     let mut text = [0u8; TEXT_BYTES];
     let mut at: usize = 0;
     let mut written: u64 = 0;
     while list.len() - at >= HEAD_BYTES {
         let length = put_case(list, at, written, &mut text);
-        io::write_all(STDOUT_FILENO, &text[..length]);
+        rt.write_all(&text[..length])?;
         at = case_end(list, at);
         written += 1;
     }
-    written
+    Ok(written)
 }
 
 // It reads and writes, and no contract can say what.
-fn main() {
-    let mut list = io::large_buffer();
-    let n = io::read_full(STDIN_FILENO, &mut list);
-    write_cases(&list[..n]);
+fn main(rt: HostRuntime) -> io::Result<()> {
+    let mut list = Vec::new(rt.alloc());
+    rt.reader().read_to_end(&mut list)?;
+    write_cases(&rt, &list)?;
+    Ok(())
 }

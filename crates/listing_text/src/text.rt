@@ -63,7 +63,7 @@ fn put_listing(out: &mut [u8], at: usize, script: &[u8]) -> usize
     }
     let mut records = records_space();
     let mut block = block_space();
-    let number = ergo::ergo_tokenize(script, &mut records, &mut block);
+    let number = entry::host::tokenize(script, &mut records, &mut block);
     put_answer(out, at, number, &records, &block)
 }
 

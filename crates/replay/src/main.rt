@@ -9,7 +9,7 @@
 //     the script
 //     where the number is 0, the records: as many bytes as the block says
 //
-// A case agrees when the list holds all of it, it lends at most 4,096 bytes, ergo_tokenize hands back the number, the block is the one listed, the
+// A case agrees when the list holds all of it, it lends at most 4,096 bytes, tokenize hands back the number, the block is the one listed, the
 // records stand in the lent bytes, and every other lent byte is as it was.
 #![tactic(auto)]
 
@@ -18,9 +18,9 @@ ghost use Rattle.entry.specs.paper.Host.{bufferSeen};
 ghost use Rattle.cases.specs.Cases.{untouched, Replays};
 ghost use Rattle.replay.specs.Cases.{recordsIn, mostRoom, listedBytes, seenLent, listed_of, CaseAgrees, next_at};
 
-use cases::{UNTOUCHED, is_listed};
-use check::same;
-use libc::{STDIN_FILENO, STDOUT_FILENO};
+use cases::{Case, Replayed, UNTOUCHED, is_listed, replay};
+use std::io;
+use std::io::Read;
 use words::read::four;
 
 const HEAD_BYTES: usize = 24;
@@ -44,12 +44,12 @@ fn holds_records(lent: &[u8], records: &[u8]) -> bool
     if bytes > lent.len() {
         return false;
     }
-    if !same(&lent[..bytes], records) {
+    if &lent[..bytes] != records {
         return false;
     }
     let rest = lent.len() - bytes;
     let fresh = untouched_space();
-    same(&lent[bytes..], &fresh[..rest])
+    lent[bytes..] == fresh[..rest]
 }
 
 // How many record bytes the case at a place lists.
@@ -73,91 +73,60 @@ fn agrees(lent: &mut [u8], list: &[u8], at: usize, script: &[u8], records: &[u8]
     ensures lent_after { lent.new ≡ bufferSeen (seenLent script.now (length lent.old)) }
 {
     let mut block = [UNTOUCHED; 16];
-    let number = ergo::ergo_tokenize(script, lent, &mut block);
+    let number = entry::host::tokenize(script, lent, &mut block);
     if !is_listed(list, at, number, &block) {
         return false;
     }
     holds_records(lent, records)
 }
 
-// Where the next case starts, and whether this one agrees.
-#[derive(Clone, Copy)]
-struct Replayed {
-    next: usize,
-    agrees: bool,
-}
+// The kind of this program's cases.
+struct Scripts;
 
-// The case at a place. One that the end of the list cuts short, or that lends more than there is, does not agree.
-fn replay_case(list: &[u8], at: usize) -> Replayed
-    requires { at < length list.now }
-    ensures next_value { result.next ≡ next_at list.now at }
-    ensures at_lt_next { (at < result.next) × (result.next ≤ length list.now) }
-    ensures variant { (result.agrees ≡ true) ↔ CaseAgrees list.now at }
-{
-    let start = at + HEAD_BYTES;
-    let end = start + four(list, at) as usize;
-    let next = end + listed_bytes(list, at);
-    if next > list.len() {
-        return Replayed {
-            next: list.len(),
-            agrees: false,
-        };
-    }
-    let room = four(list, at + 4) as usize;
-    if room > ROOM_BYTES {
-        return Replayed {
-            next: next,
-            agrees: false,
-        };
-    }
-    let mut lent = untouched_space();
-    Replayed {
-        next: next,
-        agrees: agrees(
-            &mut lent[..room],
-            list,
-            at + 8,
-            &list[start..end],
-            &list[end..next],
-        ),
-    }
-}
+impl Case for Scripts {
+    ghost next = { next_at };
 
-// How many cases there are, and how many of them do not agree.
-#[derive(Clone, Copy)]
-struct Counts {
-    scripts: u64,
-    differ: u64,
-}
+    ghost agrees = { CaseAgrees };
 
-// The cases of the list, from its start to its end.
-fn replay(list: &[u8]) -> Counts
-    ensures { Replays list.now (next_at list.now) (CaseAgrees list.now) (length list.now) result.scripts result.differ }
-{
-    let mut at: usize = 0;
-    let mut scripts: u64 = 0;
-    let mut differ: u64 = 0;
-    while at < list.len() {
-        let one = replay_case(list, at);
-        scripts += 1;
-        if !one.agrees {
-            differ += 1;
+    // The case at a place. One that the end of the list cuts short, or that lends more than there is, does not agree.
+    fn replay_case(list: &[u8], at: usize) -> Replayed {
+        let start = at + HEAD_BYTES;
+        let end = start + four(list, at) as usize;
+        let next = end + listed_bytes(list, at);
+        if next > list.len() {
+            return Replayed {
+                next: list.len(),
+                agrees: false,
+            };
         }
-        at = one.next;
-    }
-    Counts {
-        scripts: scripts,
-        differ: differ,
+        let room = four(list, at + 4) as usize;
+        if room > ROOM_BYTES {
+            return Replayed {
+                next: next,
+                agrees: false,
+            };
+        }
+        let mut lent = untouched_space();
+        Replayed {
+            next: next,
+            agrees: agrees(
+                &mut lent[..room],
+                list,
+                at + 8,
+                &list[start..end],
+                &list[end..next],
+            ),
+        }
     }
 }
 
 // No ensures: no contract can speak of what was written to standard output.
-fn main() {
-    let mut list = cases::list_space();
-    let n = io::read_full(STDIN_FILENO, &mut list);
-    let counts = replay(&list[..n]);
-    io::print_decimal(STDOUT_FILENO, counts.scripts);
-    io::write_all(STDOUT_FILENO, b" scripts replayed, ");
-    io::print_decimal(STDOUT_FILENO, counts.differ);
-    io::write_all(STDOUT_FILENO, b" differ\n");
+fn main(rt: HostRuntime) -> io::Result<()> {
+    let mut list = Vec::new(rt.alloc());
+    rt.reader().read_to_end(&mut list)?;
+    let counts = replay::<Scripts>(&list);
+    println!(rt;
+        "{} scripts replayed, {} differ",
+        counts.cases, counts.differ
+    )
 }

@@ -9,16 +9,17 @@
 //     the roll
 //     for each record asked for: its offset, the previous end, and its block, 40 bytes
 //
-// A case agrees when ergo_read_roll hands back the number that the roll's block begins with and fills the block as it is listed, and
-// ergo_read_record does so for each record.
+// A case agrees when answer_roll hands back the number that the roll's block begins with and fills the block as it is listed, and
+// answer_record does so for each record.
 #![tactic(auto)]
 
 ghost use Rattle.std.specs.Prelude.{◌≡◌, true, ◌↔◌, ◌+◌, ◌*◌, ◌≤◌, ◌<◌, length};
 ghost use Rattle.cases.specs.Cases.{Replays};
 ghost use Rattle.roll_replay.specs.Cases.{RollAgrees, RecordAgrees, RecordsAgree, CaseAgrees, next_at};
 
-use cases::{UNTOUCHED, is_listed};
-use libc::{STDIN_FILENO, STDOUT_FILENO};
+use cases::{Case, Replayed, UNTOUCHED, is_listed, replay};
+use std::io;
+use std::io::Read;
 use words::read::four;
 
 const HEAD_BYTES: usize = 24;
@@ -30,7 +31,7 @@ fn roll_agrees(list: &[u8], at: usize, roll: &[u8]) -> bool
     ensures { (result ≡ true) ↔ RollAgrees list.now at roll.now }
 {
     let mut block = [UNTOUCHED; 16];
-    let number = ergo::ergo_read_roll(roll, &mut block);
+    let number = rolls::host::answer_roll(roll, &mut block);
     is_listed(list, at, number, &block)
 }
 
@@ -42,7 +43,7 @@ fn record_agrees(list: &[u8], roll: &[u8], at: usize) -> bool
     let offset = four(list, at) as u32;
     let previous = four(list, at + 4) as u32;
     let mut block = [UNTOUCHED; 40];
-    let number = ergo::ergo_read_record(roll, offset, previous, &mut block);
+    let number = rolls::host::answer_record(roll, offset, previous, &mut block);
     is_listed(list, at + 8, number, &block)
 }
 
@@ -61,77 +62,43 @@ fn records_agree(list: &[u8], roll: &[u8], from: usize, count: usize) -> bool
     true
 }
 
-// Where the next case starts, and whether this one agrees.
-#[derive(Clone, Copy)]
-struct Replayed {
-    next: usize,
-    agrees: bool,
-}
+// The kind of this program's cases.
+struct Rolls;
 
-// The case at a place. One that the end of the list cuts short does not agree.
-fn replay_case(list: &[u8], at: usize) -> Replayed
-    requires { at < length list.now }
-    ensures next_value { result.next ≡ next_at list.now at }
-    ensures at_lt_next { (at < result.next) × (result.next ≤ length list.now) }
-    ensures variant { (result.agrees ≡ true) ↔ CaseAgrees list.now at }
-{
-    let start = at + HEAD_BYTES;
-    let end = start + four(list, at) as usize;
-    let count = four(list, at + 4) as usize;
-    let next = end + ASKED_BYTES * count;
-    if next > list.len() {
-        return Replayed {
-            next: list.len(),
-            agrees: false,
-        };
-    }
-    if !roll_agrees(list, at + 8, &list[start..end]) {
-        return Replayed {
-            next: next,
-            agrees: false,
-        };
-    }
-    Replayed {
-        next: next,
-        agrees: records_agree(list, &list[start..end], end, count),
-    }
-}
+impl Case for Rolls {
+    ghost next = { next_at };
 
-// How many cases there are, and how many of them do not agree.
-#[derive(Clone, Copy)]
-struct Counts {
-    rolls: u64,
-    differ: u64,
-}
+    ghost agrees = { CaseAgrees };
 
-// The cases of the list, from its start to its end.
-fn replay(list: &[u8]) -> Counts
-    ensures { Replays list.now (next_at list.now) (CaseAgrees list.now) (length list.now) result.rolls result.differ }
-{
-    let mut at: usize = 0;
-    let mut rolls: u64 = 0;
-    let mut differ: u64 = 0;
-    while at < list.len() {
-        let one = replay_case(list, at);
-        rolls += 1;
-        if !one.agrees {
-            differ += 1;
+    // The case at a place. One that the end of the list cuts short does not agree.
+    fn replay_case(list: &[u8], at: usize) -> Replayed {
+        let start = at + HEAD_BYTES;
+        let end = start + four(list, at) as usize;
+        let count = four(list, at + 4) as usize;
+        let next = end + ASKED_BYTES * count;
+        if next > list.len() {
+            return Replayed {
+                next: list.len(),
+                agrees: false,
+            };
         }
-        at = one.next;
-    }
-    Counts {
-        rolls: rolls,
-        differ: differ,
+        if !roll_agrees(list, at + 8, &list[start..end]) {
+            return Replayed {
+                next: next,
+                agrees: false,
+            };
+        }
+        Replayed {
+            next: next,
+            agrees: records_agree(list, &list[start..end], end, count),
+        }
     }
 }
 
 // No ensures: no contract can speak of what was written to standard output.
-fn main() {
-    let mut list = cases::list_space();
-    let n = io::read_full(STDIN_FILENO, &mut list);
-    let counts = replay(&list[..n]);
-    io::print_decimal(STDOUT_FILENO, counts.rolls);
-    io::write_all(STDOUT_FILENO, b" rolls replayed, ");
-    io::print_decimal(STDOUT_FILENO, counts.differ);
-    io::write_all(STDOUT_FILENO, b" differ\n");
+fn main(rt: HostRuntime) -> io::Result<()> {
+    let mut list = Vec::new(rt.alloc());
+    rt.reader().read_to_end(&mut list)?;
+    let counts = replay::<Rolls>(&list);
+    println!(rt; "{} rolls replayed, {} differ", counts.cases, counts.differ)
 }
