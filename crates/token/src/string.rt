@@ -21,6 +21,7 @@ pub struct Span {
 }
 
 // Past an escape, from behind its backslash.
+#[tactic(auto, using(crate::proofs::string::Escapes::escape_by), unfolding(crate::specs::paper::Tests::isDigit))]
 pub fn consume_escape(s: &[u8], c: Cursor) -> Ended
     requires { c.at ≤ length s.now }
     ensures { result ≡ escapeOf (length s.now) (from s.now c.at) }
@@ -52,6 +53,7 @@ fn consume_hexes(s: &[u8], c: Cursor) -> Ended
 }
 
 // Does the byte stand for itself in every string? A quote, an LF, a backslash and a `$` don't. Small letters lie past all four.
+#[tactic(auto, unfolding(crate::specs::code::String::isOrdinary))]
 fn is_ordinary(b: u8) -> bool
     ensures { result ≡ isOrdinary b }
 {
@@ -97,6 +99,7 @@ fn consume_interp_dollar(s: &[u8], c: Cursor) -> Ended
 }
 
 // One step in a single string, where no quote closes it.
+#[tactic(auto, using(crate::proofs::string::Laws::dollar_in), unfolding(crate::specs::code::String::singleItem))]
 fn single_item(s: &[u8], c: Cursor, prefixed: bool) -> Ended
     requires { c.at < length s.now }
     ensures { result ≡ singleItem prefixed s.now c.at }
@@ -166,6 +169,7 @@ pub fn consume_quotes(s: &[u8], c: Cursor) -> Cursor
 }
 
 // One step in a triple string, where no three quotes close it.
+#[tactic(auto, using(crate::proofs::string::Laws::dollar_in), unfolding(crate::specs::code::String::tripleItem))]
 fn triple_item(s: &[u8], c: Cursor, prefixed: bool) -> Ended
     requires { c.at < length s.now }
     ensures { result ≡ tripleItem prefixed s.now c.at }
@@ -214,6 +218,7 @@ fn lex_string(s: &[u8], c: Cursor, prefixed: bool) -> Ended
 }
 
 // The end of the text from `start` to `end` without a last quote, if one is left.
+#[tactic(auto, unfolding(crate::specs::code::String::lastOff))]
 fn last_off(s: &[u8], start: usize, end: usize) -> usize
     requires { end ≤ length s.now }
     ensures { result ≡ lastOff s.now start end }
@@ -228,6 +233,7 @@ fn last_off(s: &[u8], start: usize, end: usize) -> usize
 }
 
 // Are the first eight bytes and the last eight of the text from `start` to `end` quotes, sixteen in all?
+#[tactic(auto, unfolding(crate::specs::code::String::eightsOff))]
 fn eights_off(s: &[u8], start: usize, end: usize) -> bool
     requires { (start ≤ end) × (end ≤ length s.now) }
     ensures { result ≡ eightsOff s.now start end }

@@ -132,6 +132,9 @@ module _ (s : List ℕ) (i : ℕ) where
       go false b c e = refl
 
 -- a `$`
+pub dollar_in : (s : List ℕ) (i : ℕ) → get_or s i 0 ≡ 0x24 → isAny "$" (from s i) ≡ true
+dollar_in s i b = any-byte "$" refl s i ∙ ap (one_of "$") b
+
 module _ (s : List ℕ) (i : ℕ) (h : i < length s) (e : isAny "$" (from s i) ≡ true) where
   dollar-is : get_or s i 0 ≡ 0x24
   dollar-is = go (eqb (get_or s i 0) 0x24) refl (sym (any-byte "$" refl s i) ∙ e)
