@@ -87,6 +87,7 @@ fn skip_ordinary(s: &[u8], c: Cursor) -> Cursor
 }
 
 // Past a `$` in a prefixed string, unless `{` follows.
+#[tactic(auto, using(crate::proofs::string::Laws::dollars))]
 fn consume_interp_dollar(s: &[u8], c: Cursor) -> Ended
     requires { (c.at < length s.now) × (isAny "$" (from s.now c.at) ≡ true) }
     ensures { result ≡ dollarOf (length s.now) (from s.now c.at) }
@@ -143,6 +144,7 @@ fn lex_single_string(s: &[u8], c: Cursor, prefixed: bool) -> Ended
 }
 
 // Do three quotes stand at a place?
+#[tactic(auto, using(crate::proofs::string::Laws::three_here))]
 pub fn three_quotes(s: &[u8], at: usize) -> bool
     requires { at ≤ length s.now }
     ensures { result ≡ threeQuotes (from s.now at) }
@@ -207,6 +209,7 @@ fn lex_triple_string(s: &[u8], c: Cursor, prefixed: bool) -> Ended
 }
 
 // A string from its opening on.
+#[tactic(auto, unfolding(crate::specs::computed::Answer::closeString, crate::specs::code::String::closeSingle))]
 fn lex_string(s: &[u8], c: Cursor, prefixed: bool) -> Ended
     requires { (c.at ≤ length s.now) × (quote (from s.now c.at) ≡ true) }
     ensures { result ≡ ended_of (length s.now) (closeString prefixed (from s.now c.at)) }

@@ -112,24 +112,7 @@ three-in s i e =
           ∙ ap (drop 1) (at_ascii s (i + 2) h (omega arith)) ∙ ap (from s) three,
     )
 
--- the code looks at two of them, then at the third
-module _ (s : List ℕ) (i : ℕ) where
-  pub two_in : eqb (get_or s i 0) 0x22 && eqb (get_or s (i + 1) 0) 0x22 ≡ true → i + 2 ≤ length s
-  two_in e =
-      let y = eqb-true (get_or s (i + 1) 0) 0x22 (and_both (eqb (get_or s i 0) 0x22) (eqb (get_or s (i + 1) 0) 0x22) e).1 in
-      let h = inside s (i + 1) (omega arith) in
-      omega arith
-
-  pub three_third : eqb (get_or s i 0) 0x22 && eqb (get_or s (i + 1) 0) 0x22 ≡ true → eqb (get_or s (i + 2) 0) 0x22 ≡ threeQuotes (from s i)
-  three_third e = let a = and_both (eqb (get_or s i 0) 0x22) (eqb (get_or s (i + 1) 0) 0x22) e in sym (three-byte s i ∙ rw (a.0, a.1))
-
-  pub three-none : eqb (get_or s i 0) 0x22 && eqb (get_or s (i + 1) 0) 0x22 ≡ false → false ≡ threeQuotes (from s i)
-  three-none e = sym (three-byte s i ∙ go (eqb (get_or s i 0) 0x22) (eqb (get_or s (i + 1) 0) 0x22) (eqb (get_or s (i + 2) 0) 0x22) e)
-    where
-      go : (a b c : Bool) → a && b ≡ false → a && (b && c) ≡ false
-      go true true c e = clash (sym e)
-      go true false c e = refl
-      go false b c e = refl
+pub ruleset three_here = (three-byte)
 
 -- a `$`
 pub dollar_in : (s : List ℕ) (i : ℕ) → get_or s i 0 ≡ 0x24 → isAny "$" (from s i) ≡ true
@@ -156,6 +139,8 @@ module _ (s : List ℕ) (i : ℕ) (h : i < length s) (e : isAny "$" (from s i) �
       let d = dollar-is in
       let p = ap (place (length s)) (past s i h (omega arith)) ∙ place-from s (i + 1) (omega arith) in
       sym (rw t (ap (λ j. ended.At (cursorAt j)) p))
+
+pub ruleset dollars = (dollar-brace, dollar-alone)
 
 -- ---- all quotes that stand there
 
