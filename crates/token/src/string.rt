@@ -41,6 +41,7 @@ pub fn consume_escape(s: &[u8], c: Cursor) -> Ended
 }
 
 // Past the four hex digits of a `\u` escape.
+#[tactic(auto, using(crate::proofs::string::Escapes::four_hexes))]
 fn consume_hexes(s: &[u8], c: Cursor) -> Ended
     requires { c.at ≤ length s.now }
     ensures { result ≡ hexesOf (length s.now) (from s.now c.at) }
@@ -68,6 +69,7 @@ fn is_ordinary(b: u8) -> bool
 
 // Past the ordinary characters that stand there. A byte of 0x80 or more is never one of the four others, so no character is decoded. Most strings
 // are read by `quoted`, eights of bytes first; this is for those that it declines.
+#[tactic(auto, using(crate::proofs::string::Laws::skip_run))]
 fn skip_ordinary(s: &[u8], c: Cursor) -> Cursor
     requires { c.at ≤ length s.now }
     ensures { (c.at ≤ result.at) × (result.at ≤ length s.now) × (from s.now result.at ≡ afterRun (headIs isOrdinary) (from s.now c.at)) }
@@ -156,6 +158,7 @@ pub fn three_quotes(s: &[u8], at: usize) -> bool
 }
 
 // Past all quotes that stand there.
+#[tactic(auto, using(crate::proofs::string::Laws::quote_run))]
 pub fn consume_quotes(s: &[u8], c: Cursor) -> Cursor
     requires { c.at ≤ length s.now }
     ensures { (result.at ≤ length s.now) × (from s.now result.at ≡ afterRun quote (from s.now c.at)) }
@@ -251,6 +254,7 @@ fn eights_off(s: &[u8], start: usize, end: usize) -> bool
 }
 
 // The quotes at both ends of a string taken off by eights: what is left has the same content.
+#[tactic(auto, using(crate::proofs::string::Strips::eights_apart))]
 fn strip_eights(s: &[u8], start: usize, end: usize) -> Span
     requires { (start ≤ end) × (end ≤ length s.now) }
     ensures { result ≡ eightsTaken s.now start end }
@@ -265,6 +269,7 @@ fn strip_eights(s: &[u8], start: usize, end: usize) -> Span
 }
 
 // The content of the text from `start` to `end`.
+#[tactic(auto, using(crate::proofs::string::Strips::strip_turns))]
 fn strip_many(s: &[u8], start: usize, end: usize) -> Span
     requires { (start ≤ end) × (end ≤ length s.now) × Suffix (from s.now end) (from s.now start) }
     ensures { spanKind result ≡ plainContent (length s.now) (from s.now start) (from s.now end) }
@@ -319,6 +324,7 @@ pub fn lex_plain_string(s: &[u8], c: Cursor) -> Piece
 }
 
 // A string whose prefix stands from `start` to c.
+#[tactic(auto, using(crate::proofs::string::Laws::prefixed_string))]
 pub fn lex_prefixed_string(s: &[u8], start: usize, c: Cursor) -> Piece
     requires { (start ≤ c.at) × (c.at ≤ length s.now) × (quote (from s.now c.at) ≡ true) }
     ensures { result ≡ piece_of (length s.now) (prefixedOf (length s.now) (from s.now start) (closeString true (from s.now c.at))) }

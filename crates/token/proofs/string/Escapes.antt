@@ -115,6 +115,8 @@ module _ (s : List ℕ) (e : ℕ) (within : e ≤ length s) where
         ⊎_elim (λ h. absurd (omega (arith, h.0, l))) (λ h. sym (rw h.1 (ap (λ t. ended.At (cursorAt (place (length s) t))) h.2 ∙ ap (λ j. ended.At (cursorAt j)) (place-from s e within))))
         (hexes-read 4 0 i inside read)
 
+pub ruleset four_hexes = (hexes-short, hexes-full)
+
 -- ---- what follows a backslash
 
 upto-digits : (m k : ℕ) (x t : Text) → drop k x ≡ t → drop (digitsUpTo m k t) x ≡ afterUpTo isDigit m t

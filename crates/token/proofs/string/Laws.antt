@@ -163,6 +163,8 @@ module _ (s : List ℕ) (i : ℕ) where
 pub quotes-past : (s : List ℕ) (i r : ℕ) → i ≤ r → r ≤ length s → AllIn 0x22 0x22 s i r → afterRun quote (from s r) ≡ afterRun quote (from s i)
 quotes-past s = all_past (afterRun quote) s (Within 0x22 0x22) (λ k h a. quotes-next s k h (omega arith))
 
+pub ruleset quote_run = (quotes-next, quotes-stop, quotes-end, quotes-past)
+
 -- ---- what stands for itself
 
 module _ (c : ℕ) where
@@ -239,6 +241,19 @@ skip_stop s i h e =
 pub skip-end : (s : List ℕ) (i : ℕ) → length s ≤ i → from s i ≡ afterRun (headIs isOrdinary) (from s i)
 unfolding afterRun
 skip-end s i h = rw (at-end s i h)
+
+-- where no ordinary byte stands the run is empty
+pub skip_none : (s : List ℕ) (i : ℕ) → isOrdinary (get_or s i 0) ≡ false → from s i ≡ afterRun (headIs isOrdinary) (from s i)
+skip_none s i e = go (ltb i (length s)) refl
+  where
+    go : (b : Bool) → ltb i (length s) ≡ b → from s i ≡ afterRun (headIs isOrdinary) (from s i)
+    go true q = skip_stop s i (ltb-true i (length s) q) e
+    go false q = skip-end s i (ltb-false i (length s) q)
+
+pub skip_next : (s : List ℕ) (i : ℕ) → i < length s → isOrdinary (get_or s i 0) ≡ true → afterRun (headIs isOrdinary) (from s (i + 1)) ≡ afterRun (headIs isOrdinary) (from s i)
+skip_next s i h e = walk-on _ _ skips s i h (ordinary-byte s i h ∙ e)
+
+pub ruleset skip_run = (skip_none, skip_next, skip-end)
 
 -- ---- one step
 
@@ -527,7 +542,7 @@ module _ (n : ℕ) (t : Text) where
       go (closed r) q = no-at _ j a q
       go (wrong k x) q = cc
 
-  pub prefixed-ended : (o : Text) (e : Cursor) (i : ℕ) → place n t ≡ i → ended.At e ≡ ended_of n (closeString true o)
+  prefixed-ended : (o : Text) (e : Cursor) (i : ℕ) → place n t ≡ i → ended.At e ≡ ended_of n (closeString true o)
       → piece.Token (tk.Str i e.at) e ≡ piece_of n (prefixedOf n t (closeString true o))
   unfolding ended_of piece_of
   prefixed-ended o e i p q = go (closeString true o) q
@@ -535,6 +550,12 @@ module _ (n : ℕ) (t : Text) where
       go : (w : Closing) → ended.At e ≡ ended_of n w → piece.Token (tk.Str i e.at) e ≡ piece_of n (prefixedOf n t w)
       go (closed r) q = let x : e ≡ cursorAt (place n r) = cc in rw (x, p)
       go (wrong k x) q = no-at e k _ (sym q)
+
+pub prefixed-placed : (s : List ℕ) (i : ℕ) (o : Text) (e : Cursor) → i ≤ length s → ended.At e ≡ ended_of (length s) (closeString true o)
+    → piece.Token (tk.Str i e.at) e ≡ piece_of (length s) (prefixedOf (length s) (from s i) (closeString true o))
+prefixed-placed s i o e h q = prefixed-ended (length s) (from s i) o e i (place-from s i h) q
+
+pub ruleset prefixed_string = (prefixed-refused, prefixed-placed)
 
 -- ---- where a plain string ends
 

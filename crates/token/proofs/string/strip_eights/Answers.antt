@@ -1,8 +1,8 @@
 -- Sixteen bytes are left where a turn is made, and the turns from here on end where those from the start on do.
-use Rattle.std.proofs.Common.{◌+◌, ◌-◌, sym, refl, arith}
+use Rattle.std.proofs.Common.{◌-◌, sym, refl, arith}
 use Rattle.token.specs.code.String.{spanAt, eightsTaken}
 use Rattle.token.proofs.Loops.{going_on, going-stop}
-use Rattle.token.proofs.string.Strips.{eights-apart}
+use Rattle.token.proofs.string.Strips.{eights_apart}
 use Rattle.token.proofs.string.strip_eights.Goals as goal
 
 pub loop-a-init : goal.loop-a-init
@@ -11,17 +11,11 @@ loop-a-init c =
     let a = c.args in
     (c.requires.0, c.requires.1, record { turns = a.end - a.start; enough = omega arith; same = refl })
 
-pub overflow_sub-b : goal.overflow_sub-b
-overflow_sub-b c = let h = eights-apart _ _ _ (sym c.loop-a-test.ensures) in omega arith
-
-pub loop-a-smaller : goal.loop-a-smaller
-loop-a-smaller c = let h = eights-apart _ _ _ (sym c.loop-a-test.ensures) in omega arith
-
 pub loop-a-preserved : goal.loop-a-preserved
 loop-a-preserved c =
     let l = c.loop-a in
     let e = sym c.loop-a-test.ensures in
-    let h = eights-apart _ _ _ e in
+    let h = eights_apart _ _ _ e in
     let k = l.invariant.1 in
     (omega arith, omega arith, going_on _ _ _ (spanAt l.a l.b) _ _ e (omega arith) l.invariant.2)
 
