@@ -126,6 +126,7 @@ fn single_item(s: &[u8], c: Cursor, prefixed: bool) -> Ended
 }
 
 // A single string from its quote on, up to the next quote outside an escape.
+#[tactic(auto, using(crate::proofs::string::Laws::single_walk))]
 fn lex_single_string(s: &[u8], c: Cursor, prefixed: bool) -> Ended
     requires { (c.at ≤ length s.now) × (quote (from s.now c.at) ≡ true) }
     ensures { result ≡ ended_of (length s.now) (closeSingle prefixed (drop 1 (from s.now c.at))) }
@@ -193,6 +194,7 @@ fn triple_item(s: &[u8], c: Cursor, prefixed: bool) -> Ended
 }
 
 // A triple string from its three quotes on, with all quotes directly after the first three that close it.
+#[tactic(auto, using(crate::proofs::string::Laws::triple_walk))]
 fn lex_triple_string(s: &[u8], c: Cursor, prefixed: bool) -> Ended
     requires { (c.at ≤ length s.now) × (threeQuotes (from s.now c.at) ≡ true) }
     ensures { result ≡ ended_of (length s.now) (closeTriple prefixed (drop 3 (from s.now c.at))) }

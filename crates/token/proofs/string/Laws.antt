@@ -475,18 +475,35 @@ module _ (s : List ℕ) (i : ℕ) (h : i < length s) (no-three : threeQuotes (fr
 
 -- ---- from the opening to the end
 
--- The walk from behind the opening, past what was skipped at e, has come to i.
-module _ (p : Bool) (s : List ℕ) (o e i : ℕ) where
-  pub single-begun : quote (from s o) ≡ true → from s e ≡ afterRun (headIs isOrdinary) (from s (o + 1)) → closeSingle p (from s i) ≡ closeSingle p (from s e)
-      → ended_of (length s) (closeSingle p (from s i)) ≡ ended_of (length s) (closeSingle p (drop 1 (from s o)))
-  single-begun q x y =
-      let b = quote-in s o q in
-      ap (ended_of (length s)) (y ∙ walk-skip (closeSingle p) (single_char p) (singles p) s (o + 1) e x ∙ ap (closeSingle p) (sym (past s o b.0 (omega (arith, b.1)))))
+-- The ordinary characters from the opening on, and those from a place on, are passed up to e.
+module _ (p : Bool) (s : List ℕ) (o e : ℕ) where
+  pub single-skip : from s e ≡ afterRun (headIs isOrdinary) (from s o) → closeSingle p (from s e) ≡ closeSingle p (from s o)
+  single-skip x = walk-skip (closeSingle p) (single_char p) (singles p) s o e x
 
-  pub triple-begun : threeQuotes (from s o) ≡ true → from s e ≡ afterRun (headIs isOrdinary) (from s (o + 3)) → closeTriple p (from s i) ≡ closeTriple p (from s e)
-      → ended_of (length s) (closeTriple p (from s i)) ≡ ended_of (length s) (closeTriple p (drop 3 (from s o)))
-  triple-begun q x y =
-      ap (ended_of (length s)) (y ∙ walk-skip (closeTriple p) (tripleChar p) (triples p) s (o + 3) e x ∙ ap (closeTriple p) (sym (three-in s o q).1))
+  pub single-begun : quote (from s o) ≡ true → from s e ≡ afterRun (headIs isOrdinary) (from s (o + 1)) → closeSingle p (from s e) ≡ closeSingle p (drop 1 (from s o))
+  single-begun q x =
+      let b = quote-in s o q in
+      walk-skip (closeSingle p) (single_char p) (singles p) s (o + 1) e x ∙ ap (closeSingle p) (sym (past s o b.0 (omega (arith, b.1))))
+
+  pub triple-skip : from s e ≡ afterRun (headIs isOrdinary) (from s o) → closeTriple p (from s e) ≡ closeTriple p (from s o)
+  triple-skip x = walk-skip (closeTriple p) (tripleChar p) (triples p) s o e x
+
+  pub triple-begun : threeQuotes (from s o) ≡ true → from s e ≡ afterRun (headIs isOrdinary) (from s (o + 3)) → closeTriple p (from s e) ≡ closeTriple p (drop 3 (from s o))
+  triple-begun q x = walk-skip (closeTriple p) (tripleChar p) (triples p) s (o + 3) e x ∙ ap (closeTriple p) (sym (three-in s o q).1)
+
+-- a step from the place i
+module _ (p : Bool) (s : List ℕ) (i : ℕ) (h : i < length s) where
+  pub single-on : (e : Cursor) → (get_or s i 0 ≡ 0x22 → ⊥) → ended.At e ≡ singleItem p s i → (i < e.at) × (e.at ≤ length s) × (closeSingle p (from s e.at) ≡ closeSingle p (from s i))
+  single-on e n q = went_on _ _ _ _ _ (single_step s i h (no-quote s i n) p _ q) refl
+
+  pub single-wrong : (j a : ℕ) → (get_or s i 0 ≡ 0x22 → ⊥) → ended.Refused j a ≡ singleItem p s i → ended.Refused j a ≡ ended_of (length s) (closeSingle p (from s i))
+  single-wrong j a n q = went-wrong _ _ _ _ _ _ (single_step s i h (no-quote s i n) p _ q) refl
+
+  pub triple-on : (e : Cursor) → false ≡ threeQuotes (from s i) → ended.At e ≡ tripleItem p s i → (i < e.at) × (e.at ≤ length s) × (closeTriple p (from s e.at) ≡ closeTriple p (from s i))
+  triple-on e n q = went_on _ _ _ _ _ (triple-step s i h (sym n) p _ q) refl
+
+  pub triple-wrong : (j a : ℕ) → false ≡ threeQuotes (from s i) → ended.Refused j a ≡ tripleItem p s i → ended.Refused j a ≡ ended_of (length s) (closeTriple p (from s i))
+  triple-wrong j a n q = went-wrong _ _ _ _ _ _ (triple-step s i h (sym n) p _ q) refl
 
 module _ (p : Bool) (s : List ℕ) (i : ℕ) where
   pub single-closes : i < length s → get_or s i 0 ≡ 0x22 → ended.At (cursorAt (i + 1)) ≡ ended_of (length s) (closeSingle p (from s i))
@@ -512,6 +529,10 @@ module _ (p : Bool) (s : List ℕ) (i : ℕ) where
   triple-open h k =
       let c = ap (closeTriple p) (at-end s i k) ∙ strings.triple-empty p in
       sym (ap (ended_of (length s)) c ∙ ap (ended.Refused 9) (omega arith))
+
+pub ruleset single_walk = (single-begun, single-wrong, single-closes, single-open)
+
+pub ruleset triple_walk = (three-in, triple-begun, triple-closes, triple-open)
 
 -- ---- the token
 
