@@ -232,7 +232,7 @@ pub skip-past : (s : List ℕ) (i r : ℕ) → i ≤ r → r ≤ length s → No
 skip-past s =
     all_past (afterRun (headIs isOrdinary)) s (Other 0x0A 0x22 0x24 0x5C) (λ k h o. walk-on _ _ skips s k h (ordinary-byte s k h ∙ other-ordinary _ o))
 
-pub skip_stop : (s : List ℕ) (i : ℕ) → i < length s → isOrdinary (get_or s i 0) ≡ false → from s i ≡ afterRun (headIs isOrdinary) (from s i)
+skip_stop : (s : List ℕ) (i : ℕ) → i < length s → isOrdinary (get_or s i 0) ≡ false → from s i ≡ afterRun (headIs isOrdinary) (from s i)
 skip_stop s i h e =
     let q = at-char s i h in
     let t = sym (ap (headIs isOrdinary) q) ∙ ordinary-byte s i h ∙ e in
@@ -288,11 +288,11 @@ module _ (s : List ℕ) (f : Text → Closing) (i : ℕ) where
           rw z (on-next test w h (passes e))
 
   -- what a step's answer says
-  pub went_on : (r : Ended) (e : Cursor) → Onward s f i r → r ≡ ended.At e → (i < e.at) × (e.at ≤ length s) × (f (from s e.at) ≡ f (from s i))
+  went_on : (r : Ended) (e : Cursor) → Onward s f i r → r ≡ ended.At e → (i < e.at) × (e.at ≤ length s) × (f (from s e.at) ≡ f (from s i))
   unfolding Onward
   went_on r e h q = rw q at h
 
-  pub went-wrong : (r : Ended) (j a : ℕ) → Onward s f i r → r ≡ ended.Refused j a → r ≡ ended_of (length s) (f (from s i))
+  went-wrong : (r : Ended) (j a : ℕ) → Onward s f i r → r ≡ ended.Refused j a → r ≡ ended_of (length s) (f (from s i))
   unfolding Onward
   went-wrong r j a h q = q ∙ (rw q at h)
 
@@ -319,23 +319,23 @@ module _ (p : Bool) (s : List ℕ) (i : ℕ) where
   unfolding singleItem
   single-item-escape e b = rw (e, b)
 
-  pub single-item-other : (get_or s i 0 ≡ 0x0A → ⊥) → (get_or s i 0 ≡ 0x24 → ⊥) → (get_or s i 0 ≡ 0x5C → ⊥) → ended.At (cursorAt (i + 1)) ≡ singleItem p s i
+  single-item-other : (get_or s i 0 ≡ 0x0A → ⊥) → (get_or s i 0 ≡ 0x24 → ⊥) → (get_or s i 0 ≡ 0x5C → ⊥) → ended.At (cursorAt (i + 1)) ≡ singleItem p s i
   unfolding singleItem
   single-item-other a b d = simp (ne_eqb (get_or s i 0) 0x0A a, ne_eqb (get_or s i 0) 0x24 b, ne_eqb (get_or s i 0) 0x5C d, and-false)
 
-  pub triple-item-slash : get_or s i 0 ≡ 0x5C → ended.Refused 10 i ≡ tripleItem p s i
+  triple-item-slash : get_or s i 0 ≡ 0x5C → ended.Refused 10 i ≡ tripleItem p s i
   unfolding tripleItem
   triple-item-slash b = rw b
 
-  pub triple-item-dollar : p ≡ true → get_or s i 0 ≡ 0x24 → dollarOf (length s) (from s i) ≡ tripleItem p s i
+  triple-item-dollar : p ≡ true → get_or s i 0 ≡ 0x24 → dollarOf (length s) (from s i) ≡ tripleItem p s i
   unfolding tripleItem
   triple-item-dollar e b = rw (e, b)
 
-  pub triple-item-lone : p ≡ false → get_or s i 0 ≡ 0x24 → ended.At (cursorAt (i + 1)) ≡ tripleItem p s i
+  triple-item-lone : p ≡ false → get_or s i 0 ≡ 0x24 → ended.At (cursorAt (i + 1)) ≡ tripleItem p s i
   unfolding tripleItem
   triple-item-lone e b = rw (e, b)
 
-  pub triple-item-other : (get_or s i 0 ≡ 0x24 → ⊥) → (get_or s i 0 ≡ 0x5C → ⊥) → ended.At (cursorAt (i + 1)) ≡ tripleItem p s i
+  triple-item-other : (get_or s i 0 ≡ 0x24 → ⊥) → (get_or s i 0 ≡ 0x5C → ⊥) → ended.At (cursorAt (i + 1)) ≡ tripleItem p s i
   unfolding tripleItem
   triple-item-other b d = simp (ne_eqb (get_or s i 0) 0x24 b, ne_eqb (get_or s i 0) 0x5C d, and-false)
 
@@ -461,7 +461,7 @@ module _ (s : List ℕ) (i : ℕ) (h : i < length s) (no-three : threeQuotes (fr
       (triple-test p (slash-byte s i ∙ ne_eqb (get_or s i 0) 0x5C d) (λ z. brace-byte s i ∙ rw (ne_eqb (get_or s i 0) 0x24 b)))
 
   -- a step passes what the walk passes, or refuses what the walk refuses
-  pub triple-step : (p : Bool) (r : Ended) → r ≡ tripleItem p s i → Onward s (closeTriple p) i r
+  triple-step : (p : Bool) (r : Ended) → r ≡ tripleItem p s i → Onward s (closeTriple p) i r
   triple-step p r q = rw q (go p (eqb (get_or s i 0) 0x24) (eqb (get_or s i 0) 0x5C) refl refl)
     where
       go : (p y z : Bool) → eqb (get_or s i 0) 0x24 ≡ y → eqb (get_or s i 0) 0x5C ≡ z → Onward s (closeTriple p) i (tripleItem p s i)

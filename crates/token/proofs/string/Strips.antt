@@ -162,15 +162,15 @@ module _ (s : List ℕ) (start end a b : ℕ) where
 -- ---- a last quote, if one is left
 
 module _ (s : List ℕ) (a b : ℕ) where
-  pub off-none : b ≤ a → b ≡ lastOff s a b
+  off-none : b ≤ a → b ≡ lastOff s a b
   unfolding lastOff
   off-none h = rw (le-ltb a b h)
 
-  pub off-quote : a < b → get_or s (b - 1) 0 ≡ 0x22 → b - 1 ≡ lastOff s a b
+  off-quote : a < b → get_or s (b - 1) 0 ≡ 0x22 → b - 1 ≡ lastOff s a b
   unfolding lastOff
   off-quote h q = rw (lt-ltb a b h, eq-eqb (get_or s (b - 1) 0) 0x22 q)
 
-  pub off-other : a < b → (get_or s (b - 1) 0 ≡ 0x22 → ⊥) → b ≡ lastOff s a b
+  off-other : a < b → (get_or s (b - 1) 0 ≡ 0x22 → ⊥) → b ≡ lastOff s a b
   unfolding lastOff
   off-other h n = rw (lt-ltb a b h, ne_eqb (get_or s (b - 1) 0) 0x22 n)
 

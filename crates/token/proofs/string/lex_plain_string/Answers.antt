@@ -1,4 +1,4 @@
-use Rattle.std.proofs.Common.{length, ◌∙◌, sym}
+use Rattle.std.proofs.Common.{length}
 use Rattle.token.proofs.string.Laws.{plain_end, plain-refused, plain-ended}
 use Rattle.token.proofs.string.lex_plain_string.Goals as goal
 
