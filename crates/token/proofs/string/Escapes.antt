@@ -1,20 +1,21 @@
 -- Escapes as the code reads them: digits are ASCII, so a run of them has as many bytes as characters.
 use Prim.Native.Nat.{ℕ, zero, suc, ◌+◌, ◌-◌, ◌≤◌, ◌<◌}
 use mathlib.Core.Path.{◌≡◌, refl, sym, ◌∙◌, ap}
-use mathlib.Core.Bool.{Bool, true, false, cond}
+use mathlib.Core.Bool.{Bool, true, false, cond, not}
 use mathlib.Core.Logic.{◌⊎◌, inl, inr, ⊎_elim}
 use mathlib.Core.List.{List, [], ◌∷◌}
 use lib.ListN.{length, drop, get_or}
 use lib.Seq.{drop-drop}
 use lib.Dec.{ltb}
 use native.Mathlib.Omega.{arith}
-use borrow.Author.Tests.{ltb-true, ltb-false, le-leb, lt-leb}
-use Rattle.chars.specs.paper.Quoted.{codes, one_of}
+use borrow.Author.Tests.{ltb-true, ltb-false, ne_eqb, le-leb, lt-leb}
+use types.Run.{OneOf}
+use Rattle.chars.specs.paper.Quoted.{codes, member, one_of}
 use Rattle.chars.specs.paper.Text.{Char, Text, from, place, headIs}
 use Rattle.chars.specs.code.Text.{charEnd, code_at}
 use Rattle.chars.proofs.Bools.{clash}
 use Rattle.chars.specs.promises.Texts.{AsciiClass}
-use Rattle.chars.proofs.theorems.Promises.{text-laws}
+use Rattle.chars.proofs.theorems.Promises.{code_laws, text-laws}
 use Rattle.token.specs.paper.Tests.{isDigit, isHexDigit, isAny, digit}
 use Rattle.token.specs.computed.Answer.{unbroken, broken, exactHexes, digitsUpTo, afterSlash}
 use Rattle.token.specs.code.Cursor.{cursorAt}
@@ -24,6 +25,7 @@ use Rattle.token.specs.declared.piece.Ended.{Ended}
 use Rattle.token.specs.declared.piece.Ended.TheVariants as ended
 use Rattle.token.proofs.cursor.Bytes.{ascii-list, inside, any-byte, past}
 use Rattle.token.proofs.theorems.Escapes.{digit-no-simple, u-other}
+open code_laws use {no_member, misses, between-out}
 open text-laws use {head_byte, at_ascii, at-end, at-char, place-from}
 
 -- ---- digits at a place
@@ -211,3 +213,11 @@ module _ (s : List ℕ) (i : ℕ) where
         go false true c x y z = escape-simple y
         go false false true x y z = escape-digits z
         go false false false x y z = escape-other y z x
+
+    -- where the byte is no code of an escape
+    pub escape_none : (OneOf (codes "\"']bfnrt") (get_or s i 0) → ⊥) → (get_or s i 0 ≡ 0x75 → ⊥) → (0x30 ≤ get_or s i 0 → 0x39 < get_or s i 0) → ended.Refused 14 i ≡ escapeOf (length s) (from s i)
+    unfolding isDigit
+    escape_none n u l =
+        let x = get_or s i 0 in
+        let k = no_member (λ k. not (member (codes "\"']bfnrt") k)) (codes "btnfr'\"]") x refl (rw (misses (codes "\"']bfnrt") x n)) in
+        sym (escape-other k (between-out 0x30 0x39 x l) (rw (ne_eqb x 0x75 u)))
