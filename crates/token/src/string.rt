@@ -21,6 +21,7 @@ pub struct Span {
 }
 
 // Past an escape, from behind its backslash.
+#[tactic(auto, using(crate::proofs::string::Escapes::escape_by), unfolding(crate::specs::paper::Tests::isDigit))]
 pub fn consume_escape(s: &[u8], c: Cursor) -> Ended
     requires { c.at ≤ length s.now }
     ensures { result ≡ escapeOf (length s.now) (from s.now c.at) }
@@ -40,6 +41,7 @@ pub fn consume_escape(s: &[u8], c: Cursor) -> Ended
 }
 
 // Past the four hex digits of a `\u` escape.
+#[tactic(auto, using(crate::proofs::string::Escapes::four_hexes))]
 fn consume_hexes(s: &[u8], c: Cursor) -> Ended
     requires { c.at ≤ length s.now }
     ensures { result ≡ hexesOf (length s.now) (from s.now c.at) }
@@ -52,6 +54,7 @@ fn consume_hexes(s: &[u8], c: Cursor) -> Ended
 }
 
 // Does the byte stand for itself in every string? A quote, an LF, a backslash and a `$` don't. Small letters lie past all four.
+#[tactic(auto, unfolding(crate::specs::code::String::isOrdinary))]
 fn is_ordinary(b: u8) -> bool
     ensures { result ≡ isOrdinary b }
 {
@@ -66,6 +69,7 @@ fn is_ordinary(b: u8) -> bool
 
 // Past the ordinary characters that stand there. A byte of 0x80 or more is never one of the four others, so no character is decoded. Most strings
 // are read by `quoted`, eights of bytes first; this is for those that it declines.
+#[tactic(auto, using(crate::proofs::string::Laws::skip_run))]
 fn skip_ordinary(s: &[u8], c: Cursor) -> Cursor
     requires { c.at ≤ length s.now }
     ensures { (c.at ≤ result.at) × (result.at ≤ length s.now) × (from s.now result.at ≡ afterRun (headIs isOrdinary) (from s.now c.at)) }
@@ -85,6 +89,7 @@ fn skip_ordinary(s: &[u8], c: Cursor) -> Cursor
 }
 
 // Past a `$` in a prefixed string, unless `{` follows.
+#[tactic(auto, using(crate::proofs::string::Laws::dollars))]
 fn consume_interp_dollar(s: &[u8], c: Cursor) -> Ended
     requires { (c.at < length s.now) × (isAny "$" (from s.now c.at) ≡ true) }
     ensures { result ≡ dollarOf (length s.now) (from s.now c.at) }
@@ -97,6 +102,7 @@ fn consume_interp_dollar(s: &[u8], c: Cursor) -> Ended
 }
 
 // One step in a single string, where no quote closes it.
+#[tactic(auto, using(crate::proofs::string::Laws::dollar_in), unfolding(crate::specs::code::String::singleItem))]
 fn single_item(s: &[u8], c: Cursor, prefixed: bool) -> Ended
     requires { c.at < length s.now }
     ensures { result ≡ singleItem prefixed s.now c.at }
@@ -120,6 +126,7 @@ fn single_item(s: &[u8], c: Cursor, prefixed: bool) -> Ended
 }
 
 // A single string from its quote on, up to the next quote outside an escape.
+#[tactic(auto, using(crate::proofs::string::Laws::single_walk))]
 fn lex_single_string(s: &[u8], c: Cursor, prefixed: bool) -> Ended
     requires { (c.at ≤ length s.now) × (quote (from s.now c.at) ≡ true) }
     ensures { result ≡ ended_of (length s.now) (closeSingle prefixed (drop 1 (from s.now c.at))) }
@@ -140,6 +147,7 @@ fn lex_single_string(s: &[u8], c: Cursor, prefixed: bool) -> Ended
 }
 
 // Do three quotes stand at a place?
+#[tactic(auto, using(crate::proofs::string::Laws::three_here))]
 pub fn three_quotes(s: &[u8], at: usize) -> bool
     requires { at ≤ length s.now }
     ensures { result ≡ threeQuotes (from s.now at) }
@@ -151,6 +159,7 @@ pub fn three_quotes(s: &[u8], at: usize) -> bool
 }
 
 // Past all quotes that stand there.
+#[tactic(auto, using(crate::proofs::string::Laws::quote_run))]
 pub fn consume_quotes(s: &[u8], c: Cursor) -> Cursor
     requires { c.at ≤ length s.now }
     ensures { (result.at ≤ length s.now) × (from s.now result.at ≡ afterRun quote (from s.now c.at)) }
@@ -166,6 +175,7 @@ pub fn consume_quotes(s: &[u8], c: Cursor) -> Cursor
 }
 
 // One step in a triple string, where no three quotes close it.
+#[tactic(auto, using(crate::proofs::string::Laws::dollar_in), unfolding(crate::specs::code::String::tripleItem))]
 fn triple_item(s: &[u8], c: Cursor, prefixed: bool) -> Ended
     requires { c.at < length s.now }
     ensures { result ≡ tripleItem prefixed s.now c.at }
@@ -184,6 +194,7 @@ fn triple_item(s: &[u8], c: Cursor, prefixed: bool) -> Ended
 }
 
 // A triple string from its three quotes on, with all quotes directly after the first three that close it.
+#[tactic(auto, using(crate::proofs::string::Laws::triple_walk))]
 fn lex_triple_string(s: &[u8], c: Cursor, prefixed: bool) -> Ended
     requires { (c.at ≤ length s.now) × (threeQuotes (from s.now c.at) ≡ true) }
     ensures { result ≡ ended_of (length s.now) (closeTriple prefixed (drop 3 (from s.now c.at))) }
@@ -203,6 +214,7 @@ fn lex_triple_string(s: &[u8], c: Cursor, prefixed: bool) -> Ended
 }
 
 // A string from its opening on.
+#[tactic(auto, unfolding(crate::specs::computed::Answer::closeString, crate::specs::code::String::closeSingle))]
 fn lex_string(s: &[u8], c: Cursor, prefixed: bool) -> Ended
     requires { (c.at ≤ length s.now) × (quote (from s.now c.at) ≡ true) }
     ensures { result ≡ ended_of (length s.now) (closeString prefixed (from s.now c.at)) }
@@ -214,6 +226,7 @@ fn lex_string(s: &[u8], c: Cursor, prefixed: bool) -> Ended
 }
 
 // The end of the text from `start` to `end` without a last quote, if one is left.
+#[tactic(auto, unfolding(crate::specs::code::String::lastOff))]
 fn last_off(s: &[u8], start: usize, end: usize) -> usize
     requires { end ≤ length s.now }
     ensures { result ≡ lastOff s.now start end }
@@ -228,6 +241,7 @@ fn last_off(s: &[u8], start: usize, end: usize) -> usize
 }
 
 // Are the first eight bytes and the last eight of the text from `start` to `end` quotes, sixteen in all?
+#[tactic(auto, unfolding(crate::specs::code::String::eightsOff))]
 fn eights_off(s: &[u8], start: usize, end: usize) -> bool
     requires { (start ≤ end) × (end ≤ length s.now) }
     ensures { result ≡ eightsOff s.now start end }
@@ -242,6 +256,7 @@ fn eights_off(s: &[u8], start: usize, end: usize) -> bool
 }
 
 // The quotes at both ends of a string taken off by eights: what is left has the same content.
+#[tactic(auto, using(crate::proofs::string::Strips::eights_apart))]
 fn strip_eights(s: &[u8], start: usize, end: usize) -> Span
     requires { (start ≤ end) × (end ≤ length s.now) }
     ensures { result ≡ eightsTaken s.now start end }
@@ -256,6 +271,7 @@ fn strip_eights(s: &[u8], start: usize, end: usize) -> Span
 }
 
 // The content of the text from `start` to `end`.
+#[tactic(auto, using(crate::proofs::string::Strips::strip_turns))]
 fn strip_many(s: &[u8], start: usize, end: usize) -> Span
     requires { (start ≤ end) × (end ≤ length s.now) × Suffix (from s.now end) (from s.now start) }
     ensures { spanKind result ≡ plainContent (length s.now) (from s.now start) (from s.now end) }
@@ -310,6 +326,7 @@ pub fn lex_plain_string(s: &[u8], c: Cursor) -> Piece
 }
 
 // A string whose prefix stands from `start` to c.
+#[tactic(auto, using(crate::proofs::string::Laws::prefixed_string))]
 pub fn lex_prefixed_string(s: &[u8], start: usize, c: Cursor) -> Piece
     requires { (start ≤ c.at) × (c.at ≤ length s.now) × (quote (from s.now c.at) ≡ true) }
     ensures { result ≡ piece_of (length s.now) (prefixedOf (length s.now) (from s.now start) (closeString true (from s.now c.at))) }

@@ -1,20 +1,21 @@
 -- Escapes as the code reads them: digits are ASCII, so a run of them has as many bytes as characters.
 use Prim.Native.Nat.{ℕ, zero, suc, ◌+◌, ◌-◌, ◌≤◌, ◌<◌}
 use mathlib.Core.Path.{◌≡◌, refl, sym, ◌∙◌, ap}
-use mathlib.Core.Bool.{Bool, true, false}
+use mathlib.Core.Bool.{Bool, true, false, cond, not}
 use mathlib.Core.Logic.{◌⊎◌, inl, inr, ⊎_elim}
 use mathlib.Core.List.{List, [], ◌∷◌}
 use lib.ListN.{length, drop, get_or}
 use lib.Seq.{drop-drop}
 use lib.Dec.{ltb}
 use native.Mathlib.Omega.{arith}
-use borrow.Author.Tests.{ltb-true, ltb-false, le-leb, lt-leb}
-use Rattle.chars.specs.paper.Quoted.{one_of}
+use borrow.Author.Tests.{ltb-true, ltb-false, ne_eqb, le-leb, lt-leb}
+use types.Run.{OneOf}
+use Rattle.chars.specs.paper.Quoted.{codes, member, one_of}
 use Rattle.chars.specs.paper.Text.{Char, Text, from, place, headIs}
 use Rattle.chars.specs.code.Text.{charEnd, code_at}
 use Rattle.chars.proofs.Bools.{clash}
 use Rattle.chars.specs.promises.Texts.{AsciiClass}
-use Rattle.chars.proofs.theorems.Promises.{text-laws}
+use Rattle.chars.proofs.theorems.Promises.{code_laws, text-laws}
 use Rattle.token.specs.paper.Tests.{isDigit, isHexDigit, isAny, digit}
 use Rattle.token.specs.computed.Answer.{unbroken, broken, exactHexes, digitsUpTo, afterSlash}
 use Rattle.token.specs.code.Cursor.{cursorAt}
@@ -22,8 +23,9 @@ use Rattle.token.specs.code.String.{escEnd, escapeOf, hexesOf}
 use Rattle.token.specs.code.Digits.{digitIn, afterUpTo}
 use Rattle.token.specs.declared.piece.Ended.{Ended}
 use Rattle.token.specs.declared.piece.Ended.TheVariants as ended
-use Rattle.token.proofs.cursor.Bytes.{inside, any-byte, past}
+use Rattle.token.proofs.cursor.Bytes.{ascii-list, inside, any-byte, past}
 use Rattle.token.proofs.theorems.Escapes.{digit-no-simple, u-other}
+open code_laws use {no_member, misses, between-out}
 open text-laws use {head_byte, at_ascii, at-end, at-char, place-from}
 
 -- ---- digits at a place
@@ -115,6 +117,8 @@ module _ (s : List ℕ) (e : ℕ) (within : e ≤ length s) where
         ⊎_elim (λ h. absurd (omega (arith, h.0, l))) (λ h. sym (rw h.1 (ap (λ t. ended.At (cursorAt (place (length s) t))) h.2 ∙ ap (λ j. ended.At (cursorAt j)) (place-from s e within))))
         (hexes-read 4 0 i inside read)
 
+pub ruleset four_hexes = (hexes-short, hexes-full)
+
 -- ---- what follows a backslash
 
 upto-digits : (m k : ℕ) (x t : Text) → drop k x ≡ t → drop (digitsUpTo m k t) x ≡ afterUpTo isDigit m t
@@ -166,26 +170,26 @@ module _ (s : List ℕ) (i : ℕ) where
   escape_end h k = sym (ap (λ t. escEnd (length s) t (afterSlash t)) (at-end s i k) ∙ ap (ended.Refused 12) (omega arith))
 
   module _ (h : i < length s) where
-    pub escape-simple : one_of "btnfr'\"]" (get_or s i 0) ≡ true → get_or s i 0 < 0x80 → ended.At (cursorAt (i + 1)) ≡ escapeOf (length s) (from s i)
+    escape-simple : one_of "btnfr'\"]" (get_or s i 0) ≡ true → escapeOf (length s) (from s i) ≡ ended.At (cursorAt (i + 1))
     unfolding escapeOf
-    escape-simple e l =
-        sym (rw (slash-simple (from s i) (any-byte "btnfr'\"]" refl s i ∙ e))
-        (ap (λ t. ended.At (cursorAt (place (length s) t))) (past s i h l) ∙ ap (λ j. ended.At (cursorAt j)) (place-from s (i + 1) (omega arith))))
+    escape-simple e =
+        let b = ascii-in (one_of "btnfr'\"]") (ascii-list (codes "btnfr'\"]") refl) (get_or s i 0) e in
+        rw (slash-simple (from s i) (any-byte "btnfr'\"]" refl s i ∙ e))
+        (ap (λ t. ended.At (cursorAt (place (length s) t))) (past s i h b.1) ∙ ap (λ j. ended.At (cursorAt j)) (place-from s (i + 1) (omega arith)))
 
-    pub escape-digits : (e : ℕ) → e ≤ length s → from s e ≡ afterUpTo (digitIn 10) 2 (from s (i + 1)) → isDigit (get_or s i 0) ≡ true → ended.At (cursorAt e) ≡ escapeOf (length s) (from s i)
+    escape-digits : isDigit (get_or s i 0) ≡ true → escapeOf (length s) (from s i) ≡ ended.At (cursorAt (place (length s) (afterUpTo (digitIn 10) 2 (from s (i + 1)))))
     unfolding escapeOf digitIn
-    escape-digits e k q d =
-        let b = ascii-in isDigit digit-ascii (get_or s i 0) d in
-        let p = past s i h b.1 in
-        let u = upto-digits 2 1 (from s i) (drop 1 (from s i)) refl ∙ ap (afterUpTo isDigit 2) p ∙ sym q in
-        sym (rw (slash-digits (from s i) (head_byte isDigit digit-ascii s i ∙ d))
-        (ap (λ t. ended.At (cursorAt (place (length s) t))) u ∙ ap (λ j. ended.At (cursorAt j)) (place-from s e k)))
+    escape-digits d =
+        let p = past s i h (ascii-in isDigit digit-ascii (get_or s i 0) d).1 in
+        rw (slash-digits (from s i) (head_byte isDigit digit-ascii s i ∙ d))
+        (ap (λ t. ended.At (cursorAt (place (length s) t))) (upto-digits 2 1 (from s i) (drop 1 (from s i)) refl ∙ ap (afterUpTo isDigit 2) p))
 
-    pub escape-hexes : (r : Ended) → r ≡ hexesOf (length s) (from s (i + 1)) → get_or s i 0 ≡ 0x75 → r ≡ escapeOf (length s) (from s i)
-    escape-hexes r q b =
-        q ∙ ap (hexesOf (length s)) (sym (past s i h (omega arith))) ∙ sym (slash-hexes (length s) (from s i) (any-byte "u" refl s i ∙ ap (one_of "u") b))
+    escape-hexes : one_of "u" (get_or s i 0) ≡ true → escapeOf (length s) (from s i) ≡ hexesOf (length s) (from s (i + 1))
+    escape-hexes e =
+        let b = ascii-in (one_of "u") (ascii-list (codes "u") refl) (get_or s i 0) e in
+        slash-hexes (length s) (from s i) (any-byte "u" refl s i ∙ e) ∙ ap (hexesOf (length s)) (past s i h b.1)
 
-    pub escape-other : one_of "btnfr'\"]" (get_or s i 0) ≡ false → isDigit (get_or s i 0) ≡ false → one_of "u" (get_or s i 0) ≡ false → ended.Refused 14 i ≡ escapeOf (length s) (from s i)
+    escape-other : one_of "btnfr'\"]" (get_or s i 0) ≡ false → isDigit (get_or s i 0) ≡ false → one_of "u" (get_or s i 0) ≡ false → escapeOf (length s) (from s i) ≡ ended.Refused 14 i
     unfolding escapeOf
     escape-other x y z =
         let q = at-char s i h in
@@ -194,4 +198,26 @@ module _ (s : List ℕ) (i : ℕ) where
         let c = sym (ap (isAny "u") q) ∙ any-byte "u" refl s i ∙ z in
         let k : Char = record { code = code_at s i; at = i } in
         let u = from s (charEnd s i) in
-        sym (ap (λ t. escEnd (length s) t (afterSlash t)) q ∙ ap (escEnd (length s) (k ∷ u)) (slash-other k u a b c))
+        ap (λ t. escEnd (length s) t (afterSlash t)) q ∙ ap (escEnd (length s) (k ∷ u)) (slash-other k u a b c)
+
+    -- by the first byte of its code
+    pub escape_by : escapeOf (length s) (from s i) ≡ cond (one_of "u" (get_or s i 0)) (hexesOf (length s) (from s (i + 1))) (cond (one_of "btnfr'\"]" (get_or s i 0))
+        (ended.At (cursorAt (i + 1)))
+        (cond (isDigit (get_or s i 0)) (ended.At (cursorAt (place (length s) (afterUpTo (digitIn 10) 2 (from s (i + 1)))))) (ended.Refused 14 i)))
+    escape_by = go (one_of "u" (get_or s i 0)) (one_of "btnfr'\"]" (get_or s i 0)) (isDigit (get_or s i 0)) refl refl refl
+      where
+        go : (a b c : Bool) → one_of "u" (get_or s i 0) ≡ a → one_of "btnfr'\"]" (get_or s i 0) ≡ b → isDigit (get_or s i 0) ≡ c
+            → escapeOf (length s) (from s i) ≡ cond a (hexesOf (length s) (from s (i + 1)))
+            (cond b (ended.At (cursorAt (i + 1))) (cond c (ended.At (cursorAt (place (length s) (afterUpTo (digitIn 10) 2 (from s (i + 1)))))) (ended.Refused 14 i)))
+        go true b c x y z = escape-hexes x
+        go false true c x y z = escape-simple y
+        go false false true x y z = escape-digits z
+        go false false false x y z = escape-other y z x
+
+    -- where the byte is no code of an escape
+    pub escape_none : (OneOf (codes "\"']bfnrt") (get_or s i 0) → ⊥) → (get_or s i 0 ≡ 0x75 → ⊥) → (0x30 ≤ get_or s i 0 → 0x39 < get_or s i 0) → ended.Refused 14 i ≡ escapeOf (length s) (from s i)
+    unfolding isDigit
+    escape_none n u l =
+        let x = get_or s i 0 in
+        let k = no_member (λ k. not (member (codes "\"']bfnrt") k)) (codes "btnfr'\"]") x refl (rw (misses (codes "\"']bfnrt") x n)) in
+        sym (escape-other k (between-out 0x30 0x39 x l) (rw (ne_eqb x 0x75 u)))

@@ -112,26 +112,12 @@ three-in s i e =
           ∙ ap (drop 1) (at_ascii s (i + 2) h (omega arith)) ∙ ap (from s) three,
     )
 
--- the code looks at two of them, then at the third
-module _ (s : List ℕ) (i : ℕ) where
-  pub two_in : eqb (get_or s i 0) 0x22 && eqb (get_or s (i + 1) 0) 0x22 ≡ true → i + 2 ≤ length s
-  two_in e =
-      let y = eqb-true (get_or s (i + 1) 0) 0x22 (and_both (eqb (get_or s i 0) 0x22) (eqb (get_or s (i + 1) 0) 0x22) e).1 in
-      let h = inside s (i + 1) (omega arith) in
-      omega arith
-
-  pub three_third : eqb (get_or s i 0) 0x22 && eqb (get_or s (i + 1) 0) 0x22 ≡ true → eqb (get_or s (i + 2) 0) 0x22 ≡ threeQuotes (from s i)
-  three_third e = let a = and_both (eqb (get_or s i 0) 0x22) (eqb (get_or s (i + 1) 0) 0x22) e in sym (three-byte s i ∙ rw (a.0, a.1))
-
-  pub three-none : eqb (get_or s i 0) 0x22 && eqb (get_or s (i + 1) 0) 0x22 ≡ false → false ≡ threeQuotes (from s i)
-  three-none e = sym (three-byte s i ∙ go (eqb (get_or s i 0) 0x22) (eqb (get_or s (i + 1) 0) 0x22) (eqb (get_or s (i + 2) 0) 0x22) e)
-    where
-      go : (a b c : Bool) → a && b ≡ false → a && (b && c) ≡ false
-      go true true c e = clash (sym e)
-      go true false c e = refl
-      go false b c e = refl
+pub ruleset three_here = (three-byte)
 
 -- a `$`
+pub dollar_in : (s : List ℕ) (i : ℕ) → get_or s i 0 ≡ 0x24 → isAny "$" (from s i) ≡ true
+dollar_in s i b = any-byte "$" refl s i ∙ ap (one_of "$") b
+
 module _ (s : List ℕ) (i : ℕ) (h : i < length s) (e : isAny "$" (from s i) ≡ true) where
   dollar-is : get_or s i 0 ≡ 0x24
   dollar-is = go (eqb (get_or s i 0) 0x24) refl (sym (any-byte "$" refl s i) ∙ e)
@@ -154,6 +140,8 @@ module _ (s : List ℕ) (i : ℕ) (h : i < length s) (e : isAny "$" (from s i) �
       let p = ap (place (length s)) (past s i h (omega arith)) ∙ place-from s (i + 1) (omega arith) in
       sym (rw t (ap (λ j. ended.At (cursorAt j)) p))
 
+pub ruleset dollars = (dollar-brace, dollar-alone)
+
 -- ---- all quotes that stand there
 
 module _ (s : List ℕ) (i : ℕ) where
@@ -174,6 +162,8 @@ module _ (s : List ℕ) (i : ℕ) where
 -- quotes that are passed together
 pub quotes-past : (s : List ℕ) (i r : ℕ) → i ≤ r → r ≤ length s → AllIn 0x22 0x22 s i r → afterRun quote (from s r) ≡ afterRun quote (from s i)
 quotes-past s = all_past (afterRun quote) s (Within 0x22 0x22) (λ k h a. quotes-next s k h (omega arith))
+
+pub ruleset quote_run = (quotes-next, quotes-stop, quotes-end, quotes-past)
 
 -- ---- what stands for itself
 
@@ -242,7 +232,7 @@ pub skip-past : (s : List ℕ) (i r : ℕ) → i ≤ r → r ≤ length s → No
 skip-past s =
     all_past (afterRun (headIs isOrdinary)) s (Other 0x0A 0x22 0x24 0x5C) (λ k h o. walk-on _ _ skips s k h (ordinary-byte s k h ∙ other-ordinary _ o))
 
-pub skip_stop : (s : List ℕ) (i : ℕ) → i < length s → isOrdinary (get_or s i 0) ≡ false → from s i ≡ afterRun (headIs isOrdinary) (from s i)
+skip_stop : (s : List ℕ) (i : ℕ) → i < length s → isOrdinary (get_or s i 0) ≡ false → from s i ≡ afterRun (headIs isOrdinary) (from s i)
 skip_stop s i h e =
     let q = at-char s i h in
     let t = sym (ap (headIs isOrdinary) q) ∙ ordinary-byte s i h ∙ e in
@@ -251,6 +241,19 @@ skip_stop s i h e =
 pub skip-end : (s : List ℕ) (i : ℕ) → length s ≤ i → from s i ≡ afterRun (headIs isOrdinary) (from s i)
 unfolding afterRun
 skip-end s i h = rw (at-end s i h)
+
+-- where no ordinary byte stands the run is empty
+pub skip_none : (s : List ℕ) (i : ℕ) → isOrdinary (get_or s i 0) ≡ false → from s i ≡ afterRun (headIs isOrdinary) (from s i)
+skip_none s i e = go (ltb i (length s)) refl
+  where
+    go : (b : Bool) → ltb i (length s) ≡ b → from s i ≡ afterRun (headIs isOrdinary) (from s i)
+    go true q = skip_stop s i (ltb-true i (length s) q) e
+    go false q = skip-end s i (ltb-false i (length s) q)
+
+pub skip_next : (s : List ℕ) (i : ℕ) → i < length s → isOrdinary (get_or s i 0) ≡ true → afterRun (headIs isOrdinary) (from s (i + 1)) ≡ afterRun (headIs isOrdinary) (from s i)
+skip_next s i h e = walk-on _ _ skips s i h (ordinary-byte s i h ∙ e)
+
+pub ruleset skip_run = (skip_none, skip_next, skip-end)
 
 -- ---- one step
 
@@ -285,11 +288,11 @@ module _ (s : List ℕ) (f : Text → Closing) (i : ℕ) where
           rw z (on-next test w h (passes e))
 
   -- what a step's answer says
-  pub went_on : (r : Ended) (e : Cursor) → Onward s f i r → r ≡ ended.At e → (i < e.at) × (e.at ≤ length s) × (f (from s e.at) ≡ f (from s i))
+  went_on : (r : Ended) (e : Cursor) → Onward s f i r → r ≡ ended.At e → (i < e.at) × (e.at ≤ length s) × (f (from s e.at) ≡ f (from s i))
   unfolding Onward
   went_on r e h q = rw q at h
 
-  pub went-wrong : (r : Ended) (j a : ℕ) → Onward s f i r → r ≡ ended.Refused j a → r ≡ ended_of (length s) (f (from s i))
+  went-wrong : (r : Ended) (j a : ℕ) → Onward s f i r → r ≡ ended.Refused j a → r ≡ ended_of (length s) (f (from s i))
   unfolding Onward
   went-wrong r j a h q = q ∙ (rw q at h)
 
@@ -316,23 +319,23 @@ module _ (p : Bool) (s : List ℕ) (i : ℕ) where
   unfolding singleItem
   single-item-escape e b = rw (e, b)
 
-  pub single-item-other : (get_or s i 0 ≡ 0x0A → ⊥) → (get_or s i 0 ≡ 0x24 → ⊥) → (get_or s i 0 ≡ 0x5C → ⊥) → ended.At (cursorAt (i + 1)) ≡ singleItem p s i
+  single-item-other : (get_or s i 0 ≡ 0x0A → ⊥) → (get_or s i 0 ≡ 0x24 → ⊥) → (get_or s i 0 ≡ 0x5C → ⊥) → ended.At (cursorAt (i + 1)) ≡ singleItem p s i
   unfolding singleItem
   single-item-other a b d = simp (ne_eqb (get_or s i 0) 0x0A a, ne_eqb (get_or s i 0) 0x24 b, ne_eqb (get_or s i 0) 0x5C d, and-false)
 
-  pub triple-item-slash : get_or s i 0 ≡ 0x5C → ended.Refused 10 i ≡ tripleItem p s i
+  triple-item-slash : get_or s i 0 ≡ 0x5C → ended.Refused 10 i ≡ tripleItem p s i
   unfolding tripleItem
   triple-item-slash b = rw b
 
-  pub triple-item-dollar : p ≡ true → get_or s i 0 ≡ 0x24 → dollarOf (length s) (from s i) ≡ tripleItem p s i
+  triple-item-dollar : p ≡ true → get_or s i 0 ≡ 0x24 → dollarOf (length s) (from s i) ≡ tripleItem p s i
   unfolding tripleItem
   triple-item-dollar e b = rw (e, b)
 
-  pub triple-item-lone : p ≡ false → get_or s i 0 ≡ 0x24 → ended.At (cursorAt (i + 1)) ≡ tripleItem p s i
+  triple-item-lone : p ≡ false → get_or s i 0 ≡ 0x24 → ended.At (cursorAt (i + 1)) ≡ tripleItem p s i
   unfolding tripleItem
   triple-item-lone e b = rw (e, b)
 
-  pub triple-item-other : (get_or s i 0 ≡ 0x24 → ⊥) → (get_or s i 0 ≡ 0x5C → ⊥) → ended.At (cursorAt (i + 1)) ≡ tripleItem p s i
+  triple-item-other : (get_or s i 0 ≡ 0x24 → ⊥) → (get_or s i 0 ≡ 0x5C → ⊥) → ended.At (cursorAt (i + 1)) ≡ tripleItem p s i
   unfolding tripleItem
   triple-item-other b d = simp (ne_eqb (get_or s i 0) 0x24 b, ne_eqb (get_or s i 0) 0x5C d, and-false)
 
@@ -458,7 +461,7 @@ module _ (s : List ℕ) (i : ℕ) (h : i < length s) (no-three : threeQuotes (fr
       (triple-test p (slash-byte s i ∙ ne_eqb (get_or s i 0) 0x5C d) (λ z. brace-byte s i ∙ rw (ne_eqb (get_or s i 0) 0x24 b)))
 
   -- a step passes what the walk passes, or refuses what the walk refuses
-  pub triple-step : (p : Bool) (r : Ended) → r ≡ tripleItem p s i → Onward s (closeTriple p) i r
+  triple-step : (p : Bool) (r : Ended) → r ≡ tripleItem p s i → Onward s (closeTriple p) i r
   triple-step p r q = rw q (go p (eqb (get_or s i 0) 0x24) (eqb (get_or s i 0) 0x5C) refl refl)
     where
       go : (p y z : Bool) → eqb (get_or s i 0) 0x24 ≡ y → eqb (get_or s i 0) 0x5C ≡ z → Onward s (closeTriple p) i (tripleItem p s i)
@@ -472,18 +475,35 @@ module _ (s : List ℕ) (i : ℕ) (h : i < length s) (no-three : threeQuotes (fr
 
 -- ---- from the opening to the end
 
--- The walk from behind the opening, past what was skipped at e, has come to i.
-module _ (p : Bool) (s : List ℕ) (o e i : ℕ) where
-  pub single-begun : quote (from s o) ≡ true → from s e ≡ afterRun (headIs isOrdinary) (from s (o + 1)) → closeSingle p (from s i) ≡ closeSingle p (from s e)
-      → ended_of (length s) (closeSingle p (from s i)) ≡ ended_of (length s) (closeSingle p (drop 1 (from s o)))
-  single-begun q x y =
-      let b = quote-in s o q in
-      ap (ended_of (length s)) (y ∙ walk-skip (closeSingle p) (single_char p) (singles p) s (o + 1) e x ∙ ap (closeSingle p) (sym (past s o b.0 (omega (arith, b.1)))))
+-- The ordinary characters from the opening on, and those from a place on, are passed up to e.
+module _ (p : Bool) (s : List ℕ) (o e : ℕ) where
+  pub single-skip : from s e ≡ afterRun (headIs isOrdinary) (from s o) → closeSingle p (from s e) ≡ closeSingle p (from s o)
+  single-skip x = walk-skip (closeSingle p) (single_char p) (singles p) s o e x
 
-  pub triple-begun : threeQuotes (from s o) ≡ true → from s e ≡ afterRun (headIs isOrdinary) (from s (o + 3)) → closeTriple p (from s i) ≡ closeTriple p (from s e)
-      → ended_of (length s) (closeTriple p (from s i)) ≡ ended_of (length s) (closeTriple p (drop 3 (from s o)))
-  triple-begun q x y =
-      ap (ended_of (length s)) (y ∙ walk-skip (closeTriple p) (tripleChar p) (triples p) s (o + 3) e x ∙ ap (closeTriple p) (sym (three-in s o q).1))
+  pub single-begun : quote (from s o) ≡ true → from s e ≡ afterRun (headIs isOrdinary) (from s (o + 1)) → closeSingle p (from s e) ≡ closeSingle p (drop 1 (from s o))
+  single-begun q x =
+      let b = quote-in s o q in
+      walk-skip (closeSingle p) (single_char p) (singles p) s (o + 1) e x ∙ ap (closeSingle p) (sym (past s o b.0 (omega (arith, b.1))))
+
+  pub triple-skip : from s e ≡ afterRun (headIs isOrdinary) (from s o) → closeTriple p (from s e) ≡ closeTriple p (from s o)
+  triple-skip x = walk-skip (closeTriple p) (tripleChar p) (triples p) s o e x
+
+  pub triple-begun : threeQuotes (from s o) ≡ true → from s e ≡ afterRun (headIs isOrdinary) (from s (o + 3)) → closeTriple p (from s e) ≡ closeTriple p (drop 3 (from s o))
+  triple-begun q x = walk-skip (closeTriple p) (tripleChar p) (triples p) s (o + 3) e x ∙ ap (closeTriple p) (sym (three-in s o q).1)
+
+-- a step from the place i
+module _ (p : Bool) (s : List ℕ) (i : ℕ) (h : i < length s) where
+  pub single-on : (e : Cursor) → (get_or s i 0 ≡ 0x22 → ⊥) → ended.At e ≡ singleItem p s i → (i < e.at) × (e.at ≤ length s) × (closeSingle p (from s e.at) ≡ closeSingle p (from s i))
+  single-on e n q = went_on _ _ _ _ _ (single_step s i h (no-quote s i n) p _ q) refl
+
+  pub single-wrong : (j a : ℕ) → (get_or s i 0 ≡ 0x22 → ⊥) → ended.Refused j a ≡ singleItem p s i → ended.Refused j a ≡ ended_of (length s) (closeSingle p (from s i))
+  single-wrong j a n q = went-wrong _ _ _ _ _ _ (single_step s i h (no-quote s i n) p _ q) refl
+
+  pub triple-on : (e : Cursor) → false ≡ threeQuotes (from s i) → ended.At e ≡ tripleItem p s i → (i < e.at) × (e.at ≤ length s) × (closeTriple p (from s e.at) ≡ closeTriple p (from s i))
+  triple-on e n q = went_on _ _ _ _ _ (triple-step s i h (sym n) p _ q) refl
+
+  pub triple-wrong : (j a : ℕ) → false ≡ threeQuotes (from s i) → ended.Refused j a ≡ tripleItem p s i → ended.Refused j a ≡ ended_of (length s) (closeTriple p (from s i))
+  triple-wrong j a n q = went-wrong _ _ _ _ _ _ (triple-step s i h (sym n) p _ q) refl
 
 module _ (p : Bool) (s : List ℕ) (i : ℕ) where
   pub single-closes : i < length s → get_or s i 0 ≡ 0x22 → ended.At (cursorAt (i + 1)) ≡ ended_of (length s) (closeSingle p (from s i))
@@ -509,6 +529,10 @@ module _ (p : Bool) (s : List ℕ) (i : ℕ) where
   triple-open h k =
       let c = ap (closeTriple p) (at-end s i k) ∙ strings.triple-empty p in
       sym (ap (ended_of (length s)) c ∙ ap (ended.Refused 9) (omega arith))
+
+pub ruleset single_walk = (single-begun, single-wrong, single-closes, single-open)
+
+pub ruleset triple_walk = (three-in, triple-begun, triple-closes, triple-open)
 
 -- ---- the token
 
@@ -539,7 +563,7 @@ module _ (n : ℕ) (t : Text) where
       go (closed r) q = no-at _ j a q
       go (wrong k x) q = cc
 
-  pub prefixed-ended : (o : Text) (e : Cursor) (i : ℕ) → place n t ≡ i → ended.At e ≡ ended_of n (closeString true o)
+  prefixed-ended : (o : Text) (e : Cursor) (i : ℕ) → place n t ≡ i → ended.At e ≡ ended_of n (closeString true o)
       → piece.Token (tk.Str i e.at) e ≡ piece_of n (prefixedOf n t (closeString true o))
   unfolding ended_of piece_of
   prefixed-ended o e i p q = go (closeString true o) q
@@ -547,6 +571,12 @@ module _ (n : ℕ) (t : Text) where
       go : (w : Closing) → ended.At e ≡ ended_of n w → piece.Token (tk.Str i e.at) e ≡ piece_of n (prefixedOf n t w)
       go (closed r) q = let x : e ≡ cursorAt (place n r) = cc in rw (x, p)
       go (wrong k x) q = no-at e k _ (sym q)
+
+pub prefixed-placed : (s : List ℕ) (i : ℕ) (o : Text) (e : Cursor) → i ≤ length s → ended.At e ≡ ended_of (length s) (closeString true o)
+    → piece.Token (tk.Str i e.at) e ≡ piece_of (length s) (prefixedOf (length s) (from s i) (closeString true o))
+prefixed-placed s i o e h q = prefixed-ended (length s) (from s i) o e i (place-from s i h) q
+
+pub ruleset prefixed_string = (prefixed-refused, prefixed-placed)
 
 -- ---- where a plain string ends
 

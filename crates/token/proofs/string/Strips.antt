@@ -162,15 +162,15 @@ module _ (s : List ℕ) (start end a b : ℕ) where
 -- ---- a last quote, if one is left
 
 module _ (s : List ℕ) (a b : ℕ) where
-  pub off-none : b ≤ a → b ≡ lastOff s a b
+  off-none : b ≤ a → b ≡ lastOff s a b
   unfolding lastOff
   off-none h = rw (le-ltb a b h)
 
-  pub off-quote : a < b → get_or s (b - 1) 0 ≡ 0x22 → b - 1 ≡ lastOff s a b
+  off-quote : a < b → get_or s (b - 1) 0 ≡ 0x22 → b - 1 ≡ lastOff s a b
   unfolding lastOff
   off-quote h q = rw (lt-ltb a b h, eq-eqb (get_or s (b - 1) 0) 0x22 q)
 
-  pub off-other : a < b → (get_or s (b - 1) 0 ≡ 0x22 → ⊥) → b ≡ lastOff s a b
+  off-other : a < b → (get_or s (b - 1) 0 ≡ 0x22 → ⊥) → b ≡ lastOff s a b
   unfolding lastOff
   off-other h n = rw (lt-ltb a b h, ne_eqb (get_or s (b - 1) 0) 0x22 n)
 
@@ -377,8 +377,8 @@ module _ (s : List ℕ) where
         last = λ k u v. eight-quotes (b - 8) g.1 k u (omega arith);
       }
 
-  pub eights-apart : (a b : ℕ) → eightsOff s a b ≡ true → a + 16 ≤ b
-  eights-apart a b e = let k = (eights-ends a b e).apart in omega arith
+  pub eights_apart : (a b : ℕ) → eightsOff s a b ≡ true → a + 16 ≤ b
+  eights_apart a b e = let k = (eights-ends a b e).apart in omega arith
 
   -- eight turns, and all that can be made so
   left-eights : (start end a b : ℕ) → eightsOff s a b ≡ true → Left s start end a b → Left s start end (a + 8) (b - 8)
@@ -390,3 +390,5 @@ module _ (s : List ℕ) where
       rw q
       (steps-keep (eightMore s) eightLess (λ d. Left s start end d.start d.end) (λ d e k. left-eights start end d.start d.end e k)
       (end - start) (spanAt start end) l)
+
+pub ruleset strip_turns = (left-next, off-most)

@@ -1,13 +1,11 @@
 -- What the walk finds from here on is what it finds from behind the three quotes on.
-use Prim.Native.Nat.{◌≤◌, ◌-◌}
-use mathlib.Core.Path.{◌≡◌}
-use lib.ListN.{length}
+use Rattle.std.proofs.Common.{◌≡◌, ◌≤◌, ◌-◌, length, drop}
 use Rattle.chars.specs.paper.Text.{from}
 use Rattle.token.specs.computed.Answer.{closeTriple}
 use Rattle.token.proofs.string.lex_triple_string.Given as goal
 
 abbrev pub invariant-loop-d : goal.invariant-loop-d
-invariant-loop-d l = (l.d.at ≤ length l.s) × (closeTriple l.prefixed (from l.s l.d.at) ≡ closeTriple l.prefixed (from l.s l.initial.d.at))
+invariant-loop-d l = (l.d.at ≤ length l.s) × (closeTriple l.prefixed (from l.s l.d.at) ≡ closeTriple l.prefixed (drop 3 (from l.s l.fn.c.at)))
 
 abbrev pub decreases-loop-d : goal.decreases-loop-d
 decreases-loop-d l = length l.s - l.d.at

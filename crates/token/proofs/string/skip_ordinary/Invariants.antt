@@ -1,4 +1,4 @@
--- `string::skip_ordinary`: The run from here on is the run from the start on.
+-- The run from here on is the run from the start on.
 use Prim.Native.Nat.{◌≤◌, ◌-◌}
 use mathlib.Core.Path.{◌≡◌}
 use lib.ListN.{length}
