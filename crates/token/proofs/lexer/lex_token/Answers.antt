@@ -1,5 +1,5 @@
 -- The byte says what starts there: a single sign, or another token's first character.
-use Rattle.std.proofs.Common.{◌≡◌, arith, refl, sym, ap, ◌∙◌, false, length, get_or, eq-eqb}
+use Rattle.std.proofs.Common.{◌≡◌, arith, refl, sym, ap, ◌∙◌, false, length, get_or, eq-eqb, tests, rules}
 use Rattle.token.specs.paper.Tests.{begins, isDigit}
 use Rattle.token.specs.computed.Answer.{sign_of}
 use Rattle.token.specs.code.Piece.{piece_of}
@@ -19,7 +19,13 @@ pub lex_char_sym-requires : goal.lex_char_sym-requires
 lex_char_sym-requires c = (omega arith, any-byte "'" refl c.args.s.now c.args.c.at ∙ rw c.in-39.is)
 
 pub lex_word-requires : goal.lex_word-requires
-lex_word-requires c = let h = c.in_default.branch in ?
+lex_word-requires c =
+    let k : keyed (get_or c.args.s.now c.args.c.at 0) ≡ false = search (tests, rules) in
+    let d : isDigit (get_or c.args.s.now c.args.c.at 0) ≡ false = elim c.in_default.branch [
+      in_default-via-then-b-lt48 w ↦ no-digit-byte _ (λ l. omega arith)
+      | in_default-via-else-b-lt48+else-b-lt58 w ↦ no-digit-byte _ (λ l. omega arith)
+    ] in
+    (c.requires.0, wordless-none c.args.s.now c.args.c.at k d c.requires.1, c.requires.2)
 
 pub returns-in-40 : goal.returns-in-40
 unfolding sign_of
