@@ -22,7 +22,7 @@ pub lex_word-requires : goal.lex_word-requires
 lex_word-requires c =
     let k : keyed (get_or c.args.s.now c.args.c.at 0) ≡ false = search (tests, rules) in
     let d : isDigit (get_or c.args.s.now c.args.c.at 0) ≡ false = elim c.in_default.branch [
-      in_default-via-then-b-lt48 w ↦ no-digit-byte _ (λ l. omega arith)
+      | in_default-via-then-b-lt48 w ↦ no-digit-byte _ (λ l. omega arith)
       | in_default-via-else-b-lt48+else-b-lt58 w ↦ no-digit-byte _ (λ l. omega arith)
     ] in
     (c.requires.0, wordless-none c.args.s.now c.args.c.at k d c.requires.1, c.requires.2)

@@ -12,7 +12,7 @@ pub returns-then-s-e : goal.returns-then-s-e
 returns-then-s-e c =
     let s = c.args.s.now in
     let q = ap (seek (length s) 0 c.loop-e.f) c.skip_blanks-e.ensures.2 ∙ seek-blanks (length s) c.loop-e.f (from s c.loop-e.d.at) ∙ c.loop-e.invariant.1 in
-    ap next.End c.cut_of.ensures ∙ seek-none s c.skip_blanks-e.result.at c.loop-e.f c.if-s-e.true ∙ ap (next_of (length s)) q
+    ap next.End c.cut_of.ensures ∙ seek-none s c.skip_blanks-e.result.at c.loop-e.f (omega arith) ∙ ap (next_of (length s)) q
 
 pub stop_at-requires : goal.stop_at-requires
 stop_at-requires c = (omega arith, ap (isAny " \t") c.skip_blanks-e.ensures.2 ∙ blanks-done _, sym c.if-not-opens_comment.ensures)
