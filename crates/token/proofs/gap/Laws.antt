@@ -66,6 +66,13 @@ pub closes-block : (s : List ℕ) (i : ℕ) → closesBlock (from s i) ≡ eqb (
 unfolding begins
 closes-block s i = two_bytes 0x2A 0x2F (omega arith) (omega arith) (omega arith) (omega arith) s i
 
+-- the comment that begins at i
+pub line-opens : (s : List ℕ) (i : ℕ) → opensLine (from s i) ≡ true → Pair s i 0x2F 0x2F
+line-opens s i e = pair-at s i 0x2F 0x2F (omega arith) (omega arith) (omega arith) (omega arith) (sym (opens-line s i) ∙ e)
+
+pub block-opens : (s : List ℕ) (i : ℕ) → opensBlock (from s i) ≡ true → Pair s i 0x2F 0x2A
+block-opens s i e = pair-at s i 0x2F 0x2A (omega arith) (omega arith) (omega arith) (omega arith) (sym (opens-block s i) ∙ e)
+
 -- a line end
 pub ends-line : (s : List ℕ) (i : ℕ) → endsLine (from s i) ≡ eqb (get_or s i 0) 0x0A || (eqb (get_or s i 0) 0x0D && eqb (get_or s (i + 1) 0) 0x0A)
 unfolding begins
@@ -189,10 +196,7 @@ module _ (s : List ℕ) (i : ℕ) {p : ℕ} (l : get_or s i 0 < 256) (e : p ≡ 
   pub block-other : (f : Option Text) (d : ℕ) → i < length s → (p ≡ 0x2A2F → ⊥) → (p ≡ 0x2F2A → ⊥) → close d 0 (from s i) ≡ f → close d 0 (from s (i + 1)) ≡ f
   block-other f d h m n = block_on s i f d h (λ x y. n (omega arith)) (λ x y. m (omega arith))
 
--- the comment that begins at i, and bytes that are passed together
-pub block-opens : (s : List ℕ) (i : ℕ) → opensBlock (from s i) ≡ true → Pair s i 0x2F 0x2A
-block-opens s i e = pair-at s i 0x2F 0x2A (omega arith) (omega arith) (omega arith) (omega arith) (sym (opens-block s i) ∙ e)
-
+-- bytes that are passed together
 pub block-past : (s : List ℕ) (d i r : ℕ) → i ≤ r → r ≤ length s → NeitherOf 0x2A 0x2F s i r → close d 0 (from s r) ≡ close d 0 (from s i)
 block-past s d = all_past (close d 0) s (Neither 0x2A 0x2F) (λ k m o. block_on s k _ d m (λ e n. o.0 e) (λ e n. o.1 e) refl)
 

@@ -142,6 +142,12 @@ other_at n s z e a b =
     scan-by n s Start.other
     (rw (k.line, k.block, none_of wordless " \t" refl s e, none_of wordless "\n" refl s e, none_of wordless "\r" refl s e, none_of wordless "()[]{},;." refl s e, no_digit s e, a, b, none_of wordless "`" refl s e, quote-any s ∙ none_of wordless "\"" refl s e, none_of wordless "'" refl s e))
 
+-- the same at a place, as a piece
+pub refused_at : (s : List ℕ) (i : ℕ) → i < length s → opensComment (from s i) ≡ false → isAny wordless (from s i) ≡ false → headIs isIdStart (from s i) ≡ false
+    → opSign (from s i) ≡ false → piece.Refused 3 i ≡ piece_of (length s) (scan (length s) (from s i))
+unfolding piece_of
+refused_at s i h z e a b = sym (ap (piece_of (length s)) (other_at (length s) (from s i) z e a b) ∙ ap (piece.Refused 3) (place-from s i (omega arith)))
+
 -- no byte of another start: what the arms of the match leave
 abbrev pub keyed : ℕ → Bool
 keyed b = one_of "()[]{},;.`\"'" b
