@@ -11,6 +11,7 @@ use token::kinds::{TokenKind, bit_of};
 use words::write::{put_block, put_numbers, put8};
 
 // 16 bytes: refusal, place, token count, bytes of the roll; unused ones 0. The last clause says what holds of every roll.
+#[tactic(auto, using(crate::proofs::host::Laws::answers))]
 pub fn answer_roll(roll: &[u8], answer: &mut [u8]) -> u32
     ensures answer_after { told result answer.new ≡ rollTold roll.now answer.old }
     ensures roll_theorems { RollTheorems roll.now }
@@ -32,6 +33,7 @@ pub fn answer_roll(roll: &[u8], answer: &mut [u8]) -> u32
 }
 
 // The block of a token.
+#[tactic(auto, using(crate::proofs::host::Laws::put_token_block))]
 fn put_token(answer: &mut [u8], kind: TokenKind, start: usize, end: usize, cut: bool, next: usize)
     requires { length answer.old ≡ 40 }
     ensures { answer.new ≡ tokenBlock (record { kind = kind; start = start; end = end; cut = cut }) next }
@@ -43,6 +45,7 @@ fn put_token(answer: &mut [u8], kind: TokenKind, start: usize, end: usize, cut: 
 }
 
 // The block of a refusal: all behind the place is 0.
+#[tactic(auto, using(crate::proofs::host::Laws::put_stop_block))]
 fn put_stop(answer: &mut [u8], number: usize, place: usize)
     requires { length answer.old ≡ 40 }
     ensures { answer.new ≡ stopBlock number place }
@@ -53,6 +56,7 @@ fn put_stop(answer: &mut [u8], number: usize, place: usize)
 }
 
 // 40 bytes: refusal, place, kind, start, end, cut, 0, offset of the next record, and the values in 8 bytes.
+#[tactic(auto, using(crate::proofs::host::Laws::answers))]
 pub fn answer_record(roll: &[u8], at: u32, previous: u32, answer: &mut [u8]) -> u32
     ensures answer_after { told result answer.new ≡ recordTold roll.now at previous answer.old }
     ensures roll_theorems { RollTheorems roll.now }

@@ -31,6 +31,7 @@ const NEWLINE: u64 = TokenKind::NEWLINE as u64;
 const EOF: u64 = TokenKind::EOF as u64;
 
 // The length of a kind's record, by the kind's number; 0 where there is no such kind.
+#[tactic(auto, unfolding(crate::specs::computed::Roll::lengthFor))]
 fn length_for(number: u64) -> u64
     ensures { result ≡ lengthFor number }
 {
@@ -46,6 +47,7 @@ fn length_for(number: u64) -> u64
 }
 
 // Whether a kind has this number, and its records this length.
+#[tactic(auto, unfolding(crate::specs::computed::Roll::isKind))]
 fn is_kind(number: u64, size: u64) -> bool
     ensures { result ≡ isKind number size }
 {
@@ -56,6 +58,7 @@ fn is_kind(number: u64, size: u64) -> bool
 }
 
 // A keyword by its number, from 32 on. What is above 44 counts as `@`.
+#[tactic(auto, unfolding(crate::specs::computed::Roll::keywordFor))]
 fn keyword_for(number: u64) -> Kw
     ensures { result ≡ keywordFor number }
 {
@@ -78,6 +81,7 @@ fn keyword_for(number: u64) -> Kw
 }
 
 // The kind of a known number, with its values as one number. A number below 32 that is no other kind's counts as Eof's.
+#[tactic(auto, unfolding(crate::specs::computed::Roll::kindFor))]
 fn kind_for(number: u64, values: u64) -> TokenKind
     ensures { result ≡ kindFor number values }
 {
@@ -112,6 +116,7 @@ fn kind_for(number: u64, values: u64) -> TokenKind
 }
 
 // Whether the values break one of 24's rules.
+#[tactic(auto, unfolding(crate::specs::computed::Roll::badValues))]
 fn bad_values(held: Held) -> bool
     ensures { result ≡ badValues held }
 {
@@ -136,6 +141,7 @@ fn bad_values(held: Held) -> bool
 }
 
 // Whether 24 is met at the record.
+#[tactic(auto, unfolding(crate::specs::computed::Roll::isWrong))]
 fn is_wrong(held: Held, previous: usize) -> bool
     ensures { result ≡ isWrong held previous }
 {
@@ -162,6 +168,7 @@ fn eof_followed(held: Held, left: usize) -> bool
 }
 
 // A whole record of a known kind.
+#[tactic(auto, unfolding(crate::specs::computed::Roll::stepHeld, crate::specs::computed::Roll::tokenOf, crate::specs::code::Record::yieldOf))]
 fn yield_held(held: Held, at: usize, left: usize, previous: usize) -> Yield
     requires { (held.length ≤ left) × (at + left ≤ 18446744073709551615) }
     ensures { result ≡ yieldOf (stepHeld held at left previous) }
@@ -186,6 +193,7 @@ fn yield_held(held: Held, at: usize, left: usize, previous: usize) -> Yield
 }
 
 // One step: 22, 23 and 24 in their order, else the token.
+#[tactic(auto, using(crate::proofs::record::Laws::held_left), unfolding(crate::specs::computed::Roll::readAt, crate::specs::code::Record::yieldOf))]
 pub fn read_token(roll: &[u8], c: RollCursor) -> Yield
     ensures { result ≡ yieldOf (readAt roll.now c.at c.previous) }
 {

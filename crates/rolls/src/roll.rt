@@ -13,6 +13,7 @@ pub enum Counted {
     Refused(u32, usize),
 }
 
+#[tactic(auto, unfolding(token::specs::code::Form::form_of))]
 fn is_eof(kind: TokenKind) -> bool
     ensures { result ≡ isEof kind }
 {
@@ -21,6 +22,7 @@ fn is_eof(kind: TokenKind) -> bool
 }
 
 // The loop over the records, from the first.
+#[tactic(auto, using(crate::proofs::roll::Laws::turn), unfolding(crate::specs::computed::Roll::readRoll))]
 pub fn read_roll(roll: &[u8]) -> Counted
     ensures { result ≡ countedOf 0 (readRoll roll.now) }
 {

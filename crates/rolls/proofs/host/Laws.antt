@@ -1,55 +1,52 @@
--- The answer blocks: stores that cover them, the values in eight bytes, and each return as a branch of what hosts see.
-use Prim.Native.Nat.{ℕ, ◌+◌, ◌/◌, ◌%◌, ◌<◌}
+-- The answer blocks: stores that cover them, the values in eight bytes, and what hosts are told by what the code hands on.
+use Prim.Native.Nat.{ℕ, ◌/◌, ◌%◌, ◌<◌}
 use mathlib.Core.Path.{◌≡◌, refl, sym, ◌∙◌, ap}
-use mathlib.Core.Bool.{Bool, true, false}
+use mathlib.Core.Bool.{Bool, true, false, cond}
 use mathlib.Core.List.{List, ◌∷◌, ◌++◌}
 use lib.ListN.{length, take, drop, replicate, length-append}
 use lib.Seq.{sets}
 use native.Mathlib.Nat.{zero-add}
 use native.Mathlib.Omega.{arith}
-use borrow.Author.Tests.{eq-eqb, ne_eqb}
+use lib.Dec.{eqb}
 use denote.Laws.{Is}
 use denote.Enum.Declared.{row}
 use denote.Enum.Laws.{owed, vals}
-use Rattle.words.specs.Words.{le2, le4, le8, block_of, told}
+use Rattle.words.specs.Words.{le2, le4, le8, block_of, Told, told}
 use Rattle.words.proofs.Stores.{after, whole, length-block}
 use Rattle.words.proofs.Joins.{eights}
 use Rattle.token.specs.paper.Kinds.{Token, kindNumber}
 use Rattle.token.specs.paper.Records.{bit, values_of, values, recordLength, fields_of, head_of, recordOf}
 use Rattle.token.specs.code.Form.{joined, form_of, byForm}
-use Rattle.token.specs.declared.kinds.Form.{Form}
 use Rattle.token.specs.declared.kinds.TokenKind.{TokenKind}
 use Rattle.token.specs.declared.kinds.TokenKind.TheVariants as tk
 use Rattle.token.proofs.form.Laws.{form-record}
 use Rattle.token.specs.contracts.kinds.TokenKind.{the_type}
 use Rattle.token.proofs.kinds.TokenKind.TheLaws.{the_laws}
-use Rattle.rolls.specs.paper.Roll.{Stepped, Outcome, tokens, refused}
+use Rattle.rolls.specs.paper.Roll.{Outcome, tokens, refused}
 use Rattle.rolls.specs.computed.Roll.{readAt, readRoll}
 use Rattle.rolls.specs.paper.Host.{outcomeTold, steppedTold, tokenBlock, stopBlock}
 use Rattle.rolls.specs.computed.Host.{rollTold, recordTold}
 use Rattle.rolls.specs.code.Record.{yieldOf}
 use Rattle.rolls.specs.code.Roll.{countedOf}
-use Rattle.rolls.specs.declared.record.RollCursor.{RollCursor}
-use Rattle.rolls.specs.declared.record.Yield.TheVariants as yield
+use Rattle.rolls.specs.declared.roll.Counted.{Counted}
 use Rattle.rolls.specs.declared.roll.Counted.TheVariants as counted
-use Rattle.rolls.proofs.record.Laws.{was-stopped, was-token}
+use Rattle.rolls.proofs.record.Laws.{stepOf, step_of}
 use Rattle.rolls.proofs.theorems.Kinds.{Carries, int, long, content, mark, nothing, carries}
 
 -- ---- stores
 
 -- two blocks of 16 bytes and a number of eight cover 40 bytes
-put-forty : (l m n o : List ℕ) (a b c d e f g h x : ℕ) → length l ≡ 40 → m ≡ sets l 0 (block_of a b c d) → n ≡ sets m 16 (block_of e f g h)
-    → o ≡ sets n 32 (le8 x) → o ≡ block_of a b c d ++ (block_of e f g h ++ le8 x)
-put-forty l m n o a b c d e f g h x k p q r =
+put-forty : (l : List ℕ) (a b c d e f g h x : ℕ) → length l ≡ 40
+    → sets (sets (sets l 0 (block_of a b c d)) 16 (block_of e f g h)) 32 (le8 x) ≡ block_of a b c d ++ (block_of e f g h ++ le8 x)
+put-forty l a b c d e f g h x k =
     let first = block_of a b c d in
     let second = block_of e f g h in
     let n1 = length-block a b c d in
     let n2 = length-block e f g h in
     let n3 = eights.size x in
     let size : length (first ++ (second ++ le8 x)) ≡ 40 = simp (length-append, n1, n2, n3) in
-    r
-    ∙ after second (le8 x) m n 16 32 q (omega arith)
-    ∙ after first (second ++ le8 x) l m 0 16 p (omega arith)
+    after second (le8 x) (sets l 0 first) _ 16 32 refl (omega arith)
+    ∙ after first (second ++ le8 x) l _ 0 16 refl (omega arith)
     ∙ whole l (first ++ (second ++ le8 x)) (k ∙ sym size)
 
 -- ---- the values in eight bytes
@@ -90,72 +87,39 @@ stop-parts : (j a : ℕ) → block_of j a 0 0 ++ (block_of 0 0 0 0 ++ le8 0) ≡
 unfolding block_of stopBlock le4 le8
 stop-parts j a = refl
 
-pub put-stop-block : (l m n o : List ℕ) (j a : ℕ) → length l ≡ 40 → m ≡ sets l 0 (block_of j a 0 0) → n ≡ sets m 16 (block_of 0 0 0 0)
-    → o ≡ sets n 32 (le8 0) → o ≡ stopBlock j a
-put-stop-block l m n o j a k p q r = put-forty l m n o j a 0 0 0 0 0 0 0 k p q r ∙ stop-parts j a
+pub put_stop_block : (l : List ℕ) (j a : ℕ) → length l ≡ 40
+    → sets (sets (sets l 0 (block_of j a 0 0)) 16 (block_of 0 0 0 0)) 32 (le8 0) ≡ stopBlock j a
+put_stop_block l j a k = put-forty l j a 0 0 0 0 0 0 0 k ∙ stop-parts j a
 
-pub put-token-block : (l m n o : List ℕ) (t : Token) (next : ℕ) (f : Form) (b : ℕ) → Handed t.kind → f ≡ form_of t.kind → b ≡ bit t.cut
-    → length l ≡ 40 → m ≡ sets l 0 (block_of 0 0 f.number t.start) → n ≡ sets m 16 (block_of t.end b 0 next) → o ≡ sets n 32 (le8 f.values)
-    → o ≡ tokenBlock t next
+pub put_token_block : (l : List ℕ) (k : TokenKind) (start end : ℕ) (cut : Bool) (next : ℕ) → Handed k → length l ≡ 40
+    → sets (sets (sets l 0 (block_of 0 0 (form_of k).number start)) 16 (block_of end (bit cut) 0 next)) 32 (le8 (form_of k).values)
+    ≡ tokenBlock (record { kind = k; start = start; end = end; cut = cut }) next
 unfolding form_of
-put-token-block l m n o t next f b h e c k p q r =
-    put-forty l m n o 0 0 f.number t.start t.end b 0 next f.values k p q r
-    ∙ ap (λ g. block_of 0 0 g.number t.start ++ (block_of t.end b 0 next ++ le8 g.values)) e
-    ∙ ap (λ x. block_of 0 0 (kindNumber t.kind) t.start ++ (block_of t.end x 0 next ++ le8 (joined (values_of t.kind)))) c
-    ∙ ap (λ v. block_of 0 0 (kindNumber t.kind) t.start ++ (block_of t.end (bit t.cut) 0 next ++ v)) (eight-values (carries t.kind) h)
-    ∙ token-parts t next
+put_token_block l k start end cut next h size =
+    put-forty l 0 0 (kindNumber k) start end (bit cut) 0 next (joined (values_of k)) size
+    ∙ ap (λ v. block_of 0 0 (kindNumber k) start ++ (block_of end (bit cut) 0 next ++ v)) (eight-values (carries k) h)
+    ∙ token-parts (record { kind = k; start = start; end = end; cut = cut }) next
 
--- ---- each return of `answer_roll`
+-- ---- what is told, by what the code hands on
 
-was-refused : (x : Outcome) (j a : ℕ) → counted.Refused j a ≡ countedOf 0 x → x ≡ refused j a
+abbrev pub countedTold : ℕ → Counted → Told
+countedTold bytes (counted.Tokens n) = told 0 (block_of 0 0 n bytes)
+countedTold bytes (counted.Refused j a) = told j (block_of j a 0 0)
+
+outcome-told : (bytes : ℕ) (x : Outcome) → outcomeTold bytes x ≡ countedTold bytes (countedOf 0 x)
 unfolding countedOf
-was-refused (tokens ts) j a e = cc
-was-refused (refused i b) j a e = cc
+outcome-told bytes (tokens ts) = ap (λ n. told 0 (block_of 0 0 n bytes)) (sym (zero-add (length ts)))
+outcome-told bytes (refused j a) = refl
 
-was-tokens : (x : Outcome) (n : ℕ) → counted.Tokens n ≡ countedOf 0 x → (ts : List Token) × (x ≡ tokens ts) × (n ≡ length ts)
-unfolding countedOf
-was-tokens (tokens ts) n e = let z : n ≡ 0 + length ts = cc in (ts, refl, z ∙ zero-add (length ts))
-was-tokens (refused j a) n e = let z : ◌≡◌ {A = ℕ} 0 1 = cc in absurd (omega arith)
+pub told-roll : (roll block : List ℕ)
+    → rollTold roll block ≡ cond (eqb (length block) 16) (countedTold (length roll) (countedOf 0 (readRoll roll))) (told 20 block)
+unfolding rollTold
+told-roll roll block = ap (λ x. cond (eqb (length block) 16) x (told 20 block)) (outcome-told (length roll) (readRoll roll))
 
-module _ (roll block : List ℕ) where
-  -- a block of another length
-  pub roll-other : (length block ≡ 16 → ⊥) → told 20 block ≡ rollTold roll block
-  unfolding rollTold
-  roll-other h = simp (ne_eqb (length block) 16 h)
+pub told-record : (roll : List ℕ) (at previous : ℕ) (block : List ℕ)
+    → recordTold roll at previous block ≡ cond (eqb (length block) 40) (steppedTold (stepOf (yieldOf (readAt roll at previous)))) (told 20 block)
+unfolding recordTold
+told-record roll at previous block = ap (λ x. cond (eqb (length block) 40) (steppedTold x) (told 20 block)) (sym (step_of (readAt roll at previous)))
 
-  module _ (h : length block ≡ 16) where
-    -- what is read is told
-    roll-told : {x : Outcome} → readRoll roll ≡ x → outcomeTold (length roll) x ≡ rollTold roll block
-    unfolding rollTold
-    roll-told e = rw (eq-eqb (length block) 16 h, e)
-
-    pub roll-refused : (out : List ℕ) (j a : ℕ) → counted.Refused j a ≡ countedOf 0 (readRoll roll) → out ≡ block_of j a 0 0 → told j out ≡ rollTold roll block
-    roll-refused out j a e p = ap (told j) p ∙ roll-told (was-refused (readRoll roll) j a e)
-
-    pub roll-tokens : (out : List ℕ) (n : ℕ) → counted.Tokens n ≡ countedOf 0 (readRoll roll) → out ≡ block_of 0 0 n (length roll)
-        → told 0 out ≡ rollTold roll block
-    roll-tokens out n e p =
-        let w = was-tokens (readRoll roll) n e in
-        ap (told 0) (p ∙ ap (λ k. block_of 0 0 k (length roll)) w.2) ∙ roll-told w.1
-
--- ---- each return of `answer_record`
-
-module _ (roll : List ℕ) (at previous : ℕ) (block : List ℕ) where
-  -- a block of another length
-  pub record-other : (length block ≡ 40 → ⊥) → told 20 block ≡ recordTold roll at previous block
-  unfolding recordTold
-  record-other h = simp (ne_eqb (length block) 40 h)
-
-  module _ (h : length block ≡ 40) where
-    record-told : {x : Stepped} → readAt roll at previous ≡ x → steppedTold x ≡ recordTold roll at previous block
-    unfolding recordTold
-    record-told e = rw (eq-eqb (length block) 40 h, e)
-
-    pub record-refused : (out : List ℕ) (j a : ℕ) → yield.Refused j a ≡ yieldOf (readAt roll at previous) → out ≡ stopBlock j a
-        → told j out ≡ recordTold roll at previous block
-    record-refused out j a e p = ap (told j) p ∙ record-told (was-stopped (readAt roll at previous) j a e)
-
-    pub record-token : (out : List ℕ) (k : TokenKind) (start end : ℕ) (cut : Bool) (next : RollCursor)
-        → yield.Token k start end cut next ≡ yieldOf (readAt roll at previous)
-        → out ≡ tokenBlock (record { kind = k; start = start; end = end; cut = cut }) next.at → told 0 out ≡ recordTold roll at previous block
-    record-token out k start end cut next e p = ap (told 0) p ∙ record-told (was-token (readAt roll at previous) k start end cut next e).0
+-- with these the prover finds what both functions tell
+pub ruleset answers = (told-roll, told-record)
