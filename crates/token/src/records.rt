@@ -34,6 +34,7 @@ pub struct Stand {
 }
 
 // The end of script: stores its record where it fits, and says what was counted.
+#[tactic(auto, using(crate::proofs::records::Turns::sizes))]
 fn finish(out: &mut [u8], w: usize, values: usize, last: usize, cut: bool) -> Measured
     requires { (w + headLength ≤ 18446744073709551615) × (values ≤ w) }
     ensures value { result ≡ total ((w + headLength - values) / headLength) (w + headLength) }
@@ -97,6 +98,7 @@ fn walk_from(out: &mut [u8], s: &[u8], t: &[u8; 256], start: Stand) -> Stand
 }
 
 // One walk over the script: it counts tokens and record bytes, and stores each record that fits, up to the end of script or to what is refused.
+#[tactic(auto, using(crate::proofs::records::Turns::turns))]
 fn walk_script(out: &mut [u8], s: &[u8], t: &[u8; 256]) -> Measured
     requires { (length s.now ≤ mostBytes) × ByteClasses t.now }
     ensures value { result ≡ measuredOf 0 0 (answer s.now) }
