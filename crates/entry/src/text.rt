@@ -17,6 +17,7 @@ fn is_inside(script: &[u8], at: usize) -> bool
 }
 
 // Whether start to end is a part of the script between characters: no is refusal 21.
+#[tactic(auto, unfolding(crate::specs::paper::TokenText::hasText))]
 pub fn has_text(script: &[u8], start: usize, end: usize) -> bool
     ensures { result ≡ hasText script.now start end }
 {
@@ -33,6 +34,7 @@ pub fn has_text(script: &[u8], start: usize, end: usize) -> bool
 }
 
 // The part itself; where 21 is met the empty part at 0. The first clause is of the bytes, the second also of where they are.
+#[tactic(auto, using(crate::proofs::text::Laws::text_within), unfolding(crate::specs::paper::TokenText::tokenText))]
 pub fn token_text(script: &[u8], start: usize, end: usize) -> &[u8]
     ensures result_value { result.now ≡ tokenText script.now start end }
     ensures text_part { TextPart script.entry start end result }

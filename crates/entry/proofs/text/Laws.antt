@@ -9,9 +9,9 @@ use borrow.Author.Tests.{leb-true}
 use Rattle.chars.proofs.Bools.{and_both}
 use Rattle.entry.specs.paper.TokenText.{insideCharacter, hasText}
 
-pub text-within : (script : List ℕ) (a e : ℕ) → hasText script a e ≡ true → (a ≤ e) × (e ≤ length script)
+pub text_within : (script : List ℕ) (a e : ℕ) → hasText script a e ≡ true → (a ≤ e) × (e ≤ length script)
 unfolding hasText
-text-within script a e h =
+text_within script a e h =
     let x = (and_both (leb a e && leb e (length script) && not (insideCharacter script a)) (not (insideCharacter script e)) h).0 in
     let y = (and_both (leb a e && leb e (length script)) (not (insideCharacter script a)) x).0 in
     let z = and_both (leb a e) (leb e (length script)) y in
