@@ -14,6 +14,7 @@ fn one_in(b: u8, low: u8, high: u8) -> u8
 }
 
 // Of at most 255 bytes.
+#[tactic(auto, using(crate::proofs::count::Laws::counting))]
 fn count_block(s: &[u8], from: usize, to: usize, low: u8, high: u8) -> u8
     requires { (from ≤ to) × (to ≤ length s.now) × (to ≤ from + 255) }
     ensures { result ≡ countIn low high (part s.now from to) }
@@ -39,6 +40,7 @@ fn block_end(i: usize, to: usize) -> usize
 }
 
 // How many bytes from `from` to `to`, which is not included, lie in the range from low to high.
+#[tactic(auto, using(crate::proofs::count::Laws::counting))]
 pub fn count_in(s: &[u8], from: usize, to: usize, low: u8, high: u8) -> usize
     requires { (from ≤ to) × (to ≤ length s.now) }
     ensures { result ≡ countIn low high (part s.now from to) }

@@ -6,6 +6,7 @@ use crate::count::count_in;
 
 // Which of the first `lines` numbers is the start of the line in which the place lies, counted from 0. By halves: of a part of the index that begins
 // at `low` one half goes with each turn, whatever the numbers are, so that the search ends for any.
+#[tactic(auto, using(crate::proofs::find::Laws::halves), unfolding(crate::specs::computed::Lines::searchOf))]
 pub fn find_line(index: &[u32], lines: usize, place: usize) -> usize
     requires { (1 ≤ lines) × (lines ≤ length index.now) }
     ensures value { result ≡ searchOf index.now lines place }
@@ -27,6 +28,7 @@ pub fn find_line(index: &[u32], lines: usize, place: usize) -> usize
 }
 
 // The column of a place in a line that starts at `start`: one more than the characters between the two.
+#[tactic(auto, using(crate::proofs::count::Laws::counting), unfolding(crate::specs::computed::Lines::columnSince))]
 pub fn find_column(script: &[u8], start: usize, place: usize) -> usize
     requires { place ≤ length script.now }
     ensures { result ≡ columnSince script.now start place }

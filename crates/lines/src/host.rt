@@ -20,6 +20,7 @@ pub enum Checked {
 }
 
 // The refusals of both functions but 20, 25 and 26, in their order: 17, 18.
+#[tactic(auto, using(crate::proofs::count::Laws::whole), unfolding(crate::specs::computed::Host::checkedOf, crate::specs::computed::Lines::lineCount))]
 fn check_script(script: &[u8]) -> Checked
     ensures { result ≡ checkedOf script.now }
 {
@@ -34,6 +35,7 @@ fn check_script(script: &[u8]) -> Checked
 }
 
 // The block has 16 bytes: refusal, place, number of lines, 0. Every refusal leaves the index as it was; 26 tells the number of lines too.
+#[tactic(auto, unfolding(crate::specs::computed::Host::indexSeen, crate::specs::computed::Host::builtBy, crate::specs::computed::Host::checkedOf))]
 pub fn index_lines(script: &[u8], index: &mut [u32], answer: &mut [u8]) -> u32
     ensures answer_after { seen result index.new answer.new ≡ indexSeen script.now index.old answer.old }
     ensures line_theorems { LineTheorems script.now }
@@ -60,6 +62,7 @@ pub fn index_lines(script: &[u8], index: &mut [u32], answer: &mut [u8]) -> u32
 }
 
 // The block has 16 bytes: refusal, place, line, column. Only the first numbers of the index are looked at, as many as there are lines.
+#[tactic(auto, using(crate::proofs::index::Laws::some_line), unfolding(crate::specs::computed::Host::positionTold, crate::specs::computed::Host::answeredBy, crate::specs::computed::Host::foundIn, crate::specs::computed::Host::checkedOf, entry::specs::paper::TokenText::hasText))]
 pub fn line_column(script: &[u8], index: &[u32], place: u32, answer: &mut [u8]) -> u32
     ensures answer_after { told result answer.new ≡ positionTold script.now index.now place answer.old }
     ensures line_theorems { LineTheorems script.now }

@@ -7,6 +7,7 @@ ghost use Rattle.lines.specs.code.Index.{noLf};
 
 pub const LF: u8 = 0x0A;
 
+#[tactic(auto, using(crate::proofs::index::Laws::no_lf))]
 fn two_free(s: &[u8], at: usize) -> bool
     requires { at + 2 ≤ length s.now }
     ensures { result ≡ noLf s.now at 2 }
@@ -14,6 +15,7 @@ fn two_free(s: &[u8], at: usize) -> bool
     (s[at] != LF) & (s[at + 1] != LF)
 }
 
+#[tactic(auto, using(crate::proofs::index::Laws::no_lf))]
 fn four_free(s: &[u8], at: usize) -> bool
     requires { at + 4 ≤ length s.now }
     ensures { result ≡ noLf s.now at 4 }
@@ -22,6 +24,7 @@ fn four_free(s: &[u8], at: usize) -> bool
 }
 
 // Whether no LF is among the eight bytes from a place on. `&` looks at all of them, without a branch.
+#[tactic(auto, using(crate::proofs::index::Laws::no_lf))]
 fn eight_free(s: &[u8], at: usize) -> bool
     requires { at + 8 ≤ length s.now }
     ensures { result ≡ noLf s.now at 8 }
@@ -30,6 +33,7 @@ fn eight_free(s: &[u8], at: usize) -> bool
 }
 
 // The starts behind the LFs from `from` to `to`, stored from the number `first` on: how many numbers are stored then.
+#[tactic(auto, using(crate::proofs::index::Laws::each_byte))]
 fn put_each(index: &mut [u32], first: usize, s: &[u8], from: usize, to: usize) -> usize
     requires { (from ≤ to) × (to ≤ length s.now) × (length s.now ≤ mostBytes) × (first + length (startsIn from (part s.now from to)) ≤ length index.old) }
     ensures value { result ≡ first + length (startsIn from (part s.now from to)) }
@@ -48,6 +52,7 @@ fn put_each(index: &mut [u32], first: usize, s: &[u8], from: usize, to: usize) -
 }
 
 // All starts, from the first number on. Eight bytes without an LF are passed at once.
+#[tactic(auto, using(crate::proofs::index::Laws::each_eight))]
 pub fn put_starts(index: &mut [u32], s: &[u8])
     requires { (length s.now ≤ mostBytes) × (lineCount s.now ≤ length index.old) }
     ensures { index.new ≡ startsOf s.now ++ drop (lineCount s.now) index.old }

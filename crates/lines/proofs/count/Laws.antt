@@ -84,20 +84,26 @@ module _ (low high : ℕ) where
   count-one b = refl
 
   -- nothing counted before the first byte
-  pub count_none : (s : List ℕ) (i : ℕ) → 0 ≡ countIn low high (part s i i)
+  pub count_none : (s : List ℕ) (i : ℕ) → countIn low high (part s i i) ≡ 0
   unfolding countIn
-  count_none s i = ap (countIn low high) (sym (part_none s i))
+  count_none s i = ap (countIn low high) (part_none s i)
 
   -- one byte more, and a part more
-  pub count-more : (s : List ℕ) (i j n : ℕ) {t : ℕ} → i ≤ j → j < length s → n ≡ countIn low high (part s i j) → t ≡ cond (between low high (get_or s j 0)) 1 0
-      → n + t ≡ countIn low high (part s i (j + 1))
-  count-more s i j n {t} h k e f =
-      ap (λ m. m + t) e ∙ ap (λ m. countIn low high (part s i j) + m) (f ∙ sym (count-one (get_or s j 0)))
-      ∙ sym (count-append (part s i j) (get_or s j 0 ∷ []))
-      ∙ ap (countIn low high) (sym (part-more s i j h k))
+  pub count-more : (s : List ℕ) (i j : ℕ) → i ≤ j → j < length s
+      → countIn low high (part s i (j + 1)) ≡ countIn low high (part s i j) + cond (between low high (get_or s j 0)) 1 0
+  count-more s i j h k =
+      ap (countIn low high) (part-more s i j h k)
+      ∙ count-append (part s i j) (get_or s j 0 ∷ [])
+      ∙ ap (λ m. countIn low high (part s i j) + m) (count-one (get_or s j 0))
 
   pub count-join : (s : List ℕ) (i j k : ℕ) → i ≤ j → j ≤ k → countIn low high (part s i j) + countIn low high (part s j k) ≡ countIn low high (part s i k)
   count-join s i j k h l = sym (count-append (part s i j) (part s j k)) ∙ ap (countIn low high) (sym (part_join s i j k h l))
 
   pub count-within : (s : List ℕ) (i j : ℕ) → j ≤ length s → countIn low high (part s i j) ≤ j - i
   count-within s i j h = let a = count_most (part s i j) in let b = part_length s i j h in omega arith
+
+-- for the functions that count
+pub ruleset counting = (count_none, count-more, count-join, count-within)
+
+-- over the whole script
+pub ruleset whole = (count_most, part-all)

@@ -10,11 +10,6 @@ use native.Mathlib.Omega.{arith}
 use borrow.Author.Tests.{leb-true, leb-false, le-leb, lt-leb}
 use Rattle.lines.specs.computed.Lines.{searchIn, searchOf, columnSince}
 
--- a place that is not behind the start is in the first column
-pub column-none : (s : List ℕ) (start a : ℕ) → a ≤ start → 1 ≡ columnSince s start a
-unfolding columnSince
-column-none s start a h = omega arith
-
 -- a column is at least 1, and at most one more than the place
 pub column-between : (s : List ℕ) (start a : ℕ) → (1 ≤ columnSince s start a) × (columnSince s start a ≤ a + 1)
 unfolding columnSince
@@ -127,3 +122,6 @@ module _ (index : List ℕ) (a : ℕ) where
 pub search-within : (index : List ℕ) (lines a : ℕ) → 1 ≤ lines → searchOf index lines a < lines
 unfolding searchOf
 search-within index lines a h = let r = search-below index a lines 0 lines (omega arith) h in omega arith
+
+-- for the loop that halves
+pub ruleset halves = (half, search-one, search-right, search-left)

@@ -1,6 +1,6 @@
 -- Both functions of the host, branch by branch.
-use Prim.Native.Nat.{ℕ, suc, ◌+◌, ◌≤◌, ◌<◌}
-use mathlib.Core.Path.{◌≡◌, refl, ◌∙◌, ap}
+use Prim.Native.Nat.{ℕ, ◌+◌, ◌≤◌, ◌<◌}
+use mathlib.Core.Path.{◌≡◌, refl}
 use mathlib.Core.Bool.{Bool, true, false, not, ◌&&◌}
 use mathlib.Core.List.{List, ◌++◌}
 use lib.ListN.{length, drop, get_or}
@@ -15,11 +15,10 @@ use Rattle.token.specs.paper.Records.{mostBytes}
 use Rattle.entry.specs.paper.Host.{seen}
 use Rattle.entry.specs.paper.TokenText.{insideCharacter, hasText}
 use Rattle.lines.specs.paper.Lines.{GoodPlace}
-use Rattle.lines.specs.computed.Lines.{part, countIn, startsOf, lineCount, searchOf, columnSince}
+use Rattle.lines.specs.computed.Lines.{startsOf, lineCount, searchOf, columnSince}
 use Rattle.lines.specs.computed.Host.{checkedOf, builtBy, indexSeen, foundIn, answeredBy, positionTold}
 use Rattle.lines.specs.declared.host.Checked.{Checked}
 use Rattle.lines.specs.declared.host.Checked.TheVariants as checked
-use Rattle.lines.proofs.count.Laws.{part-all}
 
 -- ---- 17, 18, the number of lines
 
@@ -36,11 +35,6 @@ module _ (s : List ℕ) where
     pub checked-good : length s ≤ v → checked.Lines (lineCount s) ≡ checkedOf s
     unfolding checkedOf
     checked-good x = rw (le-ltb mostBytes (length s) l, ← e, le-ltb v (length s) x)
-
-    -- counted over the whole script
-    pub checked-lines : length s ≤ v → (n : ℕ) → n ≡ countIn 0x0A 0x0A (part s 0 (length s)) → checked.Lines (n + 1) ≡ checkedOf s
-    unfolding lineCount
-    checked-lines x n q = ap checked.Lines (add-one n ∙ ap suc (q ∙ ap (countIn 0x0A 0x0A) (part-all s))) ∙ checked-good x
 
   -- and nothing else is answered
   pub data CheckedAs : Checked → Type 0 where
@@ -70,11 +64,6 @@ module _ (s : List ℕ) where
       go (long l) e = clash (cc)
       go (invalid l x) e = clash (cc)
       go (good l x) e = (l, cc)
-
--- a script has a line
-pub some-line : (s : List ℕ) → 1 ≤ lineCount s
-unfolding lineCount
-some-line s = omega arith
 
 -- ---- a good place
 

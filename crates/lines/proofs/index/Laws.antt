@@ -2,9 +2,9 @@
 use Prim.Native.Nat.{ℕ, zero, suc, ◌+◌, ◌-◌, ◌≤◌, ◌<◌}
 use mathlib.Core.Path.{◌≡◌, refl, sym, ◌∙◌, ap}
 use mathlib.Core.Bool.{Bool, true, false, cond, not, ◌&&◌}
-use mathlib.Core.List.{List, [], ◌∷◌, ◌++◌}
-use lib.ListN.{length, take, drop, get_or, set, length-append}
-use lib.Seq.{sets, take-add, drop-drop, drop-cons}
+use mathlib.Core.List.{List, [], ◌∷◌, ◌++◌, append-nil}
+use lib.ListN.{length, take, drop, get_or, set, length-append, length-set}
+use lib.Seq.{sets, length-sets, take-add, drop-drop, drop-cons}
 use lib.Dec.{eqb}
 use native.Mathlib.Nat.{zero-add, add-zero}
 use native.Mathlib.Numerals.{add-one}
@@ -88,7 +88,7 @@ module _ (s : List ℕ) where
       go true = refl
       go false = refl
 
-  pub no-lf-join : (i m n : ℕ) → noLf s i m && noLf s (i + m) n ≡ noLf s i (m + n)
+  no-lf-join : (i m n : ℕ) → noLf s i m && noLf s (i + m) n ≡ noLf s i (m + n)
   unfolding noLf
   no-lf-join i m n =
       let e : countIn 0x0A 0x0A (take (m + n) (drop i s)) ≡ countIn 0x0A 0x0A (take m (drop i s)) + countIn 0x0A 0x0A (take n (drop (i + m) s)) =
@@ -102,8 +102,14 @@ module _ (s : List ℕ) where
       sum zero b = ap (λ k. eqb k 0) (zero-add b)
       sum (suc a) b = rw (ne_eqb (suc a + b) 0 (λ z. omega arith), ne_eqb (suc a) 0 (λ z. omega arith))
 
-  pub no-lf-two : (i : ℕ) → i + 2 ≤ length s → not (eqb (get_or s i 0) 0x0A) && not (eqb (get_or s (i + 1) 0) 0x0A) ≡ noLf s i 2
-  no-lf-two i h = rw (← no-lf-one i (omega arith), ← no-lf-one (i + 1) (omega arith)) (no-lf-join i 1 1)
+  pub no-lf-two : (i : ℕ) → i + 2 ≤ length s → noLf s i 2 ≡ not (eqb (get_or s i 0) 0x0A) && not (eqb (get_or s (i + 1) 0) 0x0A)
+  no-lf-two i h = sym (rw (← no-lf-one i (omega arith), ← no-lf-one (i + 1) (omega arith)) (no-lf-join i 1 1))
+
+  pub no-lf-four : (i : ℕ) → noLf s i 4 ≡ noLf s i 2 && noLf s (i + 2) 2
+  no-lf-four i = sym (no-lf-join i 2 2)
+
+  pub no-lf-eight : (i : ℕ) → noLf s i 8 ≡ noLf s i 4 && noLf s (i + 4) 4
+  no-lf-eight i = sym (no-lf-join i 4 4)
 
   -- no line starts behind them
   pub starts-free : (i n : ℕ) → noLf s i n ≡ true → startsIn i (part s i (i + n)) ≡ []
@@ -117,30 +123,32 @@ module _ (s : List ℕ) where
       empty [] q = refl
       empty (x ∷ l) q = absurd (omega arith)
 
+-- for the tests
+pub ruleset no_lf = (no-lf-two, no-lf-four, no-lf-eight)
+
 -- ---- stores
 
 -- the starts up to a place, stored from a number on; then those of the next part
-pub starts-stored : (s l m : List ℕ) (w i j k n : ℕ) → i ≤ j → j ≤ k → j ≤ length s → m ≡ sets l w (startsIn i (part s i j))
-    → n ≡ w + length (startsIn i (part s i j)) → sets m n (startsIn j (part s j k)) ≡ sets l w (startsIn i (part s i k))
-starts-stored s l m w i j k n h g b e f =
-    after (startsIn i (part s i j)) (startsIn j (part s j k)) l m w n e f ∙ ap (sets l w) (sym (starts-join s i j k h g b))
+pub starts-stored : (s l : List ℕ) (w i j k : ℕ) → i ≤ j → j ≤ k → j ≤ length s
+    → sets (sets l w (startsIn i (part s i j))) (w + length (startsIn i (part s i j))) (startsIn j (part s j k)) ≡ sets l w (startsIn i (part s i k))
+starts-stored s l w i j k h g b =
+    after (startsIn i (part s i j)) (startsIn j (part s j k)) l _ w _ refl refl ∙ ap (sets l w) (sym (starts-join s i j k h g b))
 
 -- one byte: behind an LF one more is stored, behind another byte none
-module _ (s l m : List ℕ) (w i j n : ℕ) (h : i ≤ j) (b : j < length s) (e : n ≡ w + length (startsIn i (part s i j))) (f : m ≡ sets l w (startsIn i (part s i j))) where
-  abbrev Stored : ℕ → List ℕ → Type 0
-  Stored k t = (k ≡ w + length (startsIn i (part s i (j + 1)))) × (t ≡ sets l w (startsIn i (part s i (j + 1))))
-
-  pub stored-lf : get_or s j 0 ≡ 0x0A → Stored (n + 1) (set m n (j + 1))
-  stored-lf q =
+module _ (s : List ℕ) (i j : ℕ) (h : i ≤ j) (b : j < length s) where
+  pub count-lf : get_or s j 0 ≡ 0x0A → length (startsIn i (part s i (j + 1))) ≡ length (startsIn i (part s i j)) + 1
+  count-lf q =
       let o = one-lf s j b q in
       let c = starts-sum s i j (j + 1) h (omega arith) (omega arith) in
-      (omega (arith, ap length o), ap (λ t. sets m n t) (sym o) ∙ starts-stored s l m w i j (j + 1) n h (omega arith) (omega arith) f e)
+      omega (arith, ap length o)
 
-  pub stored_other : (get_or s j 0 ≡ 0x0A → ⊥) → Stored n m
-  stored_other q =
-      let o = one-other s j b q in
-      let c = starts-sum s i j (j + 1) h (omega arith) (omega arith) in
-      (omega (arith, ap length o), ap (λ t. sets m n t) (sym o) ∙ starts-stored s l m w i j (j + 1) n h (omega arith) (omega arith) f e)
+  pub stored-lf : (l : List ℕ) (w : ℕ) → get_or s j 0 ≡ 0x0A
+      → sets l w (startsIn i (part s i (j + 1))) ≡ set (sets l w (startsIn i (part s i j))) (w + length (startsIn i (part s i j))) (j + 1)
+  stored-lf l w q = sym (starts-stored s l w i j (j + 1) h (omega arith) (omega arith)) ∙ rw (one-lf s j b q)
+
+  pub none-other : (get_or s j 0 ≡ 0x0A → ⊥) → startsIn i (part s i (j + 1)) ≡ startsIn i (part s i j)
+  none-other q =
+      starts-join s i j (j + 1) h (omega arith) (omega arith) ∙ ap (λ l. startsIn i (part s i j) ++ l) (one-other s j b q) ∙ append-nil (startsIn i (part s i j))
 
 -- there is room for one more where there is room for all
 pub starts-room : (s : List ℕ) (i j k : ℕ) → i ≤ j → j < k → k ≤ length s → get_or s j 0 ≡ 0x0A
@@ -151,8 +159,11 @@ starts-room s i j k h b g q =
     let d = starts-sum s i (j + 1) k (omega arith) (omega arith) (omega arith) in
     omega (arith, ap length o)
 
--- all of them, with the first line's start
-pub starts-front : (s l : List ℕ) → lineCount s ≤ length l → sets l 0 (0 ∷ startsIn 0 (part s 0 (length s))) ≡ startsOf s ++ drop (lineCount s) l
+-- for the loop over the bytes
+pub ruleset each_byte = (starts_none, count-lf, stored-lf, none-other, starts-room, length-sets)
+
+-- all of them, behind the first line's start
+pub starts-front : (s l : List ℕ) → lineCount s ≤ length l → sets (set l 0 0) 1 (startsIn 0 (part s 0 (length s))) ≡ startsOf s ++ drop (lineCount s) l
 unfolding startsOf lineCount
 starts-front s l h =
     let c = starts-count 0 s in
@@ -161,15 +172,42 @@ starts-front s l h =
     ∙ ap (λ n. (0 ∷ startsIn 0 s) ++ drop (suc n) l) c
 
 -- as many numbers as lines are the first line's start and those behind LFs
-pub lines-all : (s : List ℕ) → lineCount s ≡ 1 + length (startsIn 0 (part s 0 (length s)))
+lines-all : (s : List ℕ) → lineCount s ≡ 1 + length (startsIn 0 (part s 0 (length s)))
 unfolding lineCount
 lines-all s = let c = starts-count 0 s in let e = ap (λ t. length (startsIn 0 t)) (part-all s) in omega arith
 
+-- a script has a line
+pub some_line : (s : List ℕ) → 1 ≤ lineCount s
+unfolding lineCount
+some_line s = omega arith
+
 -- so there is room for the starts of a part where there is room for all
 pub starts_fit : (s : List ℕ) (i j : ℕ) → i ≤ j → j ≤ length s
-    → 1 + length (startsIn 0 (part s 0 i)) + length (startsIn i (part s i j)) ≤ lineCount s
+    → length (startsIn i (part s i j)) + (1 + length (startsIn 0 (part s 0 i))) ≤ lineCount s
 starts_fit s i j h b =
     let l = lines-all s in
     let c = starts-sum s 0 i j (omega arith) h (omega arith) in
     let d = starts-sum s 0 j (length s) (omega arith) b b in
     omega arith
+
+-- before the first byte
+pub starts-begin : (i : ℕ) → startsIn i [] ≡ []
+unfolding startsIn
+starts-begin i = refl
+
+-- behind eight bytes without an LF it is the same
+pub same-free : (s : List ℕ) (i : ℕ) → i + 8 ≤ length s → noLf s i 8 ≡ true → startsIn 0 (part s 0 (i + 8)) ≡ startsIn 0 (part s 0 i)
+same-free s i h e =
+    starts-join s 0 i (i + 8) (omega arith) (omega arith) (omega arith) ∙ ap (λ l. startsIn 0 (part s 0 i) ++ l) (starts-free s i 8 e) ∙ append-nil (startsIn 0 (part s 0 i))
+
+-- and behind others as many more as start there
+module _ (s : List ℕ) (i k : ℕ) (h : i ≤ k) (b : k ≤ length s) where
+  pub sum-more : length (startsIn 0 (part s 0 k)) ≡ length (startsIn 0 (part s 0 i)) + length (startsIn i (part s i k))
+  sum-more = sym (starts-sum s 0 i k (omega arith) h (omega arith))
+
+  pub stored-more : (l : List ℕ)
+      → sets (sets l 1 (startsIn 0 (part s 0 i))) (1 + length (startsIn 0 (part s 0 i))) (startsIn i (part s i k)) ≡ sets l 1 (startsIn 0 (part s 0 k))
+  stored-more l = starts-stored s l 1 0 i k (omega arith) h (omega arith)
+
+-- for the loop over the script
+pub ruleset each_eight = (some_line, starts-begin, starts_fit, same-free, sum-more, stored-more, starts-front, length-sets, length-set)

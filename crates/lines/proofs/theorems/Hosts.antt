@@ -23,9 +23,9 @@ use Rattle.lines.specs.computed.Lines.{startsOf, lineCount, line_at, columnAt, s
 use Rattle.lines.specs.computed.Host.{checkedOf, indexSeen, positionTold}
 use Rattle.lines.specs.declared.host.Checked.{Checked}
 use Rattle.lines.specs.declared.host.Checked.TheVariants as checked
-use Rattle.lines.proofs.index.Laws.{lines-length}
+use Rattle.lines.proofs.index.Laws.{lines-length, some_line}
 use Rattle.lines.proofs.find.Laws.{column-between, search-within}
-use Rattle.lines.proofs.host.Laws.{CheckedAs, long, invalid, good, checked-as, checked-long, checked-invalid, checked-good, some-line, good-place, place-good, index-none, index-refused, index_short, index-built, position-none, position-refused, position-off, position-short, position-found}
+use Rattle.lines.proofs.host.Laws.{CheckedAs, long, invalid, good, checked-as, checked-long, checked-invalid, checked-good, good-place, place-good, index-none, index-refused, index_short, index-built, position-none, position-refused, position-off, position-short, position-found}
 use Rattle.lines.proofs.theorems.Starts.{starts-are}
 use Rattle.lines.proofs.theorems.Counting.{counted_is}
 use Rattle.lines.proofs.theorems.Finding.{finds-line, finds-column}
@@ -161,7 +161,7 @@ module _ (s : List ℕ) where
             (omega (arith, n))
             (λ is. counted t g (rw n at is))
             (omega arith)
-            (omega (arith, n, search-within index (lineCount s) a (some-line s)))
+            (omega (arith, n, search-within index (lineCount s) a (some_line s)))
             (column-between s _ a).0
             (column-between s _ a).1)
 

@@ -9,8 +9,8 @@ use Rattle.lines.proofs.theorems.Counting.{counted_is, only-good}
 use Rattle.lines.proofs.theorems.Hosts.{builds-are, index-unchanged, index-built-first, answers-are, answers-only, counted-told}
 use Rattle.lines.proofs.theorems.Examples.{line-examples}
 
-pub line-theorems : (script : List ℕ) → LineTheorems script
-line-theorems script = record {
+pub line_theorems : (script : List ℕ) → LineTheorems script
+line_theorems script = record {
   starts = starts-are script;
   line-starts = line-starts script;
   last_line = last_line script;
