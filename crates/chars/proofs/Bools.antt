@@ -7,10 +7,10 @@ use native.Mathlib.Omega.{arith}
 pub clash : {A : Type 0} → false ≡ true → A
 clash e = absurd (let z : ◌≡◌ {A = ℕ} 0 1 = cc in omega arith)
 
-pub and_both : (p q : Bool) → p && q ≡ true → (p ≡ true) × (q ≡ true)
-and_both true true e = (refl, refl)
-and_both true false e = clash e
-and_both false q e = clash e
+pub and-both : (p q : Bool) → p && q ≡ true → (p ≡ true) × (q ≡ true)
+and-both true true e = (refl, refl)
+and-both true false e = clash e
+and-both false q e = clash e
 
 pub or-neither : (p q : Bool) → p || q ≡ false → (p ≡ false) × (q ≡ false)
 or-neither true q e = clash (sym e)

@@ -31,31 +31,31 @@ pub carry-not : (f : ℕ → Bool) (l : List ℕ) (c : ℕ) → every (λ x. not
 carry-not f l c h e = not-true (f c) (carry (λ x. not (f x)) l c h e)
 
 -- a code at which a test holds that none of the list passes is not in the list
-pub no_member : (f : ℕ → Bool) (l : List ℕ) (c : ℕ) → every (λ x. not (f x)) l ≡ true → f c ≡ true → member l c ≡ false
-no_member f l c h e = go (member l c) refl
+pub no-member : (f : ℕ → Bool) (l : List ℕ) (c : ℕ) → every (λ x. not (f x)) l ≡ true → f c ≡ true → member l c ≡ false
+no-member f l c h e = go (member l c) refl
   where
     go : (b : Bool) → member l c ≡ b → b ≡ false
     go false q = refl
     go true q = let z = carry-not f l c h q in clash (cc)
 
-in_span : (a n c : ℕ) → a ≤ c → c < a + n → member (span a n) c ≡ true
-in_span a zero c h k = absurd (omega arith)
-in_span a (suc n) c h k = go (eqb c a) refl (λ z. in_span (suc a) n c z (omega arith))
+in-span : (a n c : ℕ) → a ≤ c → c < a + n → member (span a n) c ≡ true
+in-span a zero c h k = absurd (omega arith)
+in-span a (suc n) c h k = go (eqb c a) refl (λ z. in-span (suc a) n c z (omega arith))
   where
     go : (b : Bool) → eqb c a ≡ b → (a < c → member (span (suc a) n) c ≡ true) → b || member (span (suc a) n) c ≡ true
     go true q r = refl
     go false q r = r (let y = eqb-false c a q in omega (arith, y))
 
 pub carry-span : (f : ℕ → Bool) (a n c : ℕ) → every f (span a n) ≡ true → a ≤ c → c < a + n → f c ≡ true
-carry-span f a n c h p q = carry f (span a n) c h (in_span a n c p q)
+carry-span f a n c h p q = carry f (span a n) c h (in-span a n c p q)
 
 pub agree : (x y : Bool) → alike x y ≡ true → x ≡ y
 agree true y e = sym e
 agree false y e = sym (not-true y e)
 
 -- two tests that agree at n codes from a on
-pub each_same : (f g : ℕ → Bool) (a n c : ℕ) → every (λ x. alike (f x) (g x)) (span a n) ≡ true → a ≤ c → c < a + n → f c ≡ g c
-each_same f g a n c h p q = agree (f c) (g c) (carry-span (λ x. alike (f x) (g x)) a n c h p q)
+pub each-same : (f g : ℕ → Bool) (a n c : ℕ) → every (λ x. alike (f x) (g x)) (span a n) ≡ true → a ≤ c → c < a + n → f c ≡ g c
+each-same f g a n c h p q = agree (f c) (g c) (carry-span (λ x. alike (f x) (g x)) a n c h p q)
 
 -- ---- a set of ASCII characters as two masks: computed at each code of ASCII, and empty past it
 
@@ -68,7 +68,7 @@ pub mask-set : (low high : ℕ) (p : ℕ → Bool) → every (λ x. alike (bitIn
 mask-set low high p h w c = go (ltb c 0x80) refl
   where
     go : (b : Bool) → ltb c 0x80 ≡ b → bitIn low high c ≡ p c
-    go true e = let l = ltb-true c 0x80 e in each_same (bitIn low high) p 0 128 c h (omega arith) (omega arith)
+    go true e = let l = ltb-true c 0x80 e in each-same (bitIn low high) p 0 128 c h (omega arith) (omega arith)
     go false e = let l = ltb-false c 0x80 e in mask-none low high c l ∙ sym (w c l)
 
 -- ---- the keys of a match's arm

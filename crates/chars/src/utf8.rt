@@ -1,7 +1,7 @@
 // UTF-8 by the Unicode Standard, Table 3-7.
 ghost use Rattle.std.specs.Prelude.{◌≡◌, cond, [], ◌∷◌, ◌+◌, ◌<◌, ◌≤◌, ◌%◌, drop, get_or, length};
 ghost use Rattle.chars.specs.paper.Ranges.{◌to◌};
-ghost use Rattle.chars.specs.paper.Utf8.{fits, width, code_of, LongestValid};
+ghost use Rattle.chars.specs.paper.Utf8.{fits, width, codeOf, LongestValid};
 ghost use Rattle.chars.specs.code.Utf8.{decodeAt, rowsOver};
 ghost use Rattle.chars.specs.computed.Valid.{validPrefix};
 ghost use Rattle.chars.specs.promises.Utf8.{Decoding, ValidLaws, EncodingLaws};
@@ -103,7 +103,7 @@ fn six_bits(s: &[u8], at: usize) -> u32
 // The code of the character of w bytes at `at`, by the Unicode Standard, Table 3-6.
 fn code_at(s: &[u8], at: usize, w: usize) -> u32
     requires { at < length s.now }
-    ensures { result ≡ code_of w (drop at s.now) }
+    ensures { result ≡ codeOf w (drop at s.now) }
 {
     let a = s[at] as u32;
     if w <= 1 {

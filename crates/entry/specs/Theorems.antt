@@ -1,6 +1,6 @@
 -- What is proved of what the host sees, for every script, buffer and block. Proved: proofs/theorems/Hosts.
 use Rattle.std.specs.Prelude.{ℕ, ◌≤◌, ◌≡◌, ◌↔◌, List, [], ◌++◌, length, drop}
-use Rattle.words.specs.Words.{block_of}
+use Rattle.words.specs.Words.{blockOf}
 use Rattle.chars.specs.paper.Utf8.{WellFormed}
 use Rattle.token.specs.paper.Kinds.{Token}
 use Rattle.token.specs.paper.Reading.{Piece, Reading, Tokens}
@@ -24,7 +24,7 @@ pub record Accepts (script buffer block : List ℕ) : Type 0 where
   pub one-reading : (ps qs : List Piece) → Reading script ps → Reading script qs → ps ≡ qs
   pub has-tokens : (ps : List Piece) → Reading script ps → (ts : List Token) × Tokens script [] ps ts
   pub writes : (ps : List Piece) (ts : List Token) → Reading script ps → Tokens script [] ps ts
-      → hostOf script buffer block ≡ seen 0 (records ts ++ drop (recordBytes ts) buffer) (block_of 0 0 (tokenCount ts) (recordBytes ts))
+      → hostOf script buffer block ≡ seen 0 (records ts ++ drop (recordBytes ts) buffer) (blockOf 0 0 (tokenCount ts) (recordBytes ts))
 
 -- Of what the host sees.
 pub record HostTheorems (script buffer block : List ℕ) : Type 0 where

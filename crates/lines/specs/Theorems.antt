@@ -1,11 +1,11 @@
 -- What is proved of every script, a list of bytes. Proved: proofs/theorems.
 use Rattle.std.specs.Prelude.{ℕ, ◌+◌, ◌<◌, ◌≡◌, ◌↔◌, List, length, take, get_or}
-use Rattle.words.specs.Words.{block_of, Told, told, numberTold}
+use Rattle.words.specs.Words.{blockOf, Told, told, numberTold}
 use Rattle.chars.specs.paper.Utf8.{WellFormed}
 use Rattle.entry.specs.paper.Host.{Seen, numberSeen, bufferSeen}
 use Rattle.lines.specs.paper.Lines.{Starts, Position, GoodPlace}
 use Rattle.lines.specs.paper.Host.{Builds, Answers}
-use Rattle.lines.specs.computed.Lines.{startsOf, line_at, columnAt}
+use Rattle.lines.specs.computed.Lines.{startsOf, lineAt, columnAt}
 use Rattle.lines.specs.computed.Host.{indexSeen, positionTold}
 use Rattle.lines.specs.computed.Examples.{LineExamples}
 
@@ -14,9 +14,9 @@ pub record LineTheorems (script : List ℕ) : Type 0 where
   pub starts : (l : List ℕ) → (startsOf script ≡ l) ↔ Starts script l
   -- They are where counting from the first byte begins a line, the first of them line 1, and the script's end is in the last line.
   pub line-starts : (l : List ℕ) → Starts script l → (k : ℕ) → k < length l → Position script (get_or l k 0) (k + 1) 1
-  pub last_line : (l : List ℕ) → Starts script l → (c : ℕ) × Position script (length script) (length l) c
+  pub last-line : (l : List ℕ) → Starts script l → (c : ℕ) × Position script (length script) (length l) c
   -- Counting from the first byte of a well-formed script gives every good place one line and one column, and no other place any.
-  pub counted : WellFormed script → (a l c : ℕ) → GoodPlace script a → ((line_at script a ≡ l) × (columnAt script a ≡ c)) ↔ Position script a l c
+  pub counted : WellFormed script → (a l c : ℕ) → GoodPlace script a → ((lineAt script a ≡ l) × (columnAt script a ≡ c)) ↔ Position script a l c
   pub only-good : WellFormed script → (a l c : ℕ) → Position script a l c → GoodPlace script a
   -- What building shows is what is declared, and nothing else. Every refusal leaves the index as it was.
   pub builds : (index block : List ℕ) (x : Seen) → (indexSeen script index block ≡ x) ↔ Builds script index block x
@@ -24,10 +24,10 @@ pub record LineTheorems (script : List ℕ) : Type 0 where
   -- What a query tells is declared, and nothing else is: no other refusal, and over the script's line starts, with whatever numbers behind them, no
   -- other line and column.
   pub answers : (index : List ℕ) (a : ℕ) (block : List ℕ) → Answers script index a block (positionTold script index a block)
-  pub answers_one : (index : List ℕ) (a : ℕ) (block : List ℕ) (x : Told) → (numberTold x ≡ 0 → take (length (startsOf script)) index ≡ startsOf script)
+  pub answers-one : (index : List ℕ) (a : ℕ) (block : List ℕ) (x : Told) → (numberTold x ≡ 0 → take (length (startsOf script)) index ≡ startsOf script)
       → Answers script index a block x → positionTold script index a block ≡ x
   -- "Over the index built from that script, the indexed answer equals counting from the script's first byte."
   pub over-built : (index block : List ℕ) → numberSeen (indexSeen script index block) ≡ 0 → (a l c : ℕ) → Position script a l c
-      → (other : List ℕ) → length other ≡ 16 → positionTold script (bufferSeen (indexSeen script index block)) a other ≡ told 0 (block_of 0 0 l c)
+      → (other : List ℕ) → length other ≡ 16 → positionTold script (bufferSeen (indexSeen script index block)) a other ≡ told 0 (blockOf 0 0 l c)
   -- Examples come out as document 02 says.
   pub examples : LineExamples

@@ -13,7 +13,7 @@ pub enum Counted {
     Refused(u32, usize),
 }
 
-#[tactic(auto, unfolding(token::specs::code::Form::form_of))]
+#[tactic(auto, unfolding(token::specs::code::Form::formOf))]
 fn is_eof(kind: TokenKind) -> bool
     ensures { result ≡ isEof kind }
 {

@@ -5,8 +5,8 @@ use mathlib.Core.Option.{none, some}
 use native.Mathlib.Omega.{arith}
 
 -- What `cc` makes of two constructors that would be equal: cheaper than `omega`, which reads all in scope.
-pub zero_one : {B : Type 0} → ◌≡◌ {A = ℕ} 0 1 → B
-zero_one e = absurd (omega arith)
+pub zero-one : {B : Type 0} → ◌≡◌ {A = ℕ} 0 1 → B
+zero-one e = absurd (omega arith)
 
 pub no-some : {A B : Type 0} {x : A} → none ≡ some x → B
-no-some e = zero_one (cc)
+no-some e = zero-one (cc)

@@ -6,11 +6,11 @@ use mathlib.Core.Bool.{Bool, true, false, not, ◌&&◌, ◌||◌}
 use native.Mathlib.Omega.{arith}
 use lib.Dec.{ltb}
 use borrow.Author.Tests.{lt-ltb, ltb-true}
-use Rattle.chars.specs.paper.Quoted.{codes, one_of}
+use Rattle.chars.specs.paper.Quoted.{codes, oneOf}
 use Rattle.chars.specs.paper.Classes.{isIdStart, isIdChar, opSigns, isOpSign}
 use Rattle.chars.specs.promises.Codes.{every}
 use Rattle.chars.specs.promises.Classes.{lowStart, lowId}
-use Rattle.chars.proofs.Bools.{and_both}
+use Rattle.chars.proofs.Bools.{and-both}
 use Rattle.chars.proofs.theorems.Promises.{code_laws, class-laws}
 open code_laws use {carry, carry-not, every-sub}
 open class-laws use {sign-is, sign-no-start, byte-start, byte-id}
@@ -18,17 +18,17 @@ open class-laws use {sign-is, sign-no-start, byte-start, byte-id}
 -- ---- operator signs
 
 -- none of the quoted characters is one, where none of them is quoted in `opSigns`
-pub sign-not : (t : String) → every (λ x. not (one_of opSigns x)) (codes t) ≡ true → every (λ x. not (isOpSign x)) (codes t) ≡ true
-sign-not t h = every-sub (λ x. not (one_of opSigns x)) (λ x. not (isOpSign x)) (codes t) h (λ c e. ap not (sign-is c) ∙ e)
+pub sign-not : (t : String) → every (λ x. not (oneOf opSigns x)) (codes t) ≡ true → every (λ x. not (isOpSign x)) (codes t) ≡ true
+sign-not t h = every-sub (λ x. not (oneOf opSigns x)) (λ x. not (isOpSign x)) (codes t) h (λ c e. ap not (sign-is c) ∙ e)
 
-pub no_sign : (t : String) → every (λ x. not (one_of opSigns x)) (codes t) ≡ true → (c : ℕ) → one_of t c ≡ true → isOpSign c ≡ false
-no_sign t h c e = carry-not isOpSign (codes t) c (sign-not t h) e
+pub no-sign : (t : String) → every (λ x. not (oneOf opSigns x)) (codes t) ≡ true → (c : ℕ) → oneOf t c ≡ true → isOpSign c ≡ false
+no-sign t h c e = carry-not isOpSign (codes t) c (sign-not t h) e
 
-pub sign-no-under : (c : ℕ) → isOpSign c ≡ true → one_of "_" c ≡ false
-sign-no-under c e = carry-not (one_of "_") (codes opSigns) c refl (sym (sign-is c) ∙ e)
+pub sign-no-under : (c : ℕ) → isOpSign c ≡ true → oneOf "_" c ≡ false
+sign-no-under c e = carry-not (oneOf "_") (codes opSigns) c refl (sym (sign-is c) ∙ e)
 
-pub sign-no-semi : (c : ℕ) → isOpSign c ≡ true → one_of ";" c ≡ false
-sign-no-semi c e = carry-not (one_of ";") (codes opSigns) c refl (sym (sign-is c) ∙ e)
+pub sign-no-semi : (c : ℕ) → isOpSign c ≡ true → oneOf ";" c ≡ false
+sign-no-semi c e = carry-not (oneOf ";") (codes opSigns) c refl (sym (sign-is c) ∙ e)
 
 pub nul-no-sign : isOpSign 0 ≡ false
 nul-no-sign = sign-is 0
@@ -37,7 +37,7 @@ pub slash-sign : isOpSign 0x2F ≡ true
 slash-sign = sign-is 0x2F
 
 -- of a byte
-pub byte-sign : (b : ℕ) → ltb b 0x80 && isOpSign b ≡ ltb b 0x80 && one_of opSigns b
+pub byte-sign : (b : ℕ) → ltb b 0x80 && isOpSign b ≡ ltb b 0x80 && oneOf opSigns b
 byte-sign b = ap (λ z. ltb b 0x80 && z) (sign-is b)
 
 pub sign-byte : (b : ℕ) → b < 0x80 → isOpSign b ≡ ltb b 0x80 && isOpSign b
@@ -55,7 +55,7 @@ pub slash-no-start : isIdStart 0x2F ≡ false
 slash-no-start = low-start 0x2F (omega arith)
 
 -- `_` is no id character
-pub under-no-id : (c : ℕ) → one_of "_" c ≡ true → isIdChar c ≡ false
+pub under-no-id : (c : ℕ) → oneOf "_" c ≡ true → isIdChar c ≡ false
 under-no-id c e =
     let z : isIdChar 0x5F ≡ false = low-id 0x5F (omega arith) in
     carry-not isIdChar (codes "_") c (rw z) e
@@ -64,18 +64,18 @@ under-no-id c e =
 abbrev pub others : String
 others = " \t\n\r()[]{},;.`\"'0123456789!#%&*+-/:<=>?@\\^|~⇒"
 
-other-no-start : (c : ℕ) → one_of others c ≡ true → not (isIdStart c) ≡ true
-other-no-start c e = go (one_of opSigns c) refl (carry (λ x. one_of opSigns x || (ltb x 0x80 && not (lowStart x))) (codes others) c refl e)
+other-no-start : (c : ℕ) → oneOf others c ≡ true → not (isIdStart c) ≡ true
+other-no-start c e = go (oneOf opSigns c) refl (carry (λ x. oneOf opSigns x || (ltb x 0x80 && not (lowStart x))) (codes others) c refl e)
   where
-    go : (b : Bool) → one_of opSigns c ≡ b → b || (ltb c 0x80 && not (lowStart c)) ≡ true → not (isIdStart c) ≡ true
+    go : (b : Bool) → oneOf opSigns c ≡ b → b || (ltb c 0x80 && not (lowStart c)) ≡ true → not (isIdStart c) ≡ true
     go true q h = ap not (sign-no-start c (sign-is c ∙ q))
     go false q h =
-        let k = and_both (ltb c 0x80) (not (lowStart c)) h in
+        let k = and-both (ltb c 0x80) (not (lowStart c)) h in
         ap not (low-start c (ltb-true c 0x80 k.0)) ∙ k.1
 
 -- none of the quoted characters is an id start, where each of them is quoted in `others`
-pub start-not : (t : String) → every (one_of others) (codes t) ≡ true → every (λ x. not (isIdStart x)) (codes t) ≡ true
-start-not t h = every-sub (one_of others) (λ x. not (isIdStart x)) (codes t) h other-no-start
+pub start-not : (t : String) → every (oneOf others) (codes t) ≡ true → every (λ x. not (isIdStart x)) (codes t) ≡ true
+start-not t h = every-sub (oneOf others) (λ x. not (isIdStart x)) (codes t) h other-no-start
 
-pub no_start : (t : String) → every (one_of others) (codes t) ≡ true → (c : ℕ) → one_of t c ≡ true → isIdStart c ≡ false
-no_start t h c e = carry-not isIdStart (codes t) c (start-not t h) e
+pub no-start : (t : String) → every (oneOf others) (codes t) ≡ true → (c : ℕ) → oneOf t c ≡ true → isIdStart c ≡ false
+no-start t h c e = carry-not isIdStart (codes t) c (start-not t h) e

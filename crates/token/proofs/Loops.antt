@@ -12,9 +12,9 @@ pub record Going {A : Type 0} (test : A → Bool) (step : A → A) (end x : A) (
   pub same : stepsWhile test step turns x ≡ end
 
 module _ {A : Type 0} (test : A → Bool) (step : A → A) where
-  steps_on : (m : ℕ) (x : A) → test x ≡ true → stepsWhile test step (suc m) x ≡ stepsWhile test step m (step x)
+  steps-on : (m : ℕ) (x : A) → test x ≡ true → stepsWhile test step (suc m) x ≡ stepsWhile test step m (step x)
   unfolding stepsWhile
-  steps_on m x e = rw e
+  steps-on m x e = rw e
 
   steps-stop : (m : ℕ) (x : A) → test x ≡ false → stepsWhile test step m x ≡ x
   unfolding stepsWhile
@@ -22,12 +22,12 @@ module _ {A : Type 0} (test : A → Bool) (step : A → A) where
   steps-stop (suc m) x e = rw e
 
   -- one turn more, and the end
-  pub going_on : (end x : A) (left less : ℕ) → test x ≡ true → less < left → Going test step end x left → Going test step end (step x) less
-  going_on end x left less e l g = go g.turns g.enough g.same
+  pub going-on : (end x : A) (left less : ℕ) → test x ≡ true → less < left → Going test step end x left → Going test step end (step x) less
+  going-on end x left less e l g = go g.turns g.enough g.same
     where
       go : (m : ℕ) → left ≤ m → stepsWhile test step m x ≡ end → Going test step end (step x) less
       go zero h q = absurd (omega arith)
-      go (suc m) h q = record { turns = m; enough = omega arith; same = sym (steps_on m x e) ∙ q }
+      go (suc m) h q = record { turns = m; enough = omega arith; same = sym (steps-on m x e) ∙ q }
 
   pub going-stop : (end x : A) (left : ℕ) → test x ≡ false → Going test step end x left → x ≡ end
   going-stop end x left e g = sym (steps-stop g.turns x e) ∙ g.same

@@ -24,7 +24,7 @@ pub record Theorems (script : List ℕ) : Type 0 where
   pub one-refusal : (i j a b : ℕ) → Refused script i a → Refused script j b → (i ≡ j) × (a ≡ b)
   -- No answer is left open: a reading, or a refusal; never both.
   pub decided : ((ps : List Piece) × Reading script ps) ⊎ ((j : ℕ) × (a : ℕ) × Refused script j a)
-  pub never_both : (ps : List Piece) (j a : ℕ) → Reading script ps → Refused script j a → ⊥
+  pub never-both : (ps : List Piece) (j a : ℕ) → Reading script ps → Refused script j a → ⊥
   -- Its record bytes are the sum of the records' lengths.
   pub bytes : (ts : List Token) → length (records ts) ≡ recordBytes ts
   -- A script of n bytes needs at most 17 times n plus 13 bytes.

@@ -12,7 +12,7 @@
 // may make more of a word or a run that it follows directly.
 ghost use Rattle.std.specs.Prelude.{◌≡◌, ◌+◌, ◌*◌, ◌<◌, eqb};
 ghost use Rattle.token.specs.paper.Records.{headLength};
-ghost use Rattle.token.specs.code.ByteClass.{class_of, class_at, ByteClasses, keywordClass, upToBlank, startsWord, in_word, asksMore, isSign, inRun, isOrdinary};
+ghost use Rattle.token.specs.code.ByteClass.{classOf, classAt, ByteClasses, keywordClass, upToBlank, startsWord, inWord, asksMore, isSign, inRun, isOrdinary};
 
 use crate::cursor::byte_at;
 use crate::kinds::TokenKind;
@@ -58,7 +58,7 @@ pub const SIGN: u8 = 160;
 // The class of a byte.
 pub fn class_of(t: &[u8; 256], b: u8) -> u8
     requires { ByteClasses t.now }
-    ensures { result ≡ class_of b }
+    ensures { result ≡ classOf b }
 {
     t[b as usize]
 }
@@ -66,7 +66,7 @@ pub fn class_of(t: &[u8; 256], b: u8) -> u8
 // The class of the byte at a place; past the end that of 0, with which no token begins.
 pub fn class_at(s: &[u8], t: &[u8; 256], at: usize) -> u8
     requires { ByteClasses t.now }
-    ensures { result ≡ class_at s.now at }
+    ensures { result ≡ classAt s.now at }
 {
     class_of(t, byte_at(s, at))
 }
@@ -94,7 +94,7 @@ pub fn starts_keyword(e: u8) -> bool
 
 // An ASCII id character or `_`?
 pub fn in_word(e: u8) -> bool
-    ensures { result ≡ in_word e }
+    ensures { result ≡ inWord e }
 {
     e / 64 % 2 == 1
 }

@@ -4,8 +4,8 @@ ghost use Rattle.chars.specs.paper.Classes.{isPrintable};
 ghost use Rattle.chars.specs.paper.Text.{from};
 ghost use Rattle.token.specs.paper.Tests.{apostrophe, opSign};
 ghost use Rattle.token.specs.computed.Answer.{tickNext, scanCharSym};
-ghost use Rattle.token.specs.code.Piece.{piece_of};
-ghost use Rattle.token.specs.code.Charsym.{escapedChar, symbol_of};
+ghost use Rattle.token.specs.code.Piece.{pieceOf};
+ghost use Rattle.token.specs.code.Charsym.{escapedChar, symbolOf};
 
 use crate::cursor::{Cursor, Peeked, byte_at};
 use crate::ident::{consume_op_run, opens_comment, skip_id_rest};
@@ -16,7 +16,7 @@ use crate::string::consume_escape;
 // A character or a symbol, from its `'` on.
 pub fn lex_char_sym(s: &[u8], c: Cursor) -> Piece
     requires { (c.at ≤ length s.now) × (apostrophe (from s.now c.at) ≡ true) }
-    ensures { result ≡ piece_of (length s.now) (scanCharSym (from s.now c.at)) }
+    ensures { result ≡ pieceOf (length s.now) (scanCharSym (from s.now c.at)) }
 {
     let name = Cursor { at: c.at + 1 };
     let here = name.peek(s);
@@ -35,7 +35,7 @@ pub fn lex_char_sym(s: &[u8], c: Cursor) -> Piece
 // A character that is an escape, from behind its backslash.
 fn lex_escaped_char(s: &[u8], c: Cursor) -> Piece
     requires { c.at ≤ length s.now }
-    ensures { result ≡ piece_of (length s.now) (escapedChar (from s.now c.at)) }
+    ensures { result ≡ pieceOf (length s.now) (escapedChar (from s.now c.at)) }
 {
     let escape = consume_escape(s, c);
     match escape {
@@ -48,7 +48,7 @@ fn lex_escaped_char(s: &[u8], c: Cursor) -> Piece
 #[tactic(auto, using(crate::proofs::charsym::Laws::tick_next))]
 fn close_char(s: &[u8], c: Cursor) -> Piece
     requires { c.at ≤ length s.now }
-    ensures { result ≡ piece_of (length s.now) (tickNext (from s.now c.at)) }
+    ensures { result ≡ pieceOf (length s.now) (tickNext (from s.now c.at)) }
 {
     if byte_at(s, c.at) != 0x27 {
         return Piece::Refused(15, c.at);
@@ -69,7 +69,7 @@ fn closes_char(s: &[u8], code: u32, next: Cursor) -> bool
 // A symbol from behind its `'`: an identifier or keyword, an operator run, or `;` not before an operator sign.
 fn lex_symbol(s: &[u8], c: Cursor) -> Piece
     requires { c.at ≤ length s.now }
-    ensures { result ≡ piece_of (length s.now) (symbol_of (from s.now c.at)) }
+    ensures { result ≡ pieceOf (length s.now) (symbolOf (from s.now c.at)) }
 {
     let here = c.peek(s);
     let Peeked::Char(code, next) = here else {

@@ -1,10 +1,10 @@
 // A place in a script, and what stands there.
 ghost use Rattle.std.specs.Prelude.{◌≡◌, ◌+◌, ◌≤◌, ◌&&◌, eqb, length, drop, get_or};
-ghost use Rattle.chars.specs.paper.Quoted.{one_of};
+ghost use Rattle.chars.specs.paper.Quoted.{oneOf};
 ghost use Rattle.chars.specs.paper.Text.{from};
 ghost use Rattle.chars.specs.computed.Runs.{afterRun};
 ghost use Rattle.token.specs.paper.Tests.{isAny};
-ghost use Rattle.token.specs.code.Cursor.{peek_at};
+ghost use Rattle.token.specs.code.Cursor.{peekAt};
 
 use chars::text::Step;
 
@@ -50,7 +50,7 @@ impl Cursor {
     }
 
     pub fn peek(self, s: &[u8]) -> Peeked
-        ensures { result ≡ peek_at s.now self.at }
+        ensures { result ≡ peekAt s.now self.at }
     {
         let here = chars::text::char_at(s, self.at);
         match here {
@@ -103,7 +103,7 @@ pub fn skip_more(s: &[u8], at: usize) -> Cursor
 }
 
 fn is_blank(b: u8) -> bool
-    ensures { result ≡ one_of " \t" b }
+    ensures { result ≡ oneOf " \t" b }
 {
     match b {
         0x09 | 0x20 => true,

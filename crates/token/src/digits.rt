@@ -2,9 +2,9 @@
 ghost use Rattle.std.specs.Prelude.{◌≡◌, ◌⊎◌, ◌+◌, ◌*◌, ◌≤◌, ◌<◌, length};
 ghost use Rattle.chars.specs.paper.Text.{from};
 ghost use Rattle.token.specs.paper.Tests.{hexAhead};
-ghost use Rattle.token.specs.computed.Answer.{numeral, readDigits, number_of, scanNumber};
-ghost use Rattle.token.specs.code.Digits.{digitIn, digitOf, afterUpTo, value_of, intOr};
-ghost use Rattle.token.specs.code.Piece.{piece_of};
+ghost use Rattle.token.specs.computed.Answer.{numeral, readDigits, numberOf, scanNumber};
+ghost use Rattle.token.specs.code.Digits.{digitIn, digitOf, afterUpTo, valueOf, intOr};
+ghost use Rattle.token.specs.code.Piece.{pieceOf};
 
 use crate::cursor::{Cursor, byte_at};
 use crate::kinds::TokenKind;
@@ -70,10 +70,10 @@ pub fn consume_digits(s: &[u8], c: Cursor, base: u64, most: usize) -> Cursor
 }
 
 // A value with one more digit. Most values are far from the limit, and only the others need a division.
-#[tactic(auto, unfolding(crate::specs::code::Digits::value_of))]
+#[tactic(auto, unfolding(crate::specs::code::Digits::valueOf))]
 fn push_digit(v: u64, d: u64, base: u64) -> Value
     requires { (d < 16) × ((base ≡ 10) ⊎ (base ≡ 16)) }
-    ensures { result ≡ value_of (v * base + d) }
+    ensures { result ≡ valueOf (v * base + d) }
 {
     if v <= Value::SAFE_MOST {
         return Value::Of(v * base + d);
@@ -103,7 +103,7 @@ pub fn hex_ahead(s: &[u8], c: Cursor) -> bool
 // The number from its digits on; start is where it begins. One walk finds the digits' end and their value.
 fn number_from(s: &[u8], start: usize, c: Cursor, base: u64) -> Piece
     requires { (start ≤ c.at) × (c.at ≤ length s.now) × ((base ≡ 10) ⊎ (base ≡ 16)) }
-    ensures { result ≡ piece_of (length s.now) (number_of (from s.now start) (readDigits (digitIn base) base 0 (from s.now c.at))) }
+    ensures { result ≡ pieceOf (length s.now) (numberOf (from s.now start) (readDigits (digitIn base) base 0 (from s.now c.at))) }
 {
     let mut v: u64 = 0;
     let mut i = c.at;
@@ -124,7 +124,7 @@ fn number_from(s: &[u8], start: usize, c: Cursor, base: u64) -> Piece
 // The number of this value whose digits end at a place: `L` or `l` makes it a LongLit.
 fn number_end(s: &[u8], start: usize, v: u64, end: usize) -> Piece
     requires { (start ≤ end) × (end ≤ length s.now) × (v ≤ 9223372036854775807) }
-    ensures { result ≡ piece_of (length s.now) (number_of (from s.now start) (numeral v (from s.now end))) }
+    ensures { result ≡ pieceOf (length s.now) (numberOf (from s.now start) (numeral v (from s.now end))) }
 {
     match byte_at(s, end) {
         0x4C | 0x6C => Piece::Token(TokenKind::LongLit(v), Cursor { at: end + 1 }),
@@ -145,7 +145,7 @@ fn int_literal(start: usize, v: u64, end: Cursor) -> Piece
 
 pub fn lex_number(s: &[u8], c: Cursor) -> Piece
     requires { c.at ≤ length s.now }
-    ensures { result ≡ piece_of (length s.now) (scanNumber (from s.now c.at)) }
+    ensures { result ≡ pieceOf (length s.now) (scanNumber (from s.now c.at)) }
 {
     let at = c.at;
     if hex_ahead(s, c) {

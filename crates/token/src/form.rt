@@ -2,7 +2,7 @@
 ghost use Rattle.std.specs.Prelude.{◌≡◌, false, ◌+◌, ◌-◌, ◌≤◌, length, take};
 ghost use Rattle.std.proofs.lemmas.List.Edits.{sets};
 ghost use Rattle.token.specs.paper.Records.{headLength, lineLength, strLength, intLength, longLength};
-ghost use Rattle.token.specs.code.Form.{mostLength, form_of, plainForm, Known, headNumber, headBytes, byForm, valuesAt, held_at, RecordForm};
+ghost use Rattle.token.specs.code.Form.{mostLength, formOf, plainForm, Known, headNumber, headBytes, byForm, valuesAt, heldAt, RecordForm};
 ghost use Rattle.words.specs.Words.{le8};
 ghost use Rattle.token.specs.code.Records.{storedIf};
 ghost use Rattle.token.specs.declared.kinds.TokenKind.TheVariants as tk;
@@ -96,7 +96,7 @@ pub fn put_plain_if(out: &mut [u8], w: usize, number: u16, start: usize, end: us
 #[tactic(auto, using(crate::proofs::form::Shapes::fitting))]
 pub fn put_line_if(out: &mut [u8], w: usize, start: usize, end: usize, mark: bool)
     requires { w + lineLength ≤ 18446744073709551615 }
-    ensures { out.new ≡ storedIf out.old w (byForm (form_of (tk.Newline mark)) start end false) }
+    ensures { out.new ≡ storedIf out.old w (byForm (formOf (tk.Newline mark)) start end false) }
 {
     if w + TokenKind::NEWLINE_LENGTH as usize <= out.len() {
         put_head(
@@ -116,7 +116,7 @@ pub fn put_line_if(out: &mut [u8], w: usize, start: usize, end: usize, mark: boo
 #[tactic(auto, using(crate::proofs::form::Shapes::fitting))]
 pub fn put_str_if(out: &mut [u8], w: usize, start: usize, end: usize, from: usize, to: usize)
     requires { w + strLength ≤ 18446744073709551615 }
-    ensures { out.new ≡ storedIf out.old w (byForm (form_of (tk.Str from to)) start end false) }
+    ensures { out.new ≡ storedIf out.old w (byForm (formOf (tk.Str from to)) start end false) }
 {
     if w + TokenKind::STR_LENGTH as usize <= out.len() {
         put_head(
@@ -137,7 +137,7 @@ pub fn put_str_if(out: &mut [u8], w: usize, start: usize, end: usize, from: usiz
 #[tactic(auto, using(crate::proofs::form::Shapes::fitting))]
 pub fn put_int_if(out: &mut [u8], w: usize, start: usize, end: usize, v: u64)
     requires { w + intLength ≤ 18446744073709551615 }
-    ensures { out.new ≡ storedIf out.old w (byForm (form_of (tk.IntLit v)) start end false) }
+    ensures { out.new ≡ storedIf out.old w (byForm (formOf (tk.IntLit v)) start end false) }
 {
     if w + TokenKind::INT_LIT_LENGTH as usize <= out.len() {
         put_head(
@@ -161,7 +161,7 @@ pub fn put_int_if(out: &mut [u8], w: usize, start: usize, end: usize, v: u64)
 #[tactic(auto, using(crate::proofs::form::Shapes::fitting))]
 pub fn put_long_if(out: &mut [u8], w: usize, start: usize, end: usize, v: u64)
     requires { w + longLength ≤ 18446744073709551615 }
-    ensures { out.new ≡ storedIf out.old w (byForm (form_of (tk.LongLit v)) start end false) }
+    ensures { out.new ≡ storedIf out.old w (byForm (formOf (tk.LongLit v)) start end false) }
 {
     if w + TokenKind::LONG_LIT_LENGTH as usize <= out.len() {
         put_head(
@@ -210,10 +210,10 @@ fn read_values(bytes: &[u8], at: usize, size: u64) -> u64
 
 // Every record is read here. Every byte is allowed: past the end a byte counts as 0. The second clause: what is stored is read back, and what is
 // read is stored again.
-#[tactic(auto, using(crate::proofs::form::ReadBack::reads), unfolding(crate::specs::code::Form::held_at))]
+#[tactic(auto, using(crate::proofs::form::ReadBack::reads), unfolding(crate::specs::code::Form::heldAt))]
 pub fn read_record(bytes: &[u8], at: usize) -> Held
     requires { at + mostLength ≤ 18446744073709551615 }
-    ensures value { result ≡ held_at bytes.now at }
+    ensures value { result ≡ heldAt bytes.now at }
     ensures record_form { RecordForm }
 {
     let length = two(bytes, at);

@@ -3,7 +3,7 @@ ghost use Rattle.std.specs.Prelude.{◌≡◌, true, not, ◌||◌, ◌+◌, ◌
 ghost use Rattle.chars.specs.paper.Text.{from};
 ghost use Rattle.chars.specs.computed.Runs.{afterRun};
 ghost use Rattle.token.specs.paper.Tests.{endOfLine, endsLine, opensLine, opensBlock};
-ghost use Rattle.token.specs.computed.Flags.{GapKind, fresh, push, cut_of};
+ghost use Rattle.token.specs.computed.Flags.{GapKind, fresh, push, cutOf};
 ghost use Rattle.token.specs.computed.Answer.{close};
 ghost use Rattle.token.specs.code.Gap.{closedOf, fourOpen, openings, lineEndAfter, blockEnd};
 
@@ -72,7 +72,7 @@ impl Gap {
 
     // The cut of the token that ends the gap.
     pub fn cut_of(self) -> bool
-        ensures { result ≡ cut_of self }
+        ensures { result ≡ cutOf self }
     {
         either(self.cut, self.pending)
     }

@@ -6,7 +6,7 @@ ghost use Rattle.chars.specs.code.Text.{charEnd};
 ghost use Rattle.chars.specs.computed.Runs.{afterRun};
 ghost use Rattle.token.specs.paper.Tests.{isAny, opSign, freeSign, opensComment};
 ghost use Rattle.token.specs.computed.Answer.{afterIdent, orPrefixed, scanIdent, scanOperator, scanBacktick};
-ghost use Rattle.token.specs.code.Piece.{piece_of};
+ghost use Rattle.token.specs.code.Piece.{pieceOf};
 
 use crate::cursor::{Cursor, byte_at, two_at};
 use crate::keyword::{run_number, word_number};
@@ -131,7 +131,7 @@ pub fn opens_comment(s: &[u8], c: Cursor) -> bool
 // An identifier or a backtick from `start` to c, or the string that it prefixes.
 fn or_prefixed(s: &[u8], kind: TokenKind, start: usize, c: Cursor) -> Piece
     requires { (start ≤ c.at) × (c.at ≤ length s.now) }
-    ensures { result ≡ piece_of (length s.now) (orPrefixed (length s.now) kind (from s.now start) (from s.now c.at)) }
+    ensures { result ≡ pieceOf (length s.now) (orPrefixed (length s.now) kind (from s.now start) (from s.now c.at)) }
 {
     if byte_at(s, c.at) == 0x22 {
         return lex_prefixed_string(s, start, c);
@@ -142,7 +142,7 @@ fn or_prefixed(s: &[u8], kind: TokenKind, start: usize, c: Cursor) -> Piece
 // An identifier, a keyword, or the string that an identifier prefixes. Its first character ends at `rest`.
 pub fn lex_ident(s: &[u8], c: Cursor, rest: Cursor) -> Piece
     requires { (c.at ≤ length s.now) × (headIs isIdStart (from s.now c.at) ≡ true) × (rest.at ≤ length s.now) × (from s.now rest.at ≡ drop 1 (from s.now c.at)) }
-    ensures { result ≡ piece_of (length s.now) (scanIdent (length s.now) (from s.now c.at)) }
+    ensures { result ≡ pieceOf (length s.now) (scanIdent (length s.now) (from s.now c.at)) }
 {
     let end = skip_id_rest(s, rest);
     let word = keyword_of(word_number(s, c.at, end.at));
@@ -155,7 +155,7 @@ pub fn lex_ident(s: &[u8], c: Cursor, rest: Cursor) -> Piece
 // An operator; a keyword's run is an operator where a comment follows directly.
 pub fn lex_op_run(s: &[u8], c: Cursor) -> Piece
     requires { c.at ≤ length s.now }
-    ensures { result ≡ piece_of (length s.now) (scanOperator (from s.now c.at)) }
+    ensures { result ≡ pieceOf (length s.now) (scanOperator (from s.now c.at)) }
 {
     let end = consume_op_run(s, c);
     let run = keyword_of(run_number(s, c.at, end.at));
@@ -173,7 +173,7 @@ pub fn lex_op_run(s: &[u8], c: Cursor) -> Piece
 // A backtick or the string that it prefixes. A character past ASCII has no byte of a backtick, so bytes are enough.
 pub fn lex_backtick(s: &[u8], c: Cursor) -> Piece
     requires { (c.at ≤ length s.now) × (isAny "`" (from s.now c.at) ≡ true) }
-    ensures { result ≡ piece_of (length s.now) (scanBacktick (length s.now) (from s.now c.at)) }
+    ensures { result ≡ pieceOf (length s.now) (scanBacktick (length s.now) (from s.now c.at)) }
 {
     let start = c.at;
     let mut i = start + 1;

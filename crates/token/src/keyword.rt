@@ -3,7 +3,7 @@ ghost use Rattle.std.specs.Prelude.{◌≡◌, cond, [], ◌∷◌, ◌+◌, ◌
 ghost use Rattle.words.specs.Words.{twoAt, fourAt};
 ghost use Rattle.chars.specs.paper.Text.{from};
 ghost use Rattle.chars.specs.promises.Texts.{Suffix};
-ghost use Rattle.token.specs.paper.Kinds.{word_of, run_of, wordKeywords};
+ghost use Rattle.token.specs.paper.Kinds.{wordOf, runOf, wordKeywords};
 ghost use Rattle.token.specs.computed.Answer.{codesTo};
 ghost use Rattle.token.specs.code.Keyword.{numberOr, keywordAt};
 
@@ -87,7 +87,7 @@ fn eight_number(s: &[u8], at: usize) -> u16
 #[tactic(auto, using(crate::proofs::keyword::Laws::keywords))]
 pub fn word_number(s: &[u8], at: usize, end: usize) -> u16
     requires { (at ≤ end) × (end ≤ length s.now) × Suffix (from s.now end) (from s.now at) }
-    ensures { result ≡ numberOr 1 (word_of (codesTo (from s.now at) (from s.now end))) }
+    ensures { result ≡ numberOr 1 (wordOf (codesTo (from s.now at) (from s.now end))) }
 {
     match end - at {
         2 => number_if(two_of(s, at) == 0x6669, Kw::IF),
@@ -100,9 +100,9 @@ pub fn word_number(s: &[u8], at: usize, end: usize) -> u16
 }
 
 // The kind's number of one operator sign.
-#[tactic(auto, unfolding(crate::specs::code::Keyword::numberOr, crate::specs::paper::Kinds::run_of))]
+#[tactic(auto, unfolding(crate::specs::code::Keyword::numberOr, crate::specs::paper::Kinds::runOf))]
 fn sign_number(b: u8) -> u16
-    ensures { result ≡ numberOr 2 (run_of (b ∷ [])) }
+    ensures { result ≡ numberOr 2 (runOf (b ∷ [])) }
 {
     match b {
         0x3A => Kw::COLON,
@@ -117,7 +117,7 @@ fn sign_number(b: u8) -> u16
 #[tactic(auto, using(crate::proofs::keyword::Laws::keywords))]
 pub fn run_number(s: &[u8], at: usize, end: usize) -> u16
     requires { (at ≤ end) × (end ≤ length s.now) × Suffix (from s.now end) (from s.now at) }
-    ensures { result ≡ numberOr 2 (run_of (codesTo (from s.now at) (from s.now end))) }
+    ensures { result ≡ numberOr 2 (runOf (codesTo (from s.now at) (from s.now end))) }
 {
     match end - at {
         1 => sign_number(s[at]),

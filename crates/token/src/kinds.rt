@@ -2,7 +2,7 @@
 ghost use Rattle.std.specs.Prelude.{◌≡◌};
 ghost use Rattle.token.specs.paper.Kinds.{kwNumber};
 ghost use Rattle.token.specs.paper.Records.{bit};
-ghost use Rattle.token.specs.code.Form.{form_of, plainForm};
+ghost use Rattle.token.specs.code.Form.{formOf, plainForm};
 ghost use Rattle.token.specs.code.Keyword.{keywordBy};
 ghost use Rattle.token.specs.declared.kinds.TokenKind.TheVariants as tk;
 
@@ -146,9 +146,9 @@ impl TokenKind {
 
     pub const NEWLINE_LENGTH: u16 = TokenKind::HEAD_LENGTH + 1;
 
-    #[tactic(auto, unfolding(crate::specs::code::Form::form_of, crate::specs::paper::Records::recordLength, crate::specs::paper::Records::values))]
+    #[tactic(auto, unfolding(crate::specs::code::Form::formOf, crate::specs::paper::Records::recordLength, crate::specs::paper::Records::values))]
     pub fn form(self) -> Form
-        ensures { result ≡ form_of self }
+        ensures { result ≡ formOf self }
     {
         match self {
             TokenKind::IntLit(v) => Form::int(v as u64),
@@ -196,7 +196,7 @@ impl Form {
 
     #[tactic(auto, using(crate::proofs::form::Shapes::forms))]
     pub fn int(v: u64) -> Form
-        ensures { result ≡ form_of (tk.IntLit v) }
+        ensures { result ≡ formOf (tk.IntLit v) }
     {
         Form {
             number: TokenKind::INT_LIT,
@@ -207,7 +207,7 @@ impl Form {
 
     #[tactic(auto, using(crate::proofs::form::Shapes::forms))]
     pub fn long(v: u64) -> Form
-        ensures { result ≡ form_of (tk.LongLit v) }
+        ensures { result ≡ formOf (tk.LongLit v) }
     {
         Form {
             number: TokenKind::LONG_LIT,
@@ -219,7 +219,7 @@ impl Form {
     // A string, by its content's start and end.
     #[tactic(auto, using(crate::proofs::form::Shapes::forms))]
     pub fn span(from: usize, to: usize) -> Form
-        ensures { result ≡ form_of (tk.Str from to) }
+        ensures { result ≡ formOf (tk.Str from to) }
     {
         Form {
             number: TokenKind::STR,
@@ -230,7 +230,7 @@ impl Form {
 
     #[tactic(auto, using(crate::proofs::form::Shapes::forms))]
     pub fn line(mark: bool) -> Form
-        ensures { result ≡ form_of (tk.Newline mark) }
+        ensures { result ≡ formOf (tk.Newline mark) }
     {
         Form {
             number: TokenKind::NEWLINE,

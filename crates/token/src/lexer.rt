@@ -2,9 +2,9 @@
 ghost use Rattle.std.specs.Prelude.{◌≡◌, true, false, ◌+◌, ◌≤◌, ◌<◌, length};
 ghost use Rattle.chars.specs.paper.Text.{from};
 ghost use Rattle.token.specs.paper.Tests.{isAny, opensComment};
-ghost use Rattle.token.specs.code.Lexer.{wordless, seek, next_of, passedOf, refusedOf};
+ghost use Rattle.token.specs.code.Lexer.{wordless, seek, nextOf, passedOf, refusedOf};
 ghost use Rattle.token.specs.computed.Answer.{scan};
-ghost use Rattle.token.specs.code.Piece.{piece_of};
+ghost use Rattle.token.specs.code.Piece.{pieceOf};
 
 use crate::cursor::{Cursor, Peeked, two_at};
 use crate::gap::{Closed, Gap};
@@ -32,7 +32,7 @@ pub enum Passed {
 // recognised from its byte.
 fn lex_word(s: &[u8], c: Cursor) -> Piece
     requires { (c.at < length s.now) × (isAny wordless (from s.now c.at) ≡ false) × (opensComment (from s.now c.at) ≡ false) }
-    ensures { result ≡ piece_of (length s.now) (scan (length s.now) (from s.now c.at)) }
+    ensures { result ≡ pieceOf (length s.now) (scan (length s.now) (from s.now c.at)) }
 {
     let at = c.at;
     let b = s[at];
@@ -51,7 +51,7 @@ fn lex_word(s: &[u8], c: Cursor) -> Piece
 // The same by the character that stands there. A Russian letter is recognised from its bytes; an operator sign needs no table.
 fn lex_wide_word(s: &[u8], c: Cursor) -> Piece
     requires { (c.at < length s.now) × (isAny wordless (from s.now c.at) ≡ false) × (opensComment (from s.now c.at) ≡ false) }
-    ensures { result ≡ piece_of (length s.now) (scan (length s.now) (from s.now c.at)) }
+    ensures { result ≡ pieceOf (length s.now) (scan (length s.now) (from s.now c.at)) }
 {
     if chars::classes::is_cyrillic_at(s, c.at) {
         return crate::ident::lex_ident(s, c, Cursor { at: c.at + 2 });
@@ -72,7 +72,7 @@ fn lex_wide_word(s: &[u8], c: Cursor) -> Piece
 // One token, where no blank, line end or comment stands.
 pub fn lex_token(s: &[u8], c: Cursor) -> Piece
     requires { (c.at < length s.now) × (isAny " \t\n\r" (from s.now c.at) ≡ false) × (opensComment (from s.now c.at) ≡ false) }
-    ensures { result ≡ piece_of (length s.now) (scan (length s.now) (from s.now c.at)) }
+    ensures { result ≡ pieceOf (length s.now) (scan (length s.now) (from s.now c.at)) }
 {
     let at = c.at;
     let next = Cursor { at: at + 1 };
@@ -108,7 +108,7 @@ fn refused(p: Piece) -> Next
 // The token that ends the gap.
 fn token_at(s: &[u8], c: Cursor, g: Gap) -> Next
     requires { (c.at < length s.now) × (isAny " \t\n\r" (from s.now c.at) ≡ false) × (opensComment (from s.now c.at) ≡ false) }
-    ensures { result ≡ next_of (length s.now) (seek (length s.now) 0 g (from s.now c.at)) }
+    ensures { result ≡ nextOf (length s.now) (seek (length s.now) 0 g (from s.now c.at)) }
 {
     let piece = lex_token(s, c);
     let Piece::Token(kind, end) = piece else {
@@ -120,7 +120,7 @@ fn token_at(s: &[u8], c: Cursor, g: Gap) -> Next
 // What stands at c, where neither a blank nor a comment does.
 fn stop_at(s: &[u8], c: Cursor, g: Gap) -> Next
     requires { (c.at < length s.now) × (isAny " \t" (from s.now c.at) ≡ false) × (opensComment (from s.now c.at) ≡ false) }
-    ensures { result ≡ next_of (length s.now) (seek (length s.now) 0 g (from s.now c.at)) }
+    ensures { result ≡ nextOf (length s.now) (seek (length s.now) 0 g (from s.now c.at)) }
 {
     let at = c.at;
     let b = s[at];
@@ -134,7 +134,7 @@ fn stop_at(s: &[u8], c: Cursor, g: Gap) -> Next
 // A CR: a line end before an LF, else refused.
 fn return_at(s: &[u8], c: Cursor, g: Gap) -> Next
     requires { (c.at < length s.now) × (isAny "\r" (from s.now c.at) ≡ true) }
-    ensures { result ≡ next_of (length s.now) (seek (length s.now) 0 g (from s.now c.at)) }
+    ensures { result ≡ nextOf (length s.now) (seek (length s.now) 0 g (from s.now c.at)) }
 {
     let at = c.at;
     if two_at(s, at, 0x0D, 0x0A) {
@@ -162,7 +162,7 @@ fn pass_comment(s: &[u8], c: Cursor, g: Gap) -> Passed
 // The next token, line end or end of script from c on, in the gap g.
 pub fn next_token(s: &[u8], c: Cursor, g: Gap) -> Next
     requires { c.at ≤ length s.now }
-    ensures { result ≡ next_of (length s.now) (seek (length s.now) 0 g (from s.now c.at)) }
+    ensures { result ≡ nextOf (length s.now) (seek (length s.now) 0 g (from s.now c.at)) }
 {
     let mut d = c;
     let mut f = g;

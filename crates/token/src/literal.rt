@@ -3,7 +3,7 @@
 ghost use Rattle.std.specs.Prelude.{◌≡◌, true, ◌⊎◌, ◌+◌, ◌≤◌, ◌<◌, length, get_or};
 ghost use Rattle.chars.specs.paper.Text.{from};
 ghost use Rattle.token.specs.paper.Tests.{isDigit, digitValue};
-ghost use Rattle.token.specs.code.ByteClass.{class_at};
+ghost use Rattle.token.specs.code.ByteClass.{classAt};
 ghost use Rattle.token.specs.code.Literal.{lesser, literalEnd, fullEnd, literalIn, literalOf};
 
 use crate::byte_class::DIGIT;
@@ -116,7 +116,7 @@ pub fn digit_value(s: &[u8], at: usize) -> u64
 
 // The number that begins there with a digit, behind which a byte of the class e stands: behind a digit no `0x` has to be looked for.
 pub fn literal_at(s: &[u8], e: u8, at: usize) -> NumberLit
-    requires { (at < length s.now) × (isDigit (get_or s.now at 0) ≡ true) × (e ≡ class_at s.now (at + 1)) }
+    requires { (at < length s.now) × (isDigit (get_or s.now at 0) ≡ true) × (e ≡ classAt s.now (at + 1)) }
     ensures { result ≡ literalOf s.now at }
 {
     if e == DIGIT {

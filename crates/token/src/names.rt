@@ -1,9 +1,9 @@
 // Words and runs of operator signs that are recognised from their ASCII bytes, as most are. Each reader answers by a place and the class of the byte
 // there; `name_end` and `operator_end` decline by their own start, and `lexer::next_token` then reads the token.
 ghost use Rattle.std.specs.Prelude.{◌≡◌, ◌+◌, ◌≤◌, ◌<◌, length};
-ghost use Rattle.chars.specs.paper.Quoted.{one_of};
-ghost use Rattle.token.specs.code.ByteClass.{ByteClasses, in_word, isSign, inRun};
-ghost use Rattle.token.specs.code.Names.{here_of, runTo, lowBefore, nameEnd, operatorFrom};
+ghost use Rattle.chars.specs.paper.Quoted.{oneOf};
+ghost use Rattle.token.specs.code.ByteClass.{ByteClasses, inWord, isSign, inRun};
+ghost use Rattle.token.specs.code.Names.{hereOf, runTo, lowBefore, nameEnd, operatorFrom};
 
 use crate::byte_class::{SLASH, WIDE, class_at, class_of, in_run, in_word, is_op};
 use crate::cursor::byte_at;
@@ -17,7 +17,7 @@ pub struct Here {
 
 pub fn here_at(s: &[u8], t: &[u8; 256], at: usize) -> Here
     requires { ByteClasses t.now }
-    ensures { result ≡ here_of s.now at }
+    ensures { result ≡ hereOf s.now at }
 {
     Here {
         at: at,
@@ -27,7 +27,7 @@ pub fn here_at(s: &[u8], t: &[u8; 256], at: usize) -> Here
 
 pub fn word_run(s: &[u8], t: &[u8; 256], at: usize) -> usize
     requires { (at ≤ length s.now) × ByteClasses t.now }
-    ensures { result ≡ runTo in_word s.now at }
+    ensures { result ≡ runTo inWord s.now at }
 {
     let mut i = at;
     while i < s.len() {
@@ -42,7 +42,7 @@ pub fn word_run(s: &[u8], t: &[u8; 256], at: usize) -> usize
 // Where the ASCII id characters and underscores end that stand there.
 pub fn word_end(s: &[u8], t: &[u8; 256], at: usize) -> Here
     requires { (at ≤ length s.now) × ByteClasses t.now }
-    ensures { result ≡ here_of s.now (runTo in_word s.now at) }
+    ensures { result ≡ hereOf s.now (runTo inWord s.now at) }
 {
     let end = word_run(s, t, at);
     here_at(s, t, end)
@@ -51,7 +51,7 @@ pub fn word_end(s: &[u8], t: &[u8; 256], at: usize) -> Here
 // Where the ASCII operator signs end that stand there, `//` or not.
 pub fn signs_end(s: &[u8], t: &[u8; 256], at: usize) -> Here
     requires { (at ≤ length s.now) × ByteClasses t.now }
-    ensures { result ≡ here_of s.now (runTo isSign s.now at) }
+    ensures { result ≡ hereOf s.now (runTo isSign s.now at) }
 {
     let mut i = at;
     loop {
@@ -79,7 +79,7 @@ pub fn ends_low(s: &[u8], start: usize, end: usize) -> bool
 // stands behind it.
 #[tactic(auto, unfolding(crate::specs::code::Names::nameEnd, crate::specs::code::Names::nameTo))]
 pub fn name_end(s: &[u8], t: &[u8; 256], start: usize, end: Here) -> Here
-    requires { (start < length s.now) × (end ≡ here_of s.now (runTo in_word s.now (start + 1))) × ByteClasses t.now }
+    requires { (start < length s.now) × (end ≡ hereOf s.now (runTo inWord s.now (start + 1))) × ByteClasses t.now }
     ensures { result ≡ nameEnd s.now start }
 {
     let mut to = end;
@@ -114,7 +114,7 @@ pub fn plain_run(s: &[u8], t: &[u8; 256], at: usize) -> usize
 // Where the ASCII operator signs other than `/` end that stand there.
 pub fn run_end(s: &[u8], t: &[u8; 256], at: usize) -> Here
     requires { (at ≤ length s.now) × ByteClasses t.now }
-    ensures { result ≡ here_of s.now (runTo inRun s.now at) }
+    ensures { result ≡ hereOf s.now (runTo inRun s.now at) }
 {
     let end = plain_run(s, t, at);
     here_at(s, t, end)
@@ -122,7 +122,7 @@ pub fn run_end(s: &[u8], t: &[u8; 256], at: usize) -> Here
 
 // Is the byte behind a `/` one that makes it a comment's opening?
 pub fn opens_with(b: u8) -> bool
-    ensures { result ≡ one_of "*/" b }
+    ensures { result ≡ oneOf "*/" b }
 {
     match b {
         0x2A | 0x2F => true,

@@ -1,7 +1,7 @@
 // Strings and backticks that are recognised from their bytes, as nearly all are. Each answers by the place where it ends; its own start says that it
 // declines, and `lexer::next_token` reads the token, or refuses it.
 ghost use Rattle.std.specs.Prelude.{◌≡◌, true, ◌≤◌, ◌<◌, length};
-ghost use Rattle.chars.specs.paper.Quoted.{one_of};
+ghost use Rattle.chars.specs.paper.Quoted.{oneOf};
 ghost use Rattle.chars.specs.paper.Text.{from};
 ghost use Rattle.token.specs.paper.Tests.{quote};
 ghost use Rattle.token.specs.computed.Answer.{closeTriple};
@@ -67,7 +67,7 @@ pub fn coded_escape_end(s: &[u8], at: usize) -> usize
 
 // One of the eight bytes that make an escape behind a backslash?
 pub fn is_escape(b: u8) -> bool
-    ensures { result ≡ one_of "btnfr'\"]" b }
+    ensures { result ≡ oneOf "btnfr'\"]" b }
 {
     chars::classes::has_bit(b, 0x0000008400000000, 0x0014404420000000)
 }

@@ -5,7 +5,7 @@ ghost use Rattle.token.specs.computed.Answer.{answer};
 ghost use Rattle.token.specs.paper.Records.{mostBytes, headLength, recordOf, records, recordBytes};
 ghost use Rattle.token.specs.code.ByteClass.{ByteClasses};
 ghost use Rattle.token.specs.code.Records.{storedIf, measuredOf, total, Fits, begun, storedFrom, Standing, Reaches, tokensIn, eofAt};
-ghost use Rattle.token.specs.code.Stand.{state_of, Whole, standOf};
+ghost use Rattle.token.specs.code.Stand.{stateOf, Whole, standOf};
 
 use crate::byte_class::{CLASSES, class_at};
 use crate::cursor::Cursor;
@@ -74,8 +74,8 @@ fn stand_of(x: Walked) -> Stand
 
 // As far as pieces are recognised from their bytes. While a cut is set, or one may come of a block comment, nothing is.
 fn walk_from(out: &mut [u8], s: &[u8], t: &[u8; 256], start: Stand) -> Stand
-    requires { ByteClasses t.now × (length s.now ≤ mostBytes) × Standing s.now (state_of start) × Whole start }
-    ensures { Reaches s.now (state_of start) out.old (state_of result) out.new × Whole result }
+    requires { ByteClasses t.now × (length s.now ≤ mostBytes) × Standing s.now (stateOf start) × Whole start }
+    ensures { Reaches s.now (stateOf start) out.old (stateOf result) out.new × Whole result }
 {
     let g = start.gap;
     if g.cut | g.pending {

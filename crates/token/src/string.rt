@@ -4,8 +4,8 @@ ghost use Rattle.chars.specs.paper.Text.{from, headIs};
 ghost use Rattle.chars.specs.computed.Runs.{afterRun};
 ghost use Rattle.token.specs.paper.Tests.{isAny, quote, threeQuotes};
 ghost use Rattle.token.specs.computed.Answer.{closed, closeTriple, closeString, prefixedOf, scanString, plainContent};
-ghost use Rattle.token.specs.code.Piece.{piece_of};
-ghost use Rattle.token.specs.code.String.{ended_of, escapeOf, hexesOf, isOrdinary, dollarOf, closeSingle, singleItem, tripleItem, lastOff, spanKind, eightsOff, eightsTaken};
+ghost use Rattle.token.specs.code.Piece.{pieceOf};
+ghost use Rattle.token.specs.code.String.{endedOf, escapeOf, hexesOf, isOrdinary, dollarOf, closeSingle, singleItem, tripleItem, lastOff, spanKind, eightsOff, eightsTaken};
 ghost use Rattle.chars.specs.promises.Texts.{Suffix};
 
 use crate::cursor::{Cursor, byte_at, two_at};
@@ -129,7 +129,7 @@ fn single_item(s: &[u8], c: Cursor, prefixed: bool) -> Ended
 #[tactic(auto, using(crate::proofs::string::Laws::single_walk))]
 fn lex_single_string(s: &[u8], c: Cursor, prefixed: bool) -> Ended
     requires { (c.at ≤ length s.now) × (quote (from s.now c.at) ≡ true) }
-    ensures { result ≡ ended_of (length s.now) (closeSingle prefixed (drop 1 (from s.now c.at))) }
+    ensures { result ≡ endedOf (length s.now) (closeSingle prefixed (drop 1 (from s.now c.at))) }
 {
     let mut d = skip_ordinary(s, Cursor { at: c.at + 1 });
     while d.at < s.len() {
@@ -197,7 +197,7 @@ fn triple_item(s: &[u8], c: Cursor, prefixed: bool) -> Ended
 #[tactic(auto, using(crate::proofs::string::Laws::triple_walk))]
 fn lex_triple_string(s: &[u8], c: Cursor, prefixed: bool) -> Ended
     requires { (c.at ≤ length s.now) × (threeQuotes (from s.now c.at) ≡ true) }
-    ensures { result ≡ ended_of (length s.now) (closeTriple prefixed (drop 3 (from s.now c.at))) }
+    ensures { result ≡ endedOf (length s.now) (closeTriple prefixed (drop 3 (from s.now c.at))) }
 {
     let mut d = skip_ordinary(s, Cursor { at: c.at + 3 });
     while d.at < s.len() {
@@ -217,7 +217,7 @@ fn lex_triple_string(s: &[u8], c: Cursor, prefixed: bool) -> Ended
 #[tactic(auto, unfolding(crate::specs::computed::Answer::closeString, crate::specs::code::String::closeSingle))]
 fn lex_string(s: &[u8], c: Cursor, prefixed: bool) -> Ended
     requires { (c.at ≤ length s.now) × (quote (from s.now c.at) ≡ true) }
-    ensures { result ≡ ended_of (length s.now) (closeString prefixed (from s.now c.at)) }
+    ensures { result ≡ endedOf (length s.now) (closeString prefixed (from s.now c.at)) }
 {
     if three_quotes(s, c.at) {
         return lex_triple_string(s, c, prefixed);
@@ -307,7 +307,7 @@ fn strip_quotes(s: &[u8], start: usize, end: usize) -> Span
 // A plain string.
 pub fn lex_plain_string(s: &[u8], c: Cursor) -> Piece
     requires { (c.at ≤ length s.now) × (quote (from s.now c.at) ≡ true) }
-    ensures { result ≡ piece_of (length s.now) (scanString (length s.now) (from s.now c.at)) }
+    ensures { result ≡ pieceOf (length s.now) (scanString (length s.now) (from s.now c.at)) }
 {
     let ended = lex_string(s, c, false);
     match ended {
@@ -329,7 +329,7 @@ pub fn lex_plain_string(s: &[u8], c: Cursor) -> Piece
 #[tactic(auto, using(crate::proofs::string::Laws::prefixed_string))]
 pub fn lex_prefixed_string(s: &[u8], start: usize, c: Cursor) -> Piece
     requires { (start ≤ c.at) × (c.at ≤ length s.now) × (quote (from s.now c.at) ≡ true) }
-    ensures { result ≡ piece_of (length s.now) (prefixedOf (length s.now) (from s.now start) (closeString true (from s.now c.at))) }
+    ensures { result ≡ pieceOf (length s.now) (prefixedOf (length s.now) (from s.now start) (closeString true (from s.now c.at))) }
 {
     let ended = lex_string(s, c, true);
     match ended {

@@ -3,7 +3,7 @@
 ghost use Rattle.std.specs.Prelude.{◌≡◌, ◌+◌, ◌<◌, length, get_or};
 ghost use Rattle.token.specs.code.ByteClass.{ByteClasses};
 ghost use Rattle.token.specs.code.Quoted.{escapeEnd};
-ghost use Rattle.token.specs.code.Symbol.{plain_byte, endsChar, escapedCharEnd, operatorSymbolEnd, nameSymbolEnd, semiEnd, charSymEnd};
+ghost use Rattle.token.specs.code.Symbol.{plainByte, endsChar, escapedCharEnd, operatorSymbolEnd, nameSymbolEnd, semiEnd, charSymEnd};
 
 use crate::byte_class::{WIDE, class_at, class_of, is_op, is_sign, starts_word};
 use crate::cursor::byte_at;
@@ -12,7 +12,7 @@ use crate::quoted::{coded_escape_end, is_escape};
 
 // A printable of ASCII that is no backslash?
 fn is_plain_char(b: u8) -> bool
-    ensures { result ≡ plain_byte b }
+    ensures { result ≡ plainByte b }
 {
     if b < 0x20 {
         return false;

@@ -6,10 +6,10 @@ ghost use Rattle.token.specs.paper.Tests.{opensBlock, opensComment};
 ghost use Rattle.token.specs.paper.Records.{mostBytes, headLength, lineLength};
 ghost use Rattle.token.specs.code.Records.{storedIf};
 ghost use Rattle.token.specs.code.Form.{byForm, plainForm};
-ghost use Rattle.token.specs.code.ByteClass.{class_at, ByteClasses, blankClass, digitClass, lfClass, crClass, tickClass, keywordClass, upToBlank, isSign, in_word};
-ghost use Rattle.token.specs.code.Names.{here_of};
+ghost use Rattle.token.specs.code.ByteClass.{classAt, ByteClasses, blankClass, digitClass, lfClass, crClass, tickClass, keywordClass, upToBlank, isSign, inWord};
+ghost use Rattle.token.specs.code.Names.{hereOf};
 ghost use Rattle.token.specs.code.Literal.{literalOf};
-ghost use Rattle.token.specs.code.Walk.{Lent, moved_to, plainBehind, valuesBehind, lineBehind, commentBehind, nameNumber, prefixEnd, operatorNumber, beginsName, Good, LeftTo, Opens, Steps};
+ghost use Rattle.token.specs.code.Walk.{Lent, movedTo, plainBehind, valuesBehind, lineBehind, commentBehind, nameNumber, prefixEnd, operatorNumber, beginsName, Good, LeftTo, Opens, Steps};
 
 use crate::byte_class::{
     BACKTICK, BLANK, CR, DIGIT, LF, QUOTE, SLASH, TICK, asks_more, class_at, in_run, in_word,
@@ -51,7 +51,7 @@ pub struct Walked {
 
 // At another place, behind blanks.
 fn at_place(x: Walked, to: Here) -> Walked
-    ensures { result ≡ moved_to x to }
+    ensures { result ≡ movedTo x to }
 {
     Walked {
         at: to.at,
@@ -209,7 +209,7 @@ fn comment_step(out: &mut [u8], s: &[u8], t: &[u8; 256], x: Walked) -> Walked
 
 // Does a comment begin with the byte of this class at a place?
 fn is_comment(s: &[u8], e: u8, at: usize) -> bool
-    requires { (at ≤ length s.now) × (e ≡ class_at s.now at) × (length s.now ≤ mostBytes) }
+    requires { (at ≤ length s.now) × (e ≡ classAt s.now at) × (length s.now ≤ mostBytes) }
     ensures { result ≡ opensComment (from s.now at) }
 {
     if e != SLASH {
@@ -267,7 +267,7 @@ fn op_step(out: &mut [u8], s: &[u8], t: &[u8; 256], x: Walked) -> Walked
 
 // A number of one digit, as many are.
 fn digit_step(out: &mut [u8], s: &[u8], x: Walked, end: Here) -> Walked
-    requires { (length s.now ≤ mostBytes) × Good s.now x × (eqb x.class digitClass ≡ true) × (end ≡ here_of s.now (x.at + 1)) × (in_word end.class ≡ false) }
+    requires { (length s.now ≤ mostBytes) × Good s.now x × (eqb x.class digitClass ≡ true) × (end ≡ hereOf s.now (x.at + 1)) × (inWord end.class ≡ false) }
     ensures { Steps s.now x out.old result out.new }
 {
     let at = x.at;
@@ -357,7 +357,7 @@ fn put_word_if(out: &mut [u8], s: &[u8], e: u8, w: usize, at: usize, end: usize)
 // Where the identifier or backtick ends that begins there with a byte of the class e; of a quote, where it stands.
 #[tactic(auto, unfolding(crate::specs::code::Walk::prefixEnd))]
 fn prefix_end(s: &[u8], t: &[u8; 256], e: u8, at: usize) -> Here
-    requires { ByteClasses t.now × (at < length s.now) × (length s.now ≤ mostBytes) × (e ≡ class_at s.now at) × (beginsName e ≡ true) }
+    requires { ByteClasses t.now × (at < length s.now) × (length s.now ≤ mostBytes) × (e ≡ classAt s.now at) × (beginsName e ≡ true) }
     ensures { result ≡ prefixEnd s.now e at }
 {
     if e == QUOTE {

@@ -7,7 +7,7 @@ use lib.ListN.{length, take, drop, length-append, length-drop}
 use lib.Seq.{get_or-drop, take-add, drop_at}
 use native.Mathlib.Nat.{add-zero, zero-add, add_assoc, mod-mod, mod-lt, mod-eq_of_lt, mod-add-div', div-eq_of_lt, div-lt_iff_lt-mul, div-div-eq-div-mul, add-mul-mod_self_right, add-mul-div_right, mul-le-mul_right}
 use native.Mathlib.Omega.{arith}
-use Rattle.words.specs.Words.{le2, le4, le8, one_at, twoAt, fourAt, eightAt}
+use Rattle.words.specs.Words.{le2, le4, le8, oneAt, twoAt, fourAt, eightAt}
 use Rattle.words.specs.Joins.{Bytes, Joins}
 
 pub drop-bytes : (l : List ℕ) (i : ℕ) → Bytes l → Bytes (drop i l)
@@ -79,7 +79,7 @@ module _ (write : ℕ → List ℕ) (read : List ℕ → ℕ → ℕ) (n m : ℕ
 
 -- ---- the widths
 
-ones : Width (λ x. x % 256 ∷ []) one_at 1 256
+ones : Width (λ x. x % 256 ∷ []) oneAt 1 256
 ones = record {
   size = λ x. refl;
   fits = λ l i h. h i;
@@ -88,7 +88,7 @@ ones = record {
   forth = byte;
 }
   where
-    byte : (l : List ℕ) → Bytes l → 1 ≤ length l → one_at l 0 % 256 ∷ [] ≡ take 1 l
+    byte : (l : List ℕ) → Bytes l → 1 ≤ length l → oneAt l 0 % 256 ∷ [] ≡ take 1 l
     byte [] h k = absurd (omega arith)
     byte (a ∷ l) h k = rw (mod-eq_of_lt (h 0))
 
@@ -123,17 +123,17 @@ eights = double _ _ _ _ fours le8 eight-halves
 
 -- ---- the laws by their names, for whoever reads stored numbers
 
-pub two_fits : (l : List ℕ) (i : ℕ) → Bytes l → twoAt l i < 65536
-two_fits = twos.fits
+pub two-fits : (l : List ℕ) (i : ℕ) → Bytes l → twoAt l i < 65536
+two-fits = twos.fits
 
 pub four-fits : (l : List ℕ) (i : ℕ) → Bytes l → fourAt l i < 4294967296
 four-fits = fours.fits
 
-pub eight_fits : (l : List ℕ) (i : ℕ) → Bytes l → eightAt l i < 18446744073709551616
-eight_fits = eights.fits
+pub eight-fits : (l : List ℕ) (i : ℕ) → Bytes l → eightAt l i < 18446744073709551616
+eight-fits = eights.fits
 
-pub two_from : (l : List ℕ) (i j : ℕ) → twoAt (drop i l) j ≡ twoAt l (i + j)
-two_from = twos.from
+pub two-from : (l : List ℕ) (i j : ℕ) → twoAt (drop i l) j ≡ twoAt l (i + j)
+two-from = twos.from
 
 pub four-from : (l : List ℕ) (i j : ℕ) → fourAt (drop i l) j ≡ fourAt l (i + j)
 four-from = fours.from
@@ -176,9 +176,9 @@ joins = record {
   le2-two = le2-two;
   le4-four = le4-four;
   le8-eight = le8-eight;
-  two_fits = two_fits;
+  two-fits = two-fits;
   four-fits = four-fits;
-  eight_fits = eight_fits;
+  eight-fits = eight-fits;
   two-drop = two-drop;
   four-drop = four-drop;
   eight-drop = eight-drop;

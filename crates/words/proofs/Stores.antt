@@ -7,7 +7,7 @@ use lib.Seq.{sets, sets-eq, length-take-le, take-suc, drop-length}
 use native.Mathlib.Nat.{add-zero, zero-add}
 use native.Mathlib.Numerals.{add-one, add-two, add-three}
 use native.Mathlib.Omega.{arith}
-use Rattle.words.specs.Words.{le4, le8, block_of}
+use Rattle.words.specs.Words.{le4, le8, blockOf}
 
 pub sets-append : (l : List ℕ) (i : ℕ) (a b : List ℕ) → sets l i (a ++ b) ≡ sets (sets l i a) (i + length a) b
 sets-append l i [] b = rw add-zero
@@ -18,8 +18,8 @@ pub after : (a b l m : List ℕ) (i j : ℕ) → m ≡ sets l i a → j ≡ i + 
 after a b l m i j e f = rw (e, f) (sym (sets-append l i a b))
 
 -- one more byte of a list that is stored from its front on
-pub copy_more : (l m src : List ℕ) (i : ℕ) → i < length src → m ≡ sets l 0 (take i src) → set m i (get_or src i 0) ≡ sets l 0 (take (i + 1) src)
-copy_more l m src i h e =
+pub copy-more : (l m src : List ℕ) (i : ℕ) → i < length src → m ≡ sets l 0 (take i src) → set m i (get_or src i 0) ≡ sets l 0 (take (i + 1) src)
+copy-more l m src i h e =
     after (take i src) (get_or src i 0 ∷ []) l m 0 i e (sym (zero-add _ ∙ length-take-le i src (omega arith)))
     ∙ ap (sets l 0) (sym (ap (λ k. take k src) (add-one i) ∙ take-suc src i 0 h))
 
@@ -39,10 +39,10 @@ length-four x = refl
 
 -- ---- numbers
 
-pub put_four : (l : List ℕ) (w x : ℕ)
+pub put-four : (l : List ℕ) (w x : ℕ)
     → set (set (set (set l w (x % 256)) (w + 1) (x / 256 % 256)) (w + 2) (x / 65536 % 256)) (w + 3) (x / 16777216 % 256) ≡ sets l w (le4 x)
 unfolding le4
-put_four l w x = rw (add-one, add-two, add-three)
+put-four l w x = rw (add-one, add-two, add-three)
 
 -- two numbers of four bytes
 pub put-fours : (l m n : List ℕ) (w x y : ℕ) → m ≡ sets l w (le4 x) → n ≡ sets m (w + 4) (le4 y) → n ≡ sets l w (le4 x ++ le4 y)
@@ -54,17 +54,17 @@ put-eight l m n w x = put-fours l m n w (x % 4294967296) (x / 4294967296)
 
 -- ---- the answer block
 
-block-parts : (j a count bytes : ℕ) → le4 j ++ (le4 a ++ (le4 count ++ le4 bytes)) ≡ block_of j a count bytes
-unfolding block_of le4
+block-parts : (j a count bytes : ℕ) → le4 j ++ (le4 a ++ (le4 count ++ le4 bytes)) ≡ blockOf j a count bytes
+unfolding blockOf le4
 block-parts j a count bytes = refl
 
-pub length-block : (j a count bytes : ℕ) → length (block_of j a count bytes) ≡ 16
-unfolding block_of le4
+pub length-block : (j a count bytes : ℕ) → length (blockOf j a count bytes) ≡ 16
+unfolding blockOf le4
 length-block j a count bytes = refl
 
 -- four numbers of four bytes, one after another
 pub put-four-numbers : (l m n o p : List ℕ) (w a b c d : ℕ) → m ≡ sets l w (le4 a) → n ≡ sets m (w + 4) (le4 b) → o ≡ sets n (w + 8) (le4 c)
-    → p ≡ sets o (w + 12) (le4 d) → p ≡ sets l w (block_of a b c d)
+    → p ≡ sets o (w + 12) (le4 d) → p ≡ sets l w (blockOf a b c d)
 put-four-numbers l m n o p w a b c d p1 p2 p3 p4 =
     let n1 = length-four a in
     let n2 = length-four b in
@@ -76,5 +76,5 @@ put-four-numbers l m n o p w a b c d p1 p2 p3 p4 =
     ∙ ap (sets l w) (block-parts a b c d)
 
 -- over the whole block
-pub put-sixteen : (l m : List ℕ) (j a count bytes : ℕ) → length l ≡ 16 → m ≡ sets l 0 (block_of j a count bytes) → m ≡ block_of j a count bytes
-put-sixteen l m j a count bytes h p = p ∙ whole l (block_of j a count bytes) (h ∙ sym (length-block j a count bytes))
+pub put-sixteen : (l m : List ℕ) (j a count bytes : ℕ) → length l ≡ 16 → m ≡ sets l 0 (blockOf j a count bytes) → m ≡ blockOf j a count bytes
+put-sixteen l m j a count bytes h p = p ∙ whole l (blockOf j a count bytes) (h ∙ sym (length-block j a count bytes))

@@ -16,9 +16,9 @@ pub record Joins : Type 0 where
   pub le4-four : (l : List ℕ) → Bytes l → 4 ≤ length l → le4 (fourAt l 0) ≡ take 4 l
   pub le8-eight : (l : List ℕ) → Bytes l → 8 ≤ length l → le8 (eightAt l 0) ≡ take 8 l
   -- what bytes make fits
-  pub two_fits : (l : List ℕ) (i : ℕ) → Bytes l → twoAt l i < 65536
+  pub two-fits : (l : List ℕ) (i : ℕ) → Bytes l → twoAt l i < 65536
   pub four-fits : (l : List ℕ) (i : ℕ) → Bytes l → fourAt l i < 4294967296
-  pub eight_fits : (l : List ℕ) (i : ℕ) → Bytes l → eightAt l i < 18446744073709551616
+  pub eight-fits : (l : List ℕ) (i : ℕ) → Bytes l → eightAt l i < 18446744073709551616
   -- the number at a place is the first of what stands from there on
   pub two-drop : (l : List ℕ) (i : ℕ) → twoAt l i ≡ twoAt (drop i l) 0
   pub four-drop : (l : List ℕ) (i : ℕ) → fourAt l i ≡ fourAt (drop i l) 0

@@ -16,11 +16,11 @@ le8 x = le4 (x % 4294967296) ++ le4 (x / 4294967296)
 -- ---- the number at a place
 
 -- Little-endian: the number of one, two, four and eight bytes from a place on. A byte past the end counts as 0.
-abbrev pub one_at : List ℕ → ℕ → ℕ
-one_at bytes at = get_or bytes at 0
+abbrev pub oneAt : List ℕ → ℕ → ℕ
+oneAt bytes at = get_or bytes at 0
 
 unfoldable pub twoAt : List ℕ → ℕ → ℕ
-twoAt bytes at = one_at bytes at + one_at bytes (at + 1) * 256
+twoAt bytes at = oneAt bytes at + oneAt bytes (at + 1) * 256
 
 unfoldable pub fourAt : List ℕ → ℕ → ℕ
 fourAt bytes at = twoAt bytes at + twoAt bytes (at + 2) * 65536
@@ -31,8 +31,8 @@ eightAt bytes at = fourAt bytes at + fourAt bytes (at + 4) * 4294967296
 -- ---- the answer block
 
 -- The block then holds four 4-byte little-endian numbers: refusal, place, token count, record bytes; unused ones 0.
-unfoldable pub block_of : ℕ → ℕ → ℕ → ℕ → List ℕ
-block_of j a count bytes = le4 j ++ le4 a ++ le4 count ++ le4 bytes
+unfoldable pub blockOf : ℕ → ℕ → ℕ → ℕ → List ℕ
+blockOf j a count bytes = le4 j ++ le4 a ++ le4 count ++ le4 bytes
 
 -- what a host is told: the number handed back, and the block afterwards
 pub data Told : Type 0 where

@@ -1,7 +1,7 @@
 // Numbers read from lent bytes, the lowest byte first. A byte past the end counts as 0, so that no length is asked for; of the wider ones a place
 // is asked that does not wrap.
 ghost use Rattle.std.specs.Prelude.{◌≡◌, ◌+◌, ◌<◌, ◌≤◌};
-ghost use Rattle.words.specs.Words.{one_at, twoAt, fourAt, eightAt};
+ghost use Rattle.words.specs.Words.{oneAt, twoAt, fourAt, eightAt};
 ghost use Rattle.words.specs.Joins.{Joins};
 
 fn wide(x: u8) -> u64
@@ -12,7 +12,7 @@ fn wide(x: u8) -> u64
 }
 
 pub fn one(bytes: &[u8], at: usize) -> u64
-    ensures value { result ≡ one_at bytes.now at }
+    ensures value { result ≡ oneAt bytes.now at }
     ensures upper_bound { result < 256 }
 {
     if at >= bytes.len() {

@@ -1,7 +1,7 @@
 // Stores into lent bytes. Each says what the whole buffer is afterwards, so that a caller knows too that no other byte changed.
 ghost use Rattle.std.specs.Prelude.{◌≡◌, ◌+◌, ◌≤◌, length, take};
 ghost use Rattle.std.proofs.lemmas.List.Edits.{sets};
-ghost use Rattle.words.specs.Words.{le4, le8, block_of};
+ghost use Rattle.words.specs.Words.{le4, le8, blockOf};
 
 pub fn put4(out: &mut [u8], w: usize, x: usize)
     requires { w + 4 ≤ length out.old }
@@ -43,7 +43,7 @@ pub fn put_numbers(
     fourth: usize,
 )
     requires { w + 16 ≤ length out.old }
-    ensures { out.new ≡ sets out.old w (block_of first second third fourth) }
+    ensures { out.new ≡ sets out.old w (blockOf first second third fourth) }
 {
     put4(out, w, first);
     put4(out, w + 4, second);
@@ -54,7 +54,7 @@ pub fn put_numbers(
 // The answer block, whole: refusal, place, token count, record bytes.
 pub fn put_block(out: &mut [u8], number: usize, place: usize, count: usize, bytes: usize)
     requires { length out.old ≡ 16 }
-    ensures { out.new ≡ block_of number place count bytes }
+    ensures { out.new ≡ blockOf number place count bytes }
 {
     put_numbers(out, 0, number, place, count, bytes);
 }

@@ -14,9 +14,9 @@ use Rattle.chars.specs.computed.Runs.{afterRun}
 use Rattle.chars.specs.code.Classes.{asciiIdChar, isAsciiId}
 use Rattle.chars.specs.promises.Texts.{Suffix, AsciiClass}
 use Rattle.chars.specs.promises.Classes.{Russian}
-use Rattle.chars.proofs.Bools.{clash, and_both}
-use Rattle.chars.proofs.text.Texts.{suffix_refl, suffix-cons, text-suffix, text-place}
-use Rattle.chars.proofs.text.Places.{head_byte, at-end, next-on, ascii-code, ascii-next, head_at, run-next, run-stop, run_end, runs_on, runs-out}
+use Rattle.chars.proofs.Bools.{clash, and-both}
+use Rattle.chars.proofs.text.Texts.{suffix-refl, suffix-cons, text-suffix, text-place}
+use Rattle.chars.proofs.text.Places.{head-byte, at-end, next-on, ascii-code, ascii-next, head-at, run-next, run-stop, run-end, runs-on, runs-out}
 
 -- ---- any runs
 
@@ -38,12 +38,12 @@ run-stays p (c ∷ t) e = rw (e, afterRun)
 
 run-left : (p : Text → Bool) (t : Text) → Suffix (afterRun p t) t
 unfolding afterRun
-run-left p [] = suffix_refl []
+run-left p [] = suffix-refl []
 run-left p (c ∷ t) = go (p (c ∷ t)) refl (run-left p t)
   where
     go : (b : Bool) → p (c ∷ t) ≡ b → Suffix (afterRun p t) t → Suffix (afterRun p (c ∷ t)) (c ∷ t)
     go true e r = rw (e, afterRun) (suffix-cons c r)
-    go false e r = rw (e, afterRun) (suffix_refl (c ∷ t))
+    go false e r = rw (e, afterRun) (suffix-refl (c ∷ t))
 
 module _ (p : Text → Bool) (s : List ℕ) where
   -- the text where a run ends is what it left
@@ -53,14 +53,14 @@ module _ (p : Text → Bool) (s : List ℕ) where
   -- and it ends within the script, not before its start
   run-within : (n i : ℕ) → length s - i ≤ n → i ≤ length s
       → (i ≤ place (length s) (afterRun p (from s i))) × (place (length s) (afterRun p (from s i)) ≤ length s)
-  run-within zero i m h = let e = run_end p s i (omega arith) in (omega arith, omega arith)
+  run-within zero i m h = let e = run-end p s i (omega arith) in (omega arith, omega arith)
   run-within (suc n) i m h = go (ltb i (length s)) refl (p (from s i)) refl (run-within n (charEnd s i))
     where
       go : (b : Bool) → ltb i (length s) ≡ b → (d : Bool) → p (from s i) ≡ d
           → (length s - charEnd s i ≤ n → charEnd s i ≤ length s
           → (charEnd s i ≤ place (length s) (afterRun p (from s (charEnd s i)))) × (place (length s) (afterRun p (from s (charEnd s i))) ≤ length s))
           → (i ≤ place (length s) (afterRun p (from s i))) × (place (length s) (afterRun p (from s i)) ≤ length s)
-      go false e d f r = let k = ltb-false i (length s) e in let q = run_end p s i k in (omega arith, omega arith)
+      go false e d f r = let k = ltb-false i (length s) e in let q = run-end p s i k in (omega arith, omega arith)
       go true e false f r = let q = run-stop p s i (ltb-true i (length s) e) f in (omega arith, omega arith)
       go true e true f r =
           let l = ltb-true i (length s) e in
@@ -93,7 +93,7 @@ ascii-id = record { nul = refl; wide = λ c h. ap (λ z. z && isIdChar c) (le-lt
 
 pub ascii-id-id : (t : Text) → asciiIdChar t ≡ true → idChar t ≡ true
 ascii-id-id [] e = clash e
-ascii-id-id (c ∷ t) e = (and_both (ltb c.code 0x80) (isIdChar c.code) e).1
+ascii-id-id (c ∷ t) e = (and-both (ltb c.code 0x80) (isIdChar c.code) e).1
 
 -- A run of id characters goes on past the byte at i, by the test b of the byte, or past a Russian letter, or stops there; f: what the loop found at
 -- its start.
@@ -101,9 +101,9 @@ module _ (s : List ℕ) (i : ℕ) (f : Text) where
   pub id-on : {b : Bool} → i < length s → b ≡ isAsciiId (get_or s i 0) → b ≡ true
       → afterRun idChar (from s i) ≡ f → afterRun idChar (from s (i + 1)) ≡ f
   id-on h q t v =
-      let e = and_both (ltb (get_or s i 0) 0x80) (isIdChar (get_or s i 0)) (sym q ∙ t) in
+      let e = and-both (ltb (get_or s i 0) 0x80) (isIdChar (get_or s i 0)) (sym q ∙ t) in
       let l = ltb-true (get_or s i 0) 0x80 e.0 in
-      ap (λ j. afterRun idChar (from s j)) (sym (ascii-next s i h l)) ∙ runs_on isIdChar s i f h (ap isIdChar (ascii-code s i h l) ∙ e.1) v
+      ap (λ j. afterRun idChar (from s j)) (sym (ascii-next s i h l)) ∙ runs-on isIdChar s i f h (ap isIdChar (ascii-code s i h l) ∙ e.1) v
 
   pub id-out : {b : Bool} → i < length s → b ≡ isAsciiId (get_or s i 0) → b ≡ false → get_or s i 0 < 0x80
       → afterRun idChar (from s i) ≡ f → i ≡ place (length s) f
@@ -115,7 +115,7 @@ module _ (s : List ℕ) (i : ℕ) (f : Text) where
   pub russian-on : Russian s i → afterRun idChar (from s i) ≡ f → afterRun idChar (from s (i + 2)) ≡ f
   russian-on r v =
       let w = r.within in
-      ap (λ j. afterRun idChar (from s j)) (sym r.next) ∙ runs_on isIdChar s i f (omega arith) r.goes_on v
+      ap (λ j. afterRun idChar (from s j)) (sym r.next) ∙ runs-on isIdChar s i f (omega arith) r.goes-on v
 
 -- a run of ASCII id characters that ends at the place r
 module _ (s : List ℕ) (i r : ℕ) (h : i ≤ length s) (e : r ≡ place (length s) (afterRun asciiIdChar (from s i))) where
@@ -130,7 +130,7 @@ module _ (s : List ℕ) (i r : ℕ) (h : i ≤ length s) (e : r ≡ place (lengt
       (a.0, a.1, sym ascii-then ∙ stays)
     where
       no : isAsciiId (get_or s r 0) ≡ false
-      no = sym (head_byte isAsciiId ascii-id s r) ∙ ap asciiIdChar (run-place asciiIdChar s i r h e).2 ∙ run-done asciiIdChar refl (from s i)
+      no = sym (head-byte isAsciiId ascii-id s r) ∙ ap asciiIdChar (run-place asciiIdChar s i r h e).2 ∙ run-done asciiIdChar refl (from s i)
 
       stays : afterRun idChar (from s r) ≡ from s r
       stays = go (ltb r (length s)) refl
@@ -139,5 +139,5 @@ module _ (s : List ℕ) (i r : ℕ) (h : i ≤ length s) (e : r ≡ place (lengt
           go true q =
               let k = ltb-true r (length s) q in
               let m : isIdChar (get_or s r 0) ≡ false = rw (lt-ltb (get_or s r 0) 0x80 l) at no in
-              run-stays idChar (from s r) (head_at isIdChar s r k ∙ ap isIdChar (ascii-code s r k l) ∙ m)
+              run-stays idChar (from s r) (head-at isIdChar s r k ∙ ap isIdChar (ascii-code s r k l) ∙ m)
           go false q = run-stays idChar (from s r) (ap idChar (at-end s r (ltb-false r (length s) q)))

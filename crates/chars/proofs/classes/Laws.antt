@@ -6,17 +6,17 @@ use mathlib.Core.Bool.{Bool, true, false, cond, not, ◌&&◌, ◌||◌, and-tru
 use native.Mathlib.Omega.{arith}
 use borrow.Author.Tests.{not-true, eqb-true, ltb-true, ltb-false, le-leb, lt-leb, le-ltb, ne_eqb}
 use lib.Dec.{eqb, ltb}
-use Rattle.chars.specs.paper.Quoted.{between, codes, one_of}
+use Rattle.chars.specs.paper.Quoted.{between, codes, oneOf}
 use Rattle.chars.specs.paper.Tables.{alphabeticTable, lowercaseTable, uppercaseTable, ndTable, alphaNotLetterTable}
 use Rattle.chars.specs.paper.Classes.{isIdStart, isIdChar, opSigns, isOpSign, isPrintable, alphabetic, lowercase, uppercase, nd, alphaNotLetter}
-use Rattle.chars.proofs.classes.Ranges.{between_in, between-out, in_between, clear-out, covered-in, only-first}
+use Rattle.chars.proofs.classes.Ranges.{between-in, between-out, in-between, clear-out, covered-in, only-first}
 use Rattle.chars.specs.promises.Codes.{every}
 use Rattle.chars.specs.promises.Classes.{lowStart, lowId}
 use Rattle.chars.proofs.Carry.{carry}
 
 -- ---- operator signs
 
-pub sign-is : (c : ℕ) → isOpSign c ≡ one_of opSigns c
+pub sign-is : (c : ℕ) → isOpSign c ≡ oneOf opSigns c
 unfolding isOpSign
 sign-is c = refl
 
@@ -73,7 +73,7 @@ byte-id b = below isIdChar lowId low-id b
 
 -- quoted characters of which none is in a class: ASCII by q, and the double arrow
 quoted-not : (p q : ℕ → Bool) → ((c : ℕ) → c < 0x80 → p c ≡ q c) → p 0x21D2 ≡ false → (t : String)
-    → every (λ x. cond (ltb x 0x80) (not (q x)) (eqb x 0x21D2)) (codes t) ≡ true → (c : ℕ) → one_of t c ≡ true → not (p c) ≡ true
+    → every (λ x. cond (ltb x 0x80) (not (q x)) (eqb x 0x21D2)) (codes t) ≡ true → (c : ℕ) → oneOf t c ≡ true → not (p c) ≡ true
 quoted-not p q h a t k c e = go (ltb c 0x80) refl (carry (λ x. cond (ltb x 0x80) (not (q x)) (eqb x 0x21D2)) (codes t) c k e)
   where
     go : (x : Bool) → ltb c 0x80 ≡ x → cond x (not (q c)) (eqb c 0x21D2) ≡ true → not (p c) ≡ true
@@ -112,7 +112,7 @@ module _ (c : ℕ) (from : 0x24B6 ≤ c) (to : c ≤ 0x24E9) where
   pub circled-no-start : isIdStart c ≡ false
   unfolding isIdStart
   circled-no-start =
-      let e : between 0x24B6 0x24E9 c ≡ true = between_in 0x24B6 0x24E9 c from to in
+      let e : between 0x24B6 0x24E9 c ≡ true = between-in 0x24B6 0x24E9 c from to in
       rw (le-leb c 0xFFFF (omega arith), e)
 
   circled-mark : alphaNotLetter c ≡ true
@@ -133,8 +133,8 @@ module _ (c : ℕ) (from : 0x24B6 ≤ c) (to : c ≤ 0x24E9) where
 
 module _ (c : ℕ) (h : 0x80 ≤ c) where
   -- the one operator sign is the double arrow
-  pub wide_sign : isOpSign c ≡ true → c ≡ 0x21D2
-  wide_sign e =
+  pub wide-sign : isOpSign c ≡ true → c ≡ 0x21D2
+  wide-sign e =
       let k = carry (λ x. ltb x 0x80 || eqb x 0x21D2) (codes opSigns) c refl (sym (sign-is c) ∙ e) in
       eqb-true c 0x21D2 (rw (le-ltb c 0x80 h) at k)
 
@@ -190,7 +190,7 @@ pub russian-start : (c : ℕ) → between 0x0410 0x044F c ≡ true → isIdStart
 russian-start c e = go (ltb c 0x0430) refl
   where
     r : (0x0410 ≤ c) × (c ≤ 0x044F)
-    r = in_between 0x0410 0x044F c e
+    r = in-between 0x0410 0x044F c e
 
     either : lowercase c || uppercase c ≡ true → isIdStart c ≡ true
     either h = let k = r in wide-start c (omega arith) (omega arith) (λ m. absurd (omega arith)) ∙ h
@@ -204,7 +204,7 @@ russian-start c e = go (ltb c 0x0430) refl
 
 pub russian-id : (c : ℕ) → between 0x0410 0x044F c ≡ true → isIdChar c ≡ true
 russian-id c e =
-    let r = in_between 0x0410 0x044F c e in
+    let r = in-between 0x0410 0x044F c e in
     wide-id c (omega arith) (omega arith) ∙ rw (letter-range c r.0 r.1, mark-range c r.0 r.1)
 
 -- ---- what `src/classes.rt` names for the prover

@@ -16,8 +16,8 @@ use Rattle.chars.proofs.Bools.{clash}
 
 -- ---- a code and one range
 
-pub between_in : (l h c : ℕ) → l ≤ c → c ≤ h → between l h c ≡ true
-between_in l h c p q = rw (le-leb l c, le-leb c h)
+pub between-in : (l h c : ℕ) → l ≤ c → c ≤ h → between l h c ≡ true
+between-in l h c p q = rw (le-leb l c, le-leb c h)
 
 pub between-out : (l h c : ℕ) → (l ≤ c → h < c) → between l h c ≡ false
 between-out l h c p = go (leb l c) refl
@@ -26,8 +26,8 @@ between-out l h c p = go (leb l c) refl
     go false e = refl
     go true e = lt-leb c h (p (leb-true l c e))
 
-pub in_between : (l h c : ℕ) → between l h c ≡ true → (l ≤ c) × (c ≤ h)
-in_between l h c e = let k = (and-eq-true_iff (leb l c) (leb c h)).0 e in (leb-true l c k.0, leb-true c h k.1)
+pub in-between : (l h c : ℕ) → between l h c ≡ true → (l ≤ c) × (c ≤ h)
+in-between l h c e = let k = (and-eq-true_iff (leb l c) (leb c h)).0 e in (leb-true l c k.0, leb-true c h k.1)
 
 pub not-between : (l h c : ℕ) → between l h c ≡ false → l ≤ c → h < c
 not-between l h c e p = leb-false c h (rw (le-leb l c p) at e)
@@ -66,7 +66,7 @@ module _ (l h c : ℕ) (p : l ≤ c) (q : c ≤ h) where
           let k = (and-eq-true_iff (leb a l) (leb h b)).0 f in
           let m = leb-true a l k.0 in
           let n = leb-true h b k.1 in
-          let y : between a b c ≡ true = between_in a b c (omega arith) (omega arith) in
+          let y : between a b c ≡ true = between-in a b c (omega arith) (omega arith) in
           rw y
       go false f g r = rw (r g) (or-true (between a b c))
 
@@ -84,8 +84,8 @@ record FirstRange (f a b : ℕ) (t : List Range) : Type 0 where
   ends : a ≤ b
   rest : ascendingFrom (suc b) t ≡ true
 
-first_range : (f a b : ℕ) (t : List Range) → ascendingFrom f (a to b ∷ t) ≡ true → FirstRange f a b t
-first_range f a b t e =
+first-range : (f a b : ℕ) (t : List Range) → ascendingFrom f (a to b ∷ t) ≡ true → FirstRange f a b t
+first-range f a b t e =
     let k = (and-eq-true_iff (leb f a && leb a b) (ascendingFrom (suc b) t)).0 e in
     let l = (and-eq-true_iff (leb f a) (leb a b)).0 k.0 in
     record { start = leb-true f a l.0; ends = leb-true a b l.1; rest = k.1 }
@@ -93,21 +93,21 @@ first_range f a b t e =
 -- every range begins at the bound or above
 low-from : (f : ℕ) (t : List Range) → ascendingFrom f t ≡ true → (k : ℕ) → k < length t → f ≤ low (rangeAt t k)
 low-from f [] e k h = absurd (not-suc-le-zero h)
-low-from f (◌to◌ a b ∷ t) e zero h = (first_range f a b t e).start
+low-from f (◌to◌ a b ∷ t) e zero h = (first-range f a b t e).start
 low-from f (◌to◌ a b ∷ t) e (suc k) h =
-    let q = first_range f a b t e in
+    let q = first-range f a b t e in
     let i = low-from (suc b) t q.rest k (le_of_suc-le-suc h) in
     omega arith
 
 ordered-from : (f : ℕ) (t : List Range) → ascendingFrom f t ≡ true → (k : ℕ) → k < length t → low (rangeAt t k) ≤ high (rangeAt t k)
 ordered-from f [] e k h = absurd (not-suc-le-zero h)
-ordered-from f (◌to◌ a b ∷ t) e zero h = (first_range f a b t e).ends
-ordered-from f (◌to◌ a b ∷ t) e (suc k) h = ordered-from (suc b) t (first_range f a b t e).rest k (le_of_suc-le-suc h)
+ordered-from f (◌to◌ a b ∷ t) e zero h = (first-range f a b t e).ends
+ordered-from f (◌to◌ a b ∷ t) e (suc k) h = ordered-from (suc b) t (first-range f a b t e).rest k (le_of_suc-le-suc h)
 
 disjoint-from : (f : ℕ) (t : List Range) → ascendingFrom f t ≡ true → (k : ℕ) → suc k < length t → high (rangeAt t k) < low (rangeAt t (suc k))
 disjoint-from f [] e k h = absurd (not-suc-le-zero h)
-disjoint-from f (◌to◌ a b ∷ t) e zero h = low-from (suc b) t (first_range f a b t e).rest zero (le_of_suc-le-suc h)
-disjoint-from f (◌to◌ a b ∷ t) e (suc k) h = disjoint-from (suc b) t (first_range f a b t e).rest k (le_of_suc-le-suc h)
+disjoint-from f (◌to◌ a b ∷ t) e zero h = low-from (suc b) t (first-range f a b t e).rest zero (le_of_suc-le-suc h)
+disjoint-from f (◌to◌ a b ∷ t) e (suc k) h = disjoint-from (suc b) t (first-range f a b t e).rest k (le_of_suc-le-suc h)
 
 -- a table that passes the test keeps document 01's rule
 pub ascending : (t : List Range) → ascendingFrom 0 t ≡ true → Ascending t
@@ -119,7 +119,7 @@ ascending t e = record { ordered = ordered-from 0 t e; disjoint = disjoint-from 
 outside : (f : ℕ) (t : List Range) (c : ℕ) → ascendingFrom f t ≡ true → (0 < length t → c < low (rangeAt t 0)) → inRanges t c ≡ false
 outside f [] c e h = refl
 outside f (◌to◌ a b ∷ t) c e h =
-    let q = first_range f a b t e in
+    let q = first-range f a b t e in
     let z : c < a = h (suc-le-suc zero-le) in
     let y : between a b c ≡ false = between-out a b c (λ l. omega arith) in
     rw y (outside (suc b) t c q.rest (λ n. let i = low-from (suc b) t q.rest 0 n in omega arith))
@@ -128,10 +128,10 @@ outside f (◌to◌ a b ∷ t) c e h =
 found : (f : ℕ) (t : List Range) (c k : ℕ) → ascendingFrom f t ≡ true → k < length t → low (rangeAt t k) ≤ c → (suc k < length t → c < low (rangeAt t (suc k))) → inRanges t c ≡ leb c (high (rangeAt t k))
 found f [] c k e h l n = absurd (not-suc-le-zero h)
 found f (◌to◌ a b ∷ t) c zero e h l n =
-    let q = first_range f a b t e in
+    let q = first-range f a b t e in
     rw (le-leb a c l, outside (suc b) t c q.rest (λ m. n (suc-le-suc m))) (or-false (leb c b))
 found f (◌to◌ a b ∷ t) c (suc k) e h l n =
-    let q = first_range f a b t e in
+    let q = first-range f a b t e in
     let i = low-from (suc b) t q.rest k (le_of_suc-le-suc h) in
     let y : between a b c ≡ false = between-out a b c (λ m. omega arith) in
     rw y (found (suc b) t c k q.rest (le_of_suc-le-suc h) l (λ m. n (suc-le-suc m)))
@@ -165,8 +165,8 @@ module _ (l : List ℕ) (c : ℕ) (e : ascendingFrom 0 (pairs l) ≡ true) where
       outside 0 (pairs l) c e
       (λ n. let p = pairs-length l in let q = pairs-low l 0 n in let z = h (omega arith) in omega arith)
 
-  pub ends_found : (k : ℕ) → k < length l / 2 → get_or l (k * 2) 0 ≤ c → (suc k < length l / 2 → c < get_or l (suc k * 2) 0) → inRanges (pairs l) c ≡ leb c (get_or l (suc (k * 2)) 0)
-  ends_found k h b n =
+  pub ends-found : (k : ℕ) → k < length l / 2 → get_or l (k * 2) 0 ≤ c → (suc k < length l / 2 → c < get_or l (suc k * 2) 0) → inRanges (pairs l) c ≡ leb c (get_or l (suc (k * 2)) 0)
+  ends-found k h b n =
       let p = pairs-length l in
       let w : k < length (pairs l) = omega arith in
       let q = pairs-low l k w in

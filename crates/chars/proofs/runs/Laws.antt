@@ -10,7 +10,7 @@ use native.Mathlib.Omega.{arith}
 use borrow.Author.Tests.{leb-true, ltb-true, ltb-false, eqb-false, not-true}
 use Rattle.chars.specs.code.Runs.{Each, stepsIn, stepsOver, fourBy, eightBy, sixteenBy, thirtyTwoBy, Within, AllIn, twoIn, eightIn, thirtyTwoIn, Other, andOther, twoNot, eightNot, Neither, twoNeither, eightNeither}
 use Rattle.chars.specs.promises.Runs.{RunLaws}
-use Rattle.chars.proofs.Bools.{and_both}
+use Rattle.chars.proofs.Bools.{and-both}
 
 -- ---- any property
 
@@ -25,16 +25,16 @@ module _ (P : ℕ → Type 0) (s : List ℕ) where
       go true q = a k l (ltb-true k j q)
       go false q = b k (ltb-false k j q) h
 
-  each_two : (i : ℕ) → P (get_or s i 0) → P (get_or s (i + 1) 0) → Each P s i (i + 2)
-  each_two i a b k l m = each-join i (i + 1) (i + 1 + 1) (each-one i a) (each-one (i + 1) b) k l (omega arith)
+  each-two : (i : ℕ) → P (get_or s i 0) → P (get_or s (i + 1) 0) → Each P s i (i + 2)
+  each-two i a b k l m = each-join i (i + 1) (i + 1 + 1) (each-one i a) (each-one (i + 1) b) k l (omega arith)
 
   -- by two tests: up to j, and of the n bytes there
-  each_and : {p q : Bool} (i j n m : ℕ) → m ≤ j + n → (p ≡ true → Each P s i j) → (q ≡ true → Each P s j (j + n)) → p && q ≡ true → Each P s i m
-  each_and {p} {q} i j n m h a b e k l u = let c = and_both p q e in each-join i j (j + n) (a c.0) (b c.1) k l (omega arith)
+  each-and : {p q : Bool} (i j n m : ℕ) → m ≤ j + n → (p ≡ true → Each P s i j) → (q ≡ true → Each P s j (j + n)) → p && q ≡ true → Each P s i m
+  each-and {p} {q} i j n m h a b e k l u = let c = and-both p q e in each-join i j (j + n) (a c.0) (b c.1) k l (omega arith)
 
   -- n bytes that stand there
   each-here : {p : Bool} (i n : ℕ) → (p ≡ true → Each P s i (i + n)) → leb (i + n) (length s) && p ≡ true → (i + n ≤ length s) × Each P s i (i + n)
-  each-here {p} i n a e = let c = and_both (leb (i + n) (length s)) p e in (leb-true (i + n) (length s) c.0, a c.1)
+  each-here {p} i n a e = let c = and-both (leb (i + n) (length s)) p e in (leb-true (i + n) (length s) c.0, a c.1)
 
 -- ---- a loop that passes `step` bytes at a time, by a test of them
 
@@ -53,18 +53,18 @@ module _ (step : ℕ) (test : List ℕ → ℕ → Bool) (s : List ℕ) (moves :
       go false e = e
 
   -- one step more than suffices changes nothing
-  one_more : (n i : ℕ) → length s ≤ i + n → stepsIn (suc n) step (test s) i ≡ stepsIn n step (test s) i
+  one-more : (n i : ℕ) → length s ≤ i + n → stepsIn (suc n) step (test s) i ≡ stepsIn n step (test s) i
   unfolding stepsIn
-  one_more zero i l = rw (none-past i (omega arith))
-  one_more (suc n) i l = ap (λ x. cond (test s i) x i) (one_more n (i + step) (omega arith))
+  one-more zero i l = rw (none-past i (omega arith))
+  one-more (suc n) i l = ap (λ x. cond (test s i) x i) (one-more n (i + step) (omega arith))
 
-  steps_on : (n i : ℕ) → length s ≤ n → test s i ≡ true → stepsIn n step (test s) (i + step) ≡ stepsIn n step (test s) i
+  steps-on : (n i : ℕ) → length s ≤ n → test s i ≡ true → stepsIn n step (test s) (i + step) ≡ stepsIn n step (test s) i
   unfolding stepsIn
-  steps_on zero i l e = absurd (let h = stand i e in omega arith)
-  steps_on (suc n) i l e = one_more n (i + step) (omega arith) ∙ rw e
+  steps-on zero i l e = absurd (let h = stand i e in omega arith)
+  steps-on (suc n) i l e = one-more n (i + step) (omega arith) ∙ rw e
 
   pub over-on : (i : ℕ) → test s i ≡ true → stepsOver step test s (i + step) ≡ stepsOver step test s i
-  over-on i = steps_on (length s) i (omega arith)
+  over-on i = steps-on (length s) i (omega arith)
 
 -- from the place a on it stands at the place i: what its definition gives from i on is what it gives from a on
 pub record Passed (P : ℕ → Type 0) (step : ℕ) (test : List ℕ → ℕ → Bool) (s : List ℕ) (a i : ℕ) : Type 0 where
@@ -91,26 +91,26 @@ module _ (P : ℕ → Type 0) (step : ℕ) (test : List ℕ → ℕ → Bool) (s
 -- a test of two bytes by which both have it
 module _ (P : ℕ → Type 0) (s : List ℕ) (two : List ℕ → ℕ → Bool) (both : (i : ℕ) → two s i ≡ true → P (get_or s i 0) × P (get_or s (i + 1) 0)) where
   two-each : (i : ℕ) → two s i ≡ true → Each P s i (i + 2)
-  two-each i e = let x = both i e in each_two P s i x.0 x.1
+  two-each i e = let x = both i e in each-two P s i x.0 x.1
 
   four-each : (i : ℕ) → fourBy two s i ≡ true → Each P s i (i + 4)
   unfolding fourBy
-  four-each i = each_and P s i (i + 2) 2 (i + 4) (omega arith) (two-each i) (two-each (i + 2))
+  four-each i = each-and P s i (i + 2) 2 (i + 4) (omega arith) (two-each i) (two-each (i + 2))
 
   eight-each : (i : ℕ) → eightBy two s i ≡ true → (i + 8 ≤ length s) × Each P s i (i + 8)
   unfolding eightBy
-  eight-each i = each-here P s i 8 (each_and P s i (i + 4) 4 (i + 8) (omega arith) (four-each i) (four-each (i + 4)))
+  eight-each i = each-here P s i 8 (each-and P s i (i + 4) 4 (i + 8) (omega arith) (four-each i) (four-each (i + 4)))
 
   sixteen-each : (i : ℕ) → sixteenBy two s i ≡ true → Each P s i (i + 16)
   unfolding sixteenBy
   sixteen-each i =
-      let a = each_and P s i (i + 4) 4 (i + 8) (omega arith) (four-each i) (four-each (i + 4)) in
-      let b = each_and P s i (i + 8) 4 (i + 12) (omega arith) a (four-each (i + 8)) in
-      each_and P s i (i + 12) 4 (i + 16) (omega arith) b (four-each (i + 12))
+      let a = each-and P s i (i + 4) 4 (i + 8) (omega arith) (four-each i) (four-each (i + 4)) in
+      let b = each-and P s i (i + 8) 4 (i + 12) (omega arith) a (four-each (i + 8)) in
+      each-and P s i (i + 12) 4 (i + 16) (omega arith) b (four-each (i + 12))
 
   thirty-two-each : (i : ℕ) → thirtyTwoBy two s i ≡ true → (i + 32 ≤ length s) × Each P s i (i + 32)
   unfolding thirtyTwoBy
-  thirty-two-each i = each-here P s i 32 (each_and P s i (i + 16) 16 (i + 32) (omega arith) (sixteen-each i) (sixteen-each (i + 16)))
+  thirty-two-each i = each-here P s i 32 (each-and P s i (i + 16) 16 (i + 32) (omega arith) (sixteen-each i) (sixteen-each (i + 16)))
 
 -- ---- bytes of a range
 
@@ -120,9 +120,9 @@ module _ (low high : ℕ) (s : List ℕ) where
   both-in i e =
       let x = get_or s i 0 in
       let y = get_or s (i + 1) 0 in
-      let c = and_both ((leb low x && leb x high) && leb low y) (leb y high) e in
-      let b = and_both (leb low x && leb x high) (leb low y) c.0 in
-      let a = and_both (leb low x) (leb x high) b.0 in
+      let c = and-both ((leb low x && leb x high) && leb low y) (leb y high) e in
+      let b = and-both (leb low x && leb x high) (leb low y) c.0 in
+      let a = and-both (leb low x) (leb x high) b.0 in
       ((leb-true low x a.0, leb-true x high a.1), (leb-true low y b.1, leb-true y high c.1))
 
   pub eight-all : (i : ℕ) → eightIn low high s i ≡ true → (i + 8 ≤ length s) × AllIn low high s i (i + 8)
@@ -152,10 +152,10 @@ is-not x y q = eqb-false x y (not-true _ q)
 module _ (a b c d : ℕ) where
   and-other : (p : Bool) (x : ℕ) → andOther p a b c d x ≡ true → (p ≡ true) × Other a b c d x
   and-other p x e =
-      let l = and_both (((p && not (eqb x a)) && not (eqb x b)) && not (eqb x c)) (not (eqb x d)) e in
-      let m = and_both ((p && not (eqb x a)) && not (eqb x b)) (not (eqb x c)) l.0 in
-      let n = and_both (p && not (eqb x a)) (not (eqb x b)) m.0 in
-      let o = and_both p (not (eqb x a)) n.0 in
+      let l = and-both (((p && not (eqb x a)) && not (eqb x b)) && not (eqb x c)) (not (eqb x d)) e in
+      let m = and-both ((p && not (eqb x a)) && not (eqb x b)) (not (eqb x c)) l.0 in
+      let n = and-both (p && not (eqb x a)) (not (eqb x b)) m.0 in
+      let o = and-both p (not (eqb x a)) n.0 in
       (o.0, (is-not x a o.1, is-not x b n.1, is-not x c m.1, is-not x d l.1))
 
   module _ (s : List ℕ) where
@@ -178,9 +178,9 @@ module _ (a b : ℕ) (s : List ℕ) where
   both-neither i e =
       let x = get_or s i 0 in
       let y = get_or s (i + 1) 0 in
-      let l = and_both ((not (eqb x a) && not (eqb x b)) && not (eqb y a)) (not (eqb y b)) e in
-      let m = and_both (not (eqb x a) && not (eqb x b)) (not (eqb y a)) l.0 in
-      let n = and_both (not (eqb x a)) (not (eqb x b)) m.0 in
+      let l = and-both ((not (eqb x a) && not (eqb x b)) && not (eqb y a)) (not (eqb y b)) e in
+      let m = and-both (not (eqb x a) && not (eqb x b)) (not (eqb y a)) l.0 in
+      let n = and-both (not (eqb x a)) (not (eqb x b)) m.0 in
       ((is-not x a n.0, is-not x b n.1), (is-not y a m.1, is-not y b l.1))
 
   -- where `skip_except_two` stands, and its turn

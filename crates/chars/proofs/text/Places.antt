@@ -10,15 +10,15 @@ use lib.Dec.{ltb}
 use native.Mathlib.Nat.{add-zero}
 use native.Mathlib.Omega.{arith}
 use borrow.Author.Tests.{ltb-true, ltb-false}
-use Rattle.chars.specs.paper.Utf8.{WellFormed, width, code_of}
+use Rattle.chars.specs.paper.Utf8.{WellFormed, width, codeOf}
 use Rattle.chars.specs.paper.Text.{Text, charsAt, from, place, headIs}
-use Rattle.chars.specs.code.Text.{code_at, charEnd, stepAt}
+use Rattle.chars.specs.code.Text.{codeAt, charEnd, stepAt}
 use Rattle.chars.specs.promises.Texts.{AsciiClass, PastWide}
 use Rattle.chars.specs.computed.Runs.{afterRun}
 use Rattle.chars.specs.declared.text.Step.TheVariants as step
 use Rattle.chars.proofs.utf8.Rows as rows
-use Rattle.chars.proofs.utf8.Codes.{code_one}
-use Rattle.chars.proofs.utf8.Valid.{first_char}
+use Rattle.chars.proofs.utf8.Codes.{code-one}
+use Rattle.chars.proofs.utf8.Valid.{first-char}
 use Rattle.chars.proofs.utf8.Widths.{width-within}
 use Rattle.chars.proofs.utf8.Wide.{Wide, wide}
 use Rattle.chars.proofs.text.Texts.{chars-skip}
@@ -28,15 +28,15 @@ module _ (s : List ℕ) (i : ℕ) where
   byte0 = get_or-drop i s 0 0 ∙ ap (λ k. get_or s k 0) (add-zero i)
 
   -- the text at i is its first character and the text from where that ends
-  pub at-char : i < length s → from s i ≡ record { code = code_at s i; at = i } ∷ from s (charEnd s i)
+  pub at-char : i < length s → from s i ≡ record { code = codeAt s i; at = i } ∷ from s (charEnd s i)
   unfolding from charsAt charEnd
   at-char h =
       let q = rows.here s i h in
       let w = width (drop i s) in
       let x : i + 1 + (w - 1) ≡ suc i + (w - 1) = omega arith in
       ap (charsAt i 0) q
-      ∙ ap (λ t. record { code = code_of (width t) t; at = i } ∷ charsAt (suc i) (width t - 1) (drop (i + 1) s)) (sym q)
-      ∙ ap (λ t. record { code = code_at s i; at = i } ∷ t)
+      ∙ ap (λ t. record { code = codeOf (width t) t; at = i } ∷ charsAt (suc i) (width t - 1) (drop (i + 1) s)) (sym q)
+      ∙ ap (λ t. record { code = codeAt s i; at = i } ∷ t)
       (chars-skip (suc i) (w - 1) (drop (i + 1) s) ∙ ap (charsAt (suc i + (w - 1)) 0) (drop-drop (w - 1) (i + 1) s ∙ ap (λ j. drop j s) x))
 
   pub at-end : length s ≤ i → from s i ≡ []
@@ -59,23 +59,23 @@ module _ (s : List ℕ) (i : ℕ) where
   ascii-width : i < length s → get_or s i 0 < 0x80 → width (drop i s) ≡ 1
   ascii-width h l = ap width (rows.here s i h) ∙ sym (rows.row-00 (get_or s i 0) (drop (i + 1) s) (omega arith) (omega arith))
 
-  pub ascii-code : i < length s → get_or s i 0 < 0x80 → code_at s i ≡ get_or s i 0
-  ascii-code h l = ap (λ w. code_of w (drop i s)) (ascii-width h l) ∙ sym (code_one s i 1 (omega arith))
+  pub ascii-code : i < length s → get_or s i 0 < 0x80 → codeAt s i ≡ get_or s i 0
+  ascii-code h l = ap (λ w. codeOf w (drop i s)) (ascii-width h l) ∙ sym (code-one s i 1 (omega arith))
 
   pub ascii-next : i < length s → get_or s i 0 < 0x80 → charEnd s i ≡ i + 1
   unfolding charEnd
   ascii-next h l = let e = ascii-width h l in omega arith
 
-  pub at_ascii : i < length s → get_or s i 0 < 0x80 → from s i ≡ record { code = get_or s i 0; at = i } ∷ from s (i + 1)
-  at_ascii h l = at-char h ∙ ap (λ c. record { code = c; at = i } ∷ from s (charEnd s i)) (ascii-code h l) ∙ ap (λ j. record { code = get_or s i 0; at = i } ∷ from s j) (ascii-next h l)
+  pub at-ascii : i < length s → get_or s i 0 < 0x80 → from s i ≡ record { code = get_or s i 0; at = i } ∷ from s (i + 1)
+  at-ascii h l = at-char h ∙ ap (λ c. record { code = c; at = i } ∷ from s (charEnd s i)) (ascii-code h l) ∙ ap (λ j. record { code = get_or s i 0; at = i } ∷ from s j) (ascii-next h l)
 
   -- ---- past ASCII
 
-  pub wide-code : 0x80 ≤ get_or s i 0 → 0x80 ≤ code_at s i
+  pub wide-code : 0x80 ≤ get_or s i 0 → 0x80 ≤ codeAt s i
   wide-code h = ⊎_elim alone (λ w. w.code) (wide (drop i s) (rw byte0 h))
     where
-      alone : width (drop i s) ≡ 0 → 0x80 ≤ code_at s i
-      alone e = let q : code_at s i ≡ get_or s i 0 = ap (λ w. code_of w (drop i s)) e ∙ sym (code_one s i 0 (omega arith)) in omega arith
+      alone : width (drop i s) ≡ 0 → 0x80 ≤ codeAt s i
+      alone e = let q : codeAt s i ≡ get_or s i 0 = ap (λ w. codeOf w (drop i s)) e ∙ sym (code-one s i 0 (omega arith)) in omega arith
 
   -- the bytes of a character after its first
   pub wide-tail : i < length s → (j : ℕ) → i < j → j < charEnd s i → (0x80 ≤ get_or s j 0) × (get_or s j 0 ≤ 0xBF)
@@ -108,7 +108,7 @@ module _ (s : List ℕ) (i : ℕ) where
   unfolding charEnd
   next-valid h w =
       let d = length-drop i s in
-      let f = first_char w (omega arith) in
+      let f = first-char w (omega arith) in
       let k : i + width (drop i s) ≡ suc i + (width (drop i s) - 1) = let x = f.0 in omega arith in
       (λ l. go (ltb 0xBF (get_or s i 0)) refl l f.0, rw (drop-drop, k) at f.1)
     where
@@ -118,23 +118,23 @@ module _ (s : List ℕ) (i : ℕ) where
 
 -- ---- a class of ASCII characters is tested on the byte; past the end the byte counts as 0
 
-pub head_byte : (p : ℕ → Bool) → AsciiClass p → (s : List ℕ) (i : ℕ) → headIs p (from s i) ≡ p (get_or s i 0)
-head_byte p a s i = go (ltb i (length s)) refl (ltb (get_or s i 0) 0x80) refl
+pub head-byte : (p : ℕ → Bool) → AsciiClass p → (s : List ℕ) (i : ℕ) → headIs p (from s i) ≡ p (get_or s i 0)
+head-byte p a s i = go (ltb i (length s)) refl (ltb (get_or s i 0) 0x80) refl
   where
     go : (b : Bool) → ltb i (length s) ≡ b → (l : Bool) → ltb (get_or s i 0) 0x80 ≡ l → headIs p (from s i) ≡ p (get_or s i 0)
     go false e l f = let h = ltb-false i (length s) e in ap (headIs p) (at-end s i h) ∙ sym (ap p (get_or-eq_default s 0 h) ∙ a.nul)
-    go true e true f = ap (headIs p) (at_ascii s i (ltb-true i (length s) e) (ltb-true (get_or s i 0) 0x80 f))
+    go true e true f = ap (headIs p) (at-ascii s i (ltb-true i (length s) e) (ltb-true (get_or s i 0) 0x80 f))
     go true e false f =
         let k = ltb-false (get_or s i 0) 0x80 f in
-        ap (headIs p) (at-char s i (ltb-true i (length s) e)) ∙ a.wide (code_at s i) (wide-code s i k) ∙ sym (a.wide (get_or s i 0) k)
+        ap (headIs p) (at-char s i (ltb-true i (length s) e)) ∙ a.wide (codeAt s i) (wide-code s i k) ∙ sym (a.wide (get_or s i 0) k)
 
 -- ---- one step
 
-pub step-text : (s : List ℕ) (i code next : ℕ) → step.Char code next ≡ stepAt s i → (i < length s) × (code_at s i ≡ code) × (charEnd s i ≡ next)
+pub step-text : (s : List ℕ) (i code next : ℕ) → step.Char code next ≡ stepAt s i → (i < length s) × (codeAt s i ≡ code) × (charEnd s i ≡ next)
 unfolding stepAt
 step-text s i code next e = go (ltb i (length s)) refl e
   where
-    go : (b : Bool) → ltb i (length s) ≡ b → step.Char code next ≡ cond b (step.Char (code_at s i) (charEnd s i)) step.End → (i < length s) × (code_at s i ≡ code) × (charEnd s i ≡ next)
+    go : (b : Bool) → ltb i (length s) ≡ b → step.Char code next ≡ cond b (step.Char (codeAt s i) (charEnd s i)) step.End → (i < length s) × (codeAt s i ≡ code) × (charEnd s i ≡ next)
     go true h e = (ltb-true i (length s) h, cc, cc)
     go false h e = absurd (let z : ◌≡◌ {A = ℕ} 0 1 = cc in omega arith)
 
@@ -142,7 +142,7 @@ pub step-none : (s : List ℕ) (i : ℕ) → step.End ≡ stepAt s i → length 
 unfolding stepAt
 step-none s i e = go (ltb i (length s)) refl e
   where
-    go : (b : Bool) → ltb i (length s) ≡ b → step.End ≡ cond b (step.Char (code_at s i) (charEnd s i)) step.End → length s ≤ i
+    go : (b : Bool) → ltb i (length s) ≡ b → step.End ≡ cond b (step.Char (codeAt s i) (charEnd s i)) step.End → length s ≤ i
     go true h e = absurd (let z : ◌≡◌ {A = ℕ} 0 1 = cc in omega arith)
     go false h e = ltb-false i (length s) h
 
@@ -157,9 +157,9 @@ module _ (p : Text → Bool) (s : List ℕ) (i : ℕ) where
   unfolding afterRun
   run-stop h e = let q = at-char s i h in sym (ap (λ x. place (length s) (afterRun p x)) q ∙ rw (sym (ap p q) ∙ e, afterRun))
 
-  pub run_end : length s ≤ i → length s ≡ place (length s) (afterRun p (from s i))
+  pub run-end : length s ≤ i → length s ≡ place (length s) (afterRun p (from s i))
   unfolding afterRun
-  run_end k = rw (at-end s i k)
+  run-end k = rw (at-end s i k)
 
 -- ---- past ASCII one may go byte by byte, also inside a character
 
@@ -182,16 +182,16 @@ module _ (s : List ℕ) where
       (a, tails-past i (charEnd s i - (i + 1)) (i + 1) h (omega arith) (omega arith))
 
 -- a class at the character there
-pub head_at : (p : ℕ → Bool) (s : List ℕ) (i : ℕ) → i < length s → headIs p (from s i) ≡ p (code_at s i)
-head_at p s i h = ap (headIs p) (at-char s i h)
+pub head-at : (p : ℕ → Bool) (s : List ℕ) (i : ℕ) → i < length s → headIs p (from s i) ≡ p (codeAt s i)
+head-at p s i h = ap (headIs p) (at-char s i h)
 
 -- a run that goes on past one character, or stops there; f: what the loop found at its start
 module _ (p : ℕ → Bool) (s : List ℕ) (i : ℕ) (f : Text) where
-  pub runs_on : i < length s → p (code_at s i) ≡ true → afterRun (headIs p) (from s i) ≡ f → afterRun (headIs p) (from s (charEnd s i)) ≡ f
-  runs_on h e q = run-next (headIs p) s i h (head_at p s i h ∙ e) ∙ q
+  pub runs-on : i < length s → p (codeAt s i) ≡ true → afterRun (headIs p) (from s i) ≡ f → afterRun (headIs p) (from s (charEnd s i)) ≡ f
+  runs-on h e q = run-next (headIs p) s i h (head-at p s i h ∙ e) ∙ q
 
-  pub runs-out : i < length s → p (code_at s i) ≡ false → afterRun (headIs p) (from s i) ≡ f → i ≡ place (length s) f
-  runs-out h e q = run-stop (headIs p) s i h (head_at p s i h ∙ e) ∙ ap (place (length s)) q
+  pub runs-out : i < length s → p (codeAt s i) ≡ false → afterRun (headIs p) (from s i) ≡ f → i ≡ place (length s) f
+  runs-out h e q = run-stop (headIs p) s i h (head-at p s i h ∙ e) ∙ ap (place (length s)) q
 
   pub runs-end : length s ≤ i → afterRun (headIs p) (from s i) ≡ f → length s ≡ place (length s) f
-  runs-end h q = run_end (headIs p) s i h ∙ ap (place (length s)) q
+  runs-end h q = run-end (headIs p) s i h ∙ ap (place (length s)) q

@@ -12,16 +12,16 @@ use Rattle.chars.specs.promises.Texts.{Suffix, ScriptText}
 
 -- ---- suffixes
 
-pub suffix_refl : (s : Text) → Suffix s s
-suffix_refl s = record { within = omega arith; rest-is = rw sub_self }
+pub suffix-refl : (s : Text) → Suffix s s
+suffix-refl s = record { within = omega arith; rest-is = rw sub_self }
 
 pub suffix-cons : {r s : Text} (c : Char) → Suffix r s → Suffix r (c ∷ s)
 suffix-cons {r} {s} c h =
     let e : suc (length s) - length r ≡ suc (length s - length r) = omega arith in
     record { within = omega arith; rest-is = rw e h.rest-is }
 
-pub suffix_trans : {q r s : Text} → Suffix q r → Suffix r s → Suffix q s
-suffix_trans {q} {r} {s} h k =
+pub suffix-trans : {q r s : Text} → Suffix q r → Suffix r s → Suffix q s
+suffix-trans {q} {r} {s} h k =
     let e : length s - length r + (length r - length q) ≡ length s - length q = omega arith in
     let d : drop (length r - length q) (drop (length s - length r) s) ≡ drop (length s - length q) s =
     drop-drop (length r - length q) (length s - length r) s ∙ ap (λ n. drop n s) e in
@@ -31,8 +31,8 @@ pub suffix-same : {q r s : Text} → Suffix q s → Suffix r s → length q ≡ 
 suffix-same {q} {r} {s} h k e = h.rest-is ∙ ap (λ n. drop (length s - n) s) e ∙ sym k.rest-is
 
 pub drop-suffix : (k : ℕ) (s : Text) → Suffix (drop k s) s
-drop-suffix zero s = suffix_refl s
-drop-suffix (suc k) [] = suffix_refl []
+drop-suffix zero s = suffix-refl s
+drop-suffix (suc k) [] = suffix-refl []
 drop-suffix (suc k) (c ∷ s) = suffix-cons c (drop-suffix k s)
 
 -- ---- characters of bytes
@@ -69,9 +69,9 @@ chars-length i zero (a ∷ t) = let h = chars-length (suc i) (width (a ∷ t) - 
 
 -- ---- texts of the script
 
-pub text_at : (script : List ℕ) (c : Char) (s : Text) → ScriptText script (c ∷ s) → (from script c.at ≡ c ∷ s) × ScriptText script s
+pub text-at : (script : List ℕ) (c : Char) (s : Text) → ScriptText script (c ∷ s) → (from script c.at ≡ c ∷ s) × ScriptText script s
 unfolding from
-text_at script c s (i, e) =
+text-at script c s (i, e) =
     let h = chars-cons i (drop i script) c s e in
     let a : i + suc h.1 ≡ suc i + h.1 = omega arith in
     let q : drop (suc h.1) (drop i script) ≡ drop (suc i + h.1) script = drop-drop (suc h.1) i script ∙ ap (λ j. drop j script) a in (
@@ -82,7 +82,7 @@ text_at script c s (i, e) =
 pub text-drop : (script : List ℕ) (k : ℕ) (s : Text) → ScriptText script s → ScriptText script (drop k s)
 text-drop script zero s h = h
 text-drop script (suc k) [] h = h
-text-drop script (suc k) (c ∷ s) h = text-drop script k s (text_at script c s h).1
+text-drop script (suc k) (c ∷ s) h = text-drop script k s (text-at script c s h).1
 
 pub text-suffix : (script : List ℕ) (r s : Text) → Suffix r s → ScriptText script s → ScriptText script r
 text-suffix script r s h t = rw h.rest-is (text-drop script (length s - length r) s t)
@@ -91,7 +91,7 @@ text-suffix script r s h t = rw h.rest-is (text-drop script (length s - length r
 pub text-place : (script : List ℕ) (s : Text) → ScriptText script s → from script (place (length script) s) ≡ s
 unfolding from charsAt
 text-place script [] h = ap (charsAt (length script) 0) (drop_of_length-le script {i = length script} (omega arith))
-text-place script (c ∷ s) h = (text_at script c s h).0
+text-place script (c ∷ s) h = (text-at script c s h).0
 
 pub from-length : (script : List ℕ) → length (from script 0) ≤ length script
 unfolding from

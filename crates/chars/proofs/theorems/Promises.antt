@@ -9,7 +9,7 @@ use mathlib.Core.List.{List, [], ◌∷◌, Memᴰ}
 use mathlib.Core.Logic.{⊎_elim}
 use Rattle.chars.specs.paper.Ranges.{Range, Ascending}
 use Rattle.chars.specs.computed.Ascending.{ascendingFrom}
-use Rattle.chars.specs.paper.Utf8.{width, code_of}
+use Rattle.chars.specs.paper.Utf8.{width, codeOf}
 use Rattle.chars.specs.code.Utf8.{decodeAt}
 use Rattle.chars.specs.code.Text.{charEnd}
 use Rattle.chars.specs.promises.Codes.{CodeLaws}
@@ -19,7 +19,7 @@ use Rattle.chars.specs.promises.Classes.{tables, ClassLaws}
 use Rattle.chars.specs.promises.Runs.{RunLaws}
 use Rattle.chars.specs.declared.utf8.Decoded.TheVariants as decoded
 use Rattle.chars.proofs.utf8.Rows.{here, inside, row-00, none-low, none-high}
-use Rattle.chars.proofs.utf8.Codes.{code_one}
+use Rattle.chars.proofs.utf8.Codes.{code-one}
 use Rattle.chars.proofs.utf8.Widths.{width-most, width-within}
 use Rattle.chars.proofs.text.Steps.{CharStands, char-stands}
 use Rattle.chars.proofs.utf8.Valid as valids
@@ -46,7 +46,7 @@ all-ascending (u ∷ ts) e t m =
 
 next-end : (s : List ℕ) (i c w : ℕ) → CharStands s i c w → charEnd s i ≡ i + w
 unfolding charEnd
-next-end s i c w h = let a = h.width_is in let b = h.least in omega arith
+next-end s i c w h = let a = h.width-is in let b = h.least in omega arith
 
 module _ (s : List ℕ) (i : ℕ) where
   nothing : width (drop i s) ≡ 0 → decodeAt s i ≡ decoded.Nothing
@@ -55,16 +55,16 @@ module _ (s : List ℕ) (i : ℕ) where
 
   one : width (drop i s) ≡ 1 → decodeAt s i ≡ decoded.Char (get_or s i 0) 1
   unfolding decodeAt
-  one e = rw (e, ← code_one s i 1 (omega arith))
+  one e = rw (e, ← code-one s i 1 (omega arith))
 
   ends : (c w : ℕ) → decoded.Char c w ≡ decodeAt s i → i < length s
-  ends c w e = let h = char-stands s i c w e in let a = h.width_is in let b = h.least in inside s i (λ z. omega arith)
+  ends c w e = let h = char-stands s i c w e in let a = h.width-is in let b = h.least in inside s i (λ z. omega arith)
 
   pub decoding : Decoding s i
   decoding = record {
     widths = λ c w e.
         let h = char-stands s i c w e in
-        let a = h.width_is in
+        let a = h.width-is in
         let m = width-most (drop i s) in
         let l = width-within s i (let z = ends c w e in omega arith) in
         (h.least, omega arith, omega arith);
@@ -74,7 +74,7 @@ module _ (s : List ℕ) (i : ℕ) where
     past = λ h. nothing (empty h);
     in-text = λ c w e.
         let h = char-stands s i c w e in
-        (ap (λ v. code_of v (drop i s)) h.width_is ∙ h.code_is, next-end s i c w h);
+        (ap (λ v. codeOf v (drop i s)) h.width-is ∙ h.code-is, next-end s i c w h);
   }
     where
       empty : length s ≤ i → width (drop i s) ≡ 0
@@ -86,16 +86,16 @@ pub code_laws : CodeLaws
 code_laws = record {
   carry = carries.carry;
   carry-not = carries.carry-not;
-  no_member = carries.no_member;
+  no-member = carries.no-member;
   every-sub = carries.every-sub;
   carry-span = carries.carry-span;
   agree = carries.agree;
   mask-set = carries.mask-set;
   hits = carries.hits;
   misses = carries.misses;
-  between_in = ranges.between_in;
+  between-in = ranges.between-in;
   between-out = ranges.between-out;
-  in_between = ranges.in_between;
+  in-between = ranges.in-between;
   not-between = ranges.not-between;
 }
 
@@ -104,7 +104,7 @@ valid-laws = record {
   valid = valids.valid;
   longest-one = valids.longest-one;
   valid-all = valids.valid-all;
-  all_valid = valids.all_valid;
+  all-valid = valids.all-valid;
   next-valid = places.next-valid;
 }
 
@@ -114,21 +114,21 @@ text-laws = record {
   next-on = places.next-on;
   at-end = places.at-end;
   place-from = places.place-from;
-  at_ascii = places.at_ascii;
+  at-ascii = places.at-ascii;
   ascii-code = places.ascii-code;
   ascii-next = places.ascii-next;
   wide-code = places.wide-code;
   wide-tail = places.wide-tail;
   wide-past = places.wide-past;
-  head_byte = places.head_byte;
+  head-byte = places.head-byte;
   step-text = places.step-text;
   step-none = places.step-none;
-  suffix_refl = texts.suffix_refl;
+  suffix-refl = texts.suffix-refl;
   suffix-cons = texts.suffix-cons;
-  suffix_trans = texts.suffix_trans;
+  suffix-trans = texts.suffix-trans;
   suffix-same = texts.suffix-same;
   drop-suffix = texts.drop-suffix;
-  text_at = texts.text_at;
+  text-at = texts.text-at;
   text-drop = texts.text-drop;
   text-suffix = texts.text-suffix;
   text-place = texts.text-place;

@@ -17,8 +17,8 @@ pub here : (s : List ℕ) (i : ℕ) → i < length s → drop i s ≡ get_or s i
 here s i h = rw add-one (drop-cons s i 0 h)
 
 -- a row is met where its first range and the rest of it are
-pub fits_next : (a b : ℕ) (row : List Range) (s : List ℕ) (i : ℕ) → fits (a to b ∷ row) (drop i s) ≡ fits (a to b ∷ []) (drop i s) && fits row (drop (i + 1) s)
-fits_next a b row s i = go (drop i s) refl
+pub fits-next : (a b : ℕ) (row : List Range) (s : List ℕ) (i : ℕ) → fits (a to b ∷ row) (drop i s) ≡ fits (a to b ∷ []) (drop i s) && fits row (drop (i + 1) s)
+fits-next a b row s i = go (drop i s) refl
   where
     go : (t : List ℕ) → drop i s ≡ t → fits (a to b ∷ row) t ≡ fits (a to b ∷ []) t && fits row (drop (i + 1) s)
     go [] e = refl
@@ -73,10 +73,10 @@ none-high a u l = simp (le-leb 0 a (omega arith), lt-leb a 0x7F (omega arith), l
 
 -- ---- rows of three and four bytes, byte by byte
 
-pub fits_last : (a b : ℕ) (x y : Range) (s : List ℕ) (i : ℕ) → fits (a to b ∷ x ∷ y ∷ []) (drop i s) ≡ fits (a to b ∷ x ∷ []) (drop i s) && fits (y ∷ []) (drop (i + 2) s)
-fits_last a b (◌to◌ p q) y s i =
+pub fits-last : (a b : ℕ) (x y : Range) (s : List ℕ) (i : ℕ) → fits (a to b ∷ x ∷ y ∷ []) (drop i s) ≡ fits (a to b ∷ x ∷ []) (drop i s) && fits (y ∷ []) (drop (i + 2) s)
+fits-last a b (◌to◌ p q) y s i =
     let e : i + 1 + 1 ≡ i + 2 = omega arith in
-    rw (fits_next a b (p to q ∷ y ∷ []) s i, fits_next p q (y ∷ []) s (i + 1), fits_next a b (p to q ∷ []) s i, e)
+    rw (fits-next a b (p to q ∷ y ∷ []) s i, fits-next p q (y ∷ []) s (i + 1), fits-next a b (p to q ∷ []) s i, e)
     (sym (and_assoc (fits (a to b ∷ []) (drop i s)) (fits (p to q ∷ []) (drop (i + 1) s)) (fits (y ∷ []) (drop (i + 2) s))))
 
 -- what a width says of the test that gave it

@@ -14,7 +14,7 @@ use Rattle.chars.specs.paper.Quoted.{between}
 use Rattle.chars.specs.paper.Ranges.{Range, ◌to◌}
 use Rattle.chars.specs.paper.Utf8.{table37, fits, Row, here, later, WellFormed, LongestValid, rowLength, width}
 use Rattle.chars.specs.computed.Valid.{validFrom, validPrefix}
-use Rattle.chars.proofs.Bools.{clash, and_both}
+use Rattle.chars.proofs.Bools.{clash, and-both}
 
 -- ---- the table: each row's first range lies above those before it
 
@@ -36,25 +36,25 @@ out low high b h = go (leb low b)
     go false = refl
 
 -- a row above h has a first byte above h
-first_above : (h : ℕ) {rows : List (List Range)} {row : List Range} → above h rows ≡ true → Row rows row → (t : List ℕ) → fits row t ≡ true → (b : ℕ) × (u : List ℕ) × (t ≡ b ∷ u) × (h < b)
-first_above h {rows = [] ∷ rows} e here t f = clash e
-first_above h {rows = (◌to◌ low high ∷ r) ∷ rows} e here [] f = clash f
-first_above h {rows = (◌to◌ low high ∷ r) ∷ rows} e here (b ∷ u) f =
-    let x = ltb-true h low (and_both (ltb h low) (above h rows) e).0 in
-    let y = (and_both (between low high b) (fits r u) f).0 in
-    let z = leb-true low b (and_both (leb low b) (leb b high) y).0 in
+first-above : (h : ℕ) {rows : List (List Range)} {row : List Range} → above h rows ≡ true → Row rows row → (t : List ℕ) → fits row t ≡ true → (b : ℕ) × (u : List ℕ) × (t ≡ b ∷ u) × (h < b)
+first-above h {rows = [] ∷ rows} e here t f = clash e
+first-above h {rows = (◌to◌ low high ∷ r) ∷ rows} e here [] f = clash f
+first-above h {rows = (◌to◌ low high ∷ r) ∷ rows} e here (b ∷ u) f =
+    let x = ltb-true h low (and-both (ltb h low) (above h rows) e).0 in
+    let y = (and-both (between low high b) (fits r u) f).0 in
+    let z = leb-true low b (and-both (leb low b) (leb b high) y).0 in
     (b, u, refl, omega arith)
-first_above h {rows = [] ∷ rows} e (later w) t f = clash e
-first_above h {rows = (◌to◌ low high ∷ r) ∷ rows} e (later w) t f = first_above h (and_both (ltb h low) (above h rows) e).1 w t f
-first_above h {rows = []} e w t f = elim w [ ]
+first-above h {rows = [] ∷ rows} e (later w) t f = clash e
+first-above h {rows = (◌to◌ low high ∷ r) ∷ rows} e (later w) t f = first-above h (and-both (ltb h low) (above h rows) e).1 w t f
+first-above h {rows = []} e w t f = elim w [ ]
 
 -- the row that fits is the one that is found
 first-fit : {rows : List (List Range)} {row : List Range} → rising rows ≡ true → Row rows row → (t : List ℕ) → fits row t ≡ true → rowLength rows t ≡ length row
 first-fit e here t f = rw f
 first-fit {rows = [] ∷ rows} e (later w) t f = clash e
 first-fit {rows = (◌to◌ low high ∷ r) ∷ rows} e (later w) t f =
-    let h = and_both (above high rows) (rising rows) e in
-    let a = first_above high h.0 w t f in
+    let h = and-both (above high rows) (rising rows) e in
+    let a = first-above high h.0 w t f in
     let n : fits (◌to◌ low high ∷ r) t ≡ false = ap (fits (◌to◌ low high ∷ r)) a.2 ∙ rw (out low high a.0 a.3) in
     rw n (first-fit h.1 w t f)
 
@@ -81,15 +81,15 @@ width-found t = found-fit table37 t
 -- ---- a row and a prefix
 
 -- a row that is met lies within the text
-pub fit_length : (row : List Range) (t : List ℕ) → fits row t ≡ true → length row ≤ length t
-fit_length [] t e = omega arith
-fit_length (◌to◌ low high ∷ row) [] e = clash e
-fit_length (◌to◌ low high ∷ row) (b ∷ t) e = let h = fit_length row t (and_both (between low high b) (fits row t) e).1 in omega arith
+pub fit-length : (row : List Range) (t : List ℕ) → fits row t ≡ true → length row ≤ length t
+fit-length [] t e = omega arith
+fit-length (◌to◌ low high ∷ row) [] e = clash e
+fit-length (◌to◌ low high ∷ row) (b ∷ t) e = let h = fit-length row t (and-both (between low high b) (fits row t) e).1 in omega arith
 
 -- the same at a place
 pub fit-within : (x : Range) (row : List Range) (s : List ℕ) (i : ℕ) → fits (x ∷ row) (drop i s) ≡ true
     → i + length (x ∷ row) ≤ length s
-fit-within x row s i e = let l = fit_length (x ∷ row) (drop i s) e in let d = length-drop i s in omega arith
+fit-within x row s i e = let l = fit-length (x ∷ row) (drop i s) e in let d = length-drop i s in omega arith
 
 -- where too few bytes are left it is not met
 pub fit-short : (x : Range) (row : List Range) (s : List ℕ) (i : ℕ) → length s < i + length (x ∷ row) → false ≡ fits (x ∷ row) (drop i s)
@@ -103,7 +103,7 @@ fits-take : (row : List Range) (t : List ℕ) (m : ℕ) → fits row t ≡ true 
 fits-take [] t m e l = refl
 fits-take (◌to◌ low high ∷ row) [] m e l = clash e
 fits-take (◌to◌ low high ∷ row) (b ∷ t) zero e l = absurd (omega arith)
-fits-take (◌to◌ low high ∷ row) (b ∷ t) (suc m) e l = let h = and_both (between low high b) (fits row t) e in rw h.0 (fits-take row t m h.1 (omega arith))
+fits-take (◌to◌ low high ∷ row) (b ∷ t) (suc m) e l = let h = and-both (between low high b) (fits row t) e in rw h.0 (fits-take row t m h.1 (omega arith))
 
 take-fits : (row : List Range) (t : List ℕ) (m : ℕ) → fits row (take m t) ≡ true → (fits row t ≡ true) × (length row ≤ m) × (length row ≤ length t)
 take-fits [] t m e = (refl, omega arith, omega arith)
@@ -111,7 +111,7 @@ take-fits (◌to◌ low high ∷ row) [] zero e = clash e
 take-fits (◌to◌ low high ∷ row) [] (suc m) e = clash e
 take-fits (◌to◌ low high ∷ row) (b ∷ t) zero e = clash e
 take-fits (◌to◌ low high ∷ row) (b ∷ t) (suc m) e =
-    let h = and_both (between low high b) (fits row (take m t)) e in
+    let h = and-both (between low high b) (fits row (take m t)) e in
     let k = take-fits row t m h.1 in
     (rw h.0 k.0, omega arith, omega arith)
 
@@ -158,7 +158,7 @@ row-long h = by rising-rows h
     by {rows = [] ∷ rows} e here = clash e
     by {rows = (x ∷ r) ∷ rows} e here = (length r, refl)
     by {rows = [] ∷ rows} e (later w) = clash e
-    by {rows = (◌to◌ low high ∷ r) ∷ rows} e (later w) = by (and_both (above high rows) (rising rows) e).1 w
+    by {rows = (◌to◌ low high ∷ r) ∷ rows} e (later w) = by (and-both (above high rows) (rising rows) e).1 w
     by {rows = []} e w = elim w [ ]
 
 -- one character in front
@@ -182,7 +182,7 @@ valid-good (suc fuel) (b ∷ s) l = go (width-found (b ∷ s)) (λ t h. valid-go
     go (inl e) below = let z = valid-stop b s e in (omega arith, rw z WellFormed.empty)
     go (inr (row, w, f, e)) below =
         let k = row-long w in
-        let a = take-fits row (b ∷ s) (length (b ∷ s)) (fits-take row (b ∷ s) (length (b ∷ s)) f (fit_length row (b ∷ s) f)) in
+        let a = take-fits row (b ∷ s) (length (b ∷ s)) (fits-take row (b ∷ s) (length (b ∷ s)) f (fit-length row (b ∷ s) f)) in
         let d = length-drop (length row) (b ∷ s) in
         let h = below (drop (length row) (b ∷ s)) (omega arith) in
         let v = valid-char row (b ∷ s) w f a.2 in
@@ -220,10 +220,10 @@ valid-all s w =
     let b = v.within in
     omega arith
 
-pub all_valid : (s : List ℕ) → length s ≤ validPrefix s → WellFormed s
-all_valid s l = let v = valid s in rw (take_all (validPrefix s) s l) at v.valid
+pub all-valid : (s : List ℕ) → length s ≤ validPrefix s → WellFormed s
+all-valid s l = let v = valid s in rw (take_all (validPrefix s) s l) at v.valid
 
 -- one character of a well-formed text: it has bytes, and what follows it is well-formed
-pub first_char : {t : List ℕ} → WellFormed t → 0 < length t → (0 < width t) × WellFormed (drop (width t) t)
-first_char WellFormed.empty h = absurd (omega arith)
-first_char {t} (WellFormed.char {row} w f g) h = let e = width-fit w t f in let k = row-long w in let l = k.1 in (omega arith, rw e g)
+pub first-char : {t : List ℕ} → WellFormed t → 0 < length t → (0 < width t) × WellFormed (drop (width t) t)
+first-char WellFormed.empty h = absurd (omega arith)
+first-char {t} (WellFormed.char {row} w f g) h = let e = width-fit w t f in let k = row-long w in let l = k.1 in (omega arith, rw e g)

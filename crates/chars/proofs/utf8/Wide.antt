@@ -10,25 +10,25 @@ use native.Mathlib.Omega.{arith}
 use borrow.Author.Tests.{leb-true}
 use Rattle.chars.specs.paper.Quoted.{between}
 use Rattle.chars.specs.paper.Ranges.{Range, ◌to◌}
-use Rattle.chars.specs.paper.Utf8.{table37, fits, Row, here, later, width, code_of}
-use Rattle.chars.proofs.Bools.{clash, and_both}
+use Rattle.chars.specs.paper.Utf8.{table37, fits, Row, here, later, width, codeOf}
+use Rattle.chars.proofs.Bools.{clash, and-both}
 use Rattle.chars.proofs.utf8.Valid.{width-found}
 
 -- a byte of a row lies in its range
 inside : (a b x : ℕ) (r : Bool) → between a b x && r ≡ true → (a ≤ x) × (x ≤ b) × (r ≡ true)
 inside a b x r e =
-    let p = and_both (between a b x) r e in
-    let q = and_both (leb a x) (leb x b) p.0 in
+    let p = and-both (between a b x) r e in
+    let q = and-both (leb a x) (leb x b) p.0 in
     (leb-true a x q.0, leb-true x b q.1, p.1)
 
 -- what a row says of the bytes that meet it: a first byte past ASCII is 0xC2 to 0xF4, the others are 0x80 to 0xBF, and the code is 0x80 or more
 pub record Wide (w : ℕ) (t : List ℕ) : Type 0 where
   pub first : 0xC2 ≤ get_or t 0 0
   pub others : (k : ℕ) → 1 ≤ k → k < w → (0x80 ≤ get_or t k 0) × (get_or t k 0 ≤ 0xBF)
-  pub code : 0x80 ≤ code_of w t
+  pub code : 0x80 ≤ codeOf w t
 
 two : (a b p q : ℕ) → 0xC2 ≤ a → b ≤ 0xDF → 0x80 ≤ p → q ≤ 0xBF → (t : List ℕ) → fits (a to b ∷ p to q ∷ []) t ≡ true → Wide 2 t
-unfolding code_of
+unfolding codeOf
 two a b p q ha hb hp hq [] e = clash e
 two a b p q ha hb hp hq (x ∷ []) e = clash (inside a b x false e).2
 two a b p q ha hb hp hq (x ∷ y ∷ t) e =
@@ -37,7 +37,7 @@ two a b p q ha hb hp hq (x ∷ y ∷ t) e =
     record { first = omega arith; others = λ k h l. let z : k ≡ 1 = omega arith in rw z (omega arith, omega arith); code = omega arith }
 
 three : (a b p q : ℕ) → 0xE0 ≤ a → b ≤ 0xEF → 0x80 ≤ p → q ≤ 0xBF → (0xE1 ≤ a) ⊎ (0xA0 ≤ p) → (t : List ℕ) → fits (a to b ∷ p to q ∷ 0x80 to 0xBF ∷ []) t ≡ true → Wide 3 t
-unfolding code_of
+unfolding codeOf
 three a b p q ha hb hp hq o [] e = clash e
 three a b p q ha hb hp hq o (x ∷ []) e = clash (inside a b x false e).2
 three a b p q ha hb hp hq o (x ∷ y ∷ []) e = clash (inside p q y false (inside a b x _ e).2).2
@@ -58,7 +58,7 @@ three a b p q ha hb hp hq o (x ∷ y ∷ z ∷ t) e =
     tails (suc (suc (suc k))) l m f g i h j = absurd (omega arith)
 
 four : (a b p q : ℕ) → 0xF0 ≤ a → b ≤ 0xF4 → 0x80 ≤ p → q ≤ 0xBF → (0xF1 ≤ a) ⊎ (0x90 ≤ p) → (t : List ℕ) → fits (a to b ∷ p to q ∷ 0x80 to 0xBF ∷ 0x80 to 0xBF ∷ []) t ≡ true → Wide 4 t
-unfolding code_of
+unfolding codeOf
 four a b p q ha hb hp hq o [] e = clash e
 four a b p q ha hb hp hq o (x ∷ []) e = clash (inside a b x false e).2
 four a b p q ha hb hp hq o (x ∷ y ∷ []) e = clash (inside p q y false (inside a b x _ e).2).2

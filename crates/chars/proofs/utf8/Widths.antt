@@ -13,11 +13,11 @@ use Rattle.chars.specs.paper.Ranges.{Range, ◌to◌}
 use Rattle.chars.specs.paper.Utf8.{table37, fits, Row, here, later, width}
 use Rattle.chars.specs.computed.Valid.{validFrom}
 use Rattle.chars.specs.code.Runs.{stepsIn, AllIn}
-use Rattle.chars.specs.code.Utf8.{row_at, rowsOver}
-use Rattle.chars.proofs.Bools.{and_both}
+use Rattle.chars.specs.code.Utf8.{rowAt, rowsOver}
+use Rattle.chars.proofs.Bools.{and-both}
 use Rattle.chars.proofs.runs.Laws.{over-on}
 use Rattle.chars.proofs.utf8.Rows as rows
-use Rattle.chars.proofs.utf8.Valid.{width-found, width-fit, fit_length, fit-within}
+use Rattle.chars.proofs.utf8.Valid.{width-found, width-fit, fit-length, fit-within}
 
 -- no row is longer than four bytes: one computed test
 abbrev short : List (List Range) → Bool
@@ -25,8 +25,8 @@ short [] = true
 short (row ∷ rows) = leb (length row) 4 && short rows
 
 row-short : {rows : List (List Range)} {row : List Range} → short rows ≡ true → Row rows row → length row ≤ 4
-row-short {rows = row ∷ rows} e here = leb-true (length row) 4 (and_both (leb (length row) 4) (short rows) e).0
-row-short {rows = other ∷ rows} e (later w) = row-short (and_both (leb (length other) 4) (short rows) e).1 w
+row-short {rows = row ∷ rows} e here = leb-true (length row) 4 (and-both (leb (length row) 4) (short rows) e).0
+row-short {rows = other ∷ rows} e (later w) = row-short (and-both (leb (length other) 4) (short rows) e).1 w
 row-short {rows = []} e w = elim w [ ]
 
 pub width-most : (t : List ℕ) → (width t ≤ 4) × (width t ≤ length t)
@@ -34,7 +34,7 @@ width-most t = go (width-found t)
   where
     go : (width t ≡ 0) ⊎ ((row : List Range) × Row table37 row × (fits row t ≡ true) × (width t ≡ length row)) → (width t ≤ 4) × (width t ≤ length t)
     go (inl e) = (omega arith, omega arith)
-    go (inr (row, w, f, e)) = let a = row-short refl w in let b = fit_length row t f in (omega arith, omega arith)
+    go (inr (row, w, f, e)) = let a = row-short refl w in let b = fit-length row t f in (omega arith, omega arith)
 
 -- at a place
 pub width-within : (s : List ℕ) (i : ℕ) → i ≤ length s → i + width (drop i s) ≤ length s
@@ -88,7 +88,7 @@ pub record Onward (s : List ℕ) (i j : ℕ) : Type 0 where
 
 module _ {x : Range} {row : List Range} (w : Row table37 (x ∷ row)) (s : List ℕ) where
   -- past one, which a test b has found
-  pub valid-row : (i : ℕ) {b : Bool} → b ≡ row_at (x ∷ row) s i → b ≡ true → Onward s i (i + length (x ∷ row))
+  pub valid-row : (i : ℕ) {b : Bool} → b ≡ rowAt (x ∷ row) s i → b ≡ true → Onward s i (i + length (x ∷ row))
   valid-row i q t =
       let e = sym q ∙ t in
       let l = fit-within x row s i e in
@@ -99,28 +99,28 @@ module _ {x : Range} {row : List Range} (w : Row table37 (x ∷ row)) (s : List 
   on-if true i j h f = f refl
   on-if false i j h f = record { onward = omega arith; within = h; same = refl }
 
-  rows_in : (n i : ℕ) → i ≤ length s → Onward s i (stepsIn n (length (x ∷ row)) (row_at (x ∷ row) s) i)
+  rows-in : (n i : ℕ) → i ≤ length s → Onward s i (stepsIn n (length (x ∷ row)) (rowAt (x ∷ row) s) i)
   unfolding stepsIn
-  rows_in zero i h = record { onward = omega arith; within = h; same = refl }
-  rows_in (suc n) i h =
-      on-if (row_at (x ∷ row) s i) i _ h (λ e.
+  rows-in zero i h = record { onward = omega arith; within = h; same = refl }
+  rows-in (suc n) i h =
+      on-if (rowAt (x ∷ row) s i) i _ h (λ e.
       let v = valid-row i refl e in
-      let o = rows_in n (i + length (x ∷ row)) v.within in
+      let o = rows-in n (i + length (x ∷ row)) v.within in
       record { onward = omega (arith, v.onward, o.onward); within = o.within; same = o.same ∙ v.same })
 
   -- past all of them
   pub valid-rows : (i j : ℕ) → i ≤ length s → j ≡ rowsOver (x ∷ row) s i → Onward s i j
-  valid-rows i j h e = rw e (rows_in (length s) i h)
+  valid-rows i j h e = rw e (rows-in (length s) i h)
 
-pub rows-stand : (x : Range) (row : List Range) (s : List ℕ) (i : ℕ) → row_at (x ∷ row) s i ≡ true → rowsOver (x ∷ row) s (i + length (x ∷ row)) ≡ rowsOver (x ∷ row) s i
-rows-stand x row s = over-on (length (x ∷ row)) (row_at (x ∷ row)) s (omega arith) (fit-within x row s)
+pub rows-stand : (x : Range) (row : List Range) (s : List ℕ) (i : ℕ) → rowAt (x ∷ row) s i ≡ true → rowsOver (x ∷ row) s (i + length (x ∷ row)) ≡ rowsOver (x ∷ row) s i
+rows-stand x row s = over-on (length (x ∷ row)) (rowAt (x ∷ row)) s (omega arith) (fit-within x row s)
 
 -- where no character of the row stands, its characters end
-pub rows_end : (row : List Range) (s : List ℕ) (i : ℕ) → row_at row s i ≡ false → i ≡ rowsOver row s i
+pub rows_end : (row : List Range) (s : List ℕ) (i : ℕ) → rowAt row s i ≡ false → i ≡ rowsOver row s i
 unfolding stepsIn
 rows_end row s i e = go (length s)
   where
-    go : (n : ℕ) → i ≡ stepsIn n (length row) (row_at row s) i
+    go : (n : ℕ) → i ≡ stepsIn n (length row) (rowAt row s) i
     go zero = refl
     go (suc n) = rw e
 
@@ -130,7 +130,7 @@ module _ (s : List ℕ) where
   abbrev ascii : List Range
   ascii = 0x00 to 0x7F ∷ []
 
-  ascii-at : (i : ℕ) → i < length s → get_or s i 0 ≤ 0x7F → row_at ascii s i ≡ true
+  ascii-at : (i : ℕ) → i < length s → get_or s i 0 ≤ 0x7F → rowAt ascii s i ≡ true
   ascii-at i h l = ap (fits ascii) (rows.here s i h) ∙ simp (le-leb 0x00 (get_or s i 0) (omega arith), le-leb (get_or s i 0) 0x7F l)
 
   ascii-low : (n i : ℕ) → i + n ≤ length s → AllIn 0x00 0x7F s i (i + n) → rowsOver ascii s (i + n) ≡ rowsOver ascii s i

@@ -1,12 +1,12 @@
 -- What `text::char_at` answers.
 use Rattle.std.specs.Prelude.{ℕ, suc, ◌+◌, ◌-◌, cond, List, ltb, length, drop}
-use Rattle.chars.specs.paper.Utf8.{width, code_of}
+use Rattle.chars.specs.paper.Utf8.{width, codeOf}
 use Rattle.chars.specs.declared.text.Step.{Step}
 use Rattle.chars.specs.declared.text.Step.TheVariants as step
 
 -- the code of the character at i
-abbrev pub code_at : List ℕ → ℕ → ℕ
-code_at s i = code_of (width (drop i s)) (drop i s)
+abbrev pub codeAt : List ℕ → ℕ → ℕ
+codeAt s i = codeOf (width (drop i s)) (drop i s)
 
 -- where it ends
 unfoldable pub charEnd : List ℕ → ℕ → ℕ
@@ -16,4 +16,4 @@ charEnd s i = suc i + (width (drop i s) - 1)
 unfoldable pub stepAt : List ℕ → ℕ → Step
 stepAt s i =
     let t = drop i s in
-    cond (ltb i (length s)) (step.Char (code_of (width t) t) (charEnd s i)) step.End
+    cond (ltb i (length s)) (step.Char (codeOf (width t) t) (charEnd s i)) step.End

@@ -3,19 +3,19 @@ use Rattle.std.specs.Prelude.{ℕ, Bool, cond, List, length, drop, eqb}
 use Rattle.chars.specs.declared.utf8.Decoded.{Decoded}
 use Rattle.chars.specs.declared.utf8.Decoded.TheVariants as decoded
 use Rattle.chars.specs.paper.Ranges.{Range}
-use Rattle.chars.specs.paper.Utf8.{fits, width, code_of}
+use Rattle.chars.specs.paper.Utf8.{fits, width, codeOf}
 use Rattle.chars.specs.code.Runs.{stepsOver}
 
 -- the character that stands at a byte offset, or that none does
 unfoldable pub decodeAt : List ℕ → ℕ → Decoded
 decodeAt s i =
     let t = drop i s in
-    cond (eqb (width t) 0) decoded.Nothing (decoded.Char (code_of (width t) t) (width t))
+    cond (eqb (width t) 0) decoded.Nothing (decoded.Char (codeOf (width t) t) (width t))
 
 -- do bytes of a row of Table 3-7 stand at the place i?
-abbrev pub row_at : List Range → List ℕ → ℕ → Bool
-row_at row s i = fits row (drop i s)
+abbrev pub rowAt : List Range → List ℕ → ℕ → Bool
+rowAt row s i = fits row (drop i s)
 
 -- from the place i on, past the characters of that row
 abbrev pub rowsOver : List Range → List ℕ → ℕ → ℕ
-rowsOver row = stepsOver (length row) (row_at row)
+rowsOver row = stepsOver (length row) (rowAt row)

@@ -1,7 +1,7 @@
 -- Document 01, "Character classes".
 use Rattle.std.specs.Prelude.{ℕ, Bool, not, ◌&&◌, ◌||◌, leb}
 use Prim.Native.String.{String}
-use Rattle.chars.specs.paper.Quoted.{between, one_of}
+use Rattle.chars.specs.paper.Quoted.{between, oneOf}
 use Rattle.chars.specs.paper.Ranges.{inRanges}
 use Rattle.chars.specs.paper.Tables.{alphabeticTable, lowercaseTable, uppercaseTable, ndTable, alphaNotLetterTable}
 
@@ -23,18 +23,18 @@ alphaNotLetter c = inRanges alphaNotLetterTable c
 
 -- Id start: at most U+FFFF, not U+24B6 to U+24E9, and Lowercase, Uppercase, `$` or `_`.
 unfoldable pub isIdStart : ℕ → Bool
-isIdStart c = leb c 0xFFFF && not (between 0x24B6 0x24E9 c) && (lowercase c || uppercase c || one_of "$_" c)
+isIdStart c = leb c 0xFFFF && not (between 0x24B6 0x24E9 c) && (lowercase c || uppercase c || oneOf "$_" c)
 
 -- Id character: `$`; or at most U+FFFF and either Alphabetic outside ALPHA_NOT_LETTER, or in ND. `_` isn't one.
 unfoldable pub isIdChar : ℕ → Bool
-isIdChar c = one_of "$" c || leb c 0xFFFF && (alphabetic c && not (alphaNotLetter c) || nd c)
+isIdChar c = oneOf "$" c || leb c 0xFFFF && (alphabetic c && not (alphaNotLetter c) || nd c)
 
 -- Operator sign: `! # % & * + - / : < = > ? @ \ ^ | ~` and U+21D2.
 abbrev pub opSigns : String
 opSigns = "!#%&*+-/:<=>?@\\^|~⇒"
 
 unfoldable pub isOpSign : ℕ → Bool
-isOpSign c = one_of opSigns c
+isOpSign c = oneOf opSigns c
 
 -- Printable: at most U+FFFF, not U+0000 to U+001F, U+007F to U+009F, nor U+FFF0 to U+FFFF.
 unfoldable pub isPrintable : ℕ → Bool

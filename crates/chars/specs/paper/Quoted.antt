@@ -17,5 +17,5 @@ member [] c = false
 member (x ∷ xs) c = eqb c x || member xs c
 
 -- is the code one of the quoted characters?
-abbrev pub one_of : String → ℕ → Bool
-one_of t c = member (codes t) c
+abbrev pub oneOf : String → ℕ → Bool
+oneOf t c = member (codes t) c

@@ -1,7 +1,7 @@
 -- A script as characters, each with its code and the place of its first byte. What follows a piece is such a text too, so that a piece never
 -- ends inside a character.
 use Rattle.std.specs.Prelude.{ℕ, zero, suc, ◌-◌, Bool, false, List, [], ◌∷◌, drop}
-use Rattle.chars.specs.paper.Utf8.{width, code_of}
+use Rattle.chars.specs.paper.Utf8.{width, codeOf}
 use Rattle.chars.specs.paper.Classes.{isIdChar}
 
 pub record Char : Type 0 where
@@ -17,7 +17,7 @@ Text = List Char
 unfoldable pub charsAt : ℕ → ℕ → List ℕ → Text
 charsAt i k [] = []
 charsAt i (suc k) (a ∷ s) = charsAt (suc i) k s
-charsAt i zero (a ∷ s) = record { code = code_of (width (a ∷ s)) (a ∷ s); at = i } ∷ charsAt (suc i) (width (a ∷ s) - 1) s
+charsAt i zero (a ∷ s) = record { code = codeOf (width (a ∷ s)) (a ∷ s); at = i } ∷ charsAt (suc i) (width (a ∷ s) - 1) s
 
 -- the script's text from the place i on
 unfoldable pub from : List ℕ → ℕ → Text

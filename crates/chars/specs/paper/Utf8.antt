@@ -55,8 +55,8 @@ unfoldable pub width : List ℕ → ℕ
 width s = rowLength table37 s
 
 -- the code of a character of w bytes, by the Standard's Table 3-6, "UTF-8 Bit Distribution"
-unfoldable pub code_of : ℕ → List ℕ → ℕ
-code_of w s =
+unfoldable pub codeOf : ℕ → List ℕ → ℕ
+codeOf w s =
     let a = get_or s 0 0 in
     let b = get_or s 1 0 % 64 in
     let c = get_or s 2 0 % 64 in

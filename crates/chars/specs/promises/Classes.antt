@@ -1,13 +1,13 @@
 -- Character classes: the order of the tables, what excludes what, ASCII by its byte, runs of id characters.
 use Rattle.std.specs.Prelude.{ℕ, ◌+◌, ◌≤◌, ◌<◌, ◌≡◌, Bool, true, false, ◌&&◌, ◌||◌, length, drop, get_or, ltb}
 use mathlib.Core.List.{List, [], ◌∷◌, Memᴰ}
-use Rattle.chars.specs.paper.Quoted.{between, one_of}
+use Rattle.chars.specs.paper.Quoted.{between, oneOf}
 use Rattle.chars.specs.paper.Ranges.{Range, Ascending}
 use Rattle.chars.specs.paper.Tables.{alphabeticTable, lowercaseTable, uppercaseTable, ndTable, alphaNotLetterTable}
 use Rattle.chars.specs.paper.Classes.{isIdStart, isIdChar, opSigns, isOpSign, isPrintable}
 use Rattle.chars.specs.paper.Text.{from, place, headIs, idChar}
 use Rattle.chars.specs.computed.Runs.{afterRun}
-use Rattle.chars.specs.code.Text.{code_at, charEnd}
+use Rattle.chars.specs.code.Text.{codeAt, charEnd}
 use Rattle.chars.specs.code.Classes.{asciiIdChar, isAsciiId, cyrillicAt}
 use Rattle.chars.specs.promises.Texts.{AsciiClass}
 
@@ -17,25 +17,25 @@ tables = alphabeticTable ∷ lowercaseTable ∷ uppercaseTable ∷ ndTable ∷ a
 
 -- id starts and id characters of ASCII, without the tables
 abbrev pub lowStart : ℕ → Bool
-lowStart c = between 0x61 0x7A c || between 0x41 0x5A c || one_of "$_" c
+lowStart c = between 0x61 0x7A c || between 0x41 0x5A c || oneOf "$_" c
 
 abbrev pub lowId : ℕ → Bool
-lowId c = one_of "$" c || (between 0x41 0x5A c || between 0x61 0x7A c || between 0x30 0x39 c)
+lowId c = oneOf "$" c || (between 0x41 0x5A c || between 0x61 0x7A c || between 0x30 0x39 c)
 
 -- a Russian letter, U+0410 to U+044F, stands at i: two bytes, which start an identifier and go on in one
 pub record Russian (s : List ℕ) (i : ℕ) : Type 0 where
-  pub letter : between 0x0410 0x044F (code_at s i) ≡ true
+  pub letter : between 0x0410 0x044F (codeAt s i) ≡ true
   pub within : i + 2 ≤ length s
   pub next : charEnd s i ≡ i + 2
   pub start : headIs isIdStart (from s i) ≡ true
-  pub goes_on : isIdChar (code_at s i) ≡ true
+  pub goes-on : isIdChar (codeAt s i) ≡ true
   pub after : from s (i + 2) ≡ drop 1 (from s i)
 
 pub record ClassLaws : Type 0 where
   -- each table keeps document 01's rule
   pub tables-ascend : (t : List Range) → Memᴰ t tables → Ascending t
   -- the operator signs are document 01's list; none of them starts an identifier or goes on in one
-  pub sign-is : (c : ℕ) → isOpSign c ≡ one_of opSigns c
+  pub sign-is : (c : ℕ) → isOpSign c ≡ oneOf opSigns c
   pub sign-no-start : (c : ℕ) → isOpSign c ≡ true → isIdStart c ≡ false
   pub sign-no-id : (c : ℕ) → isOpSign c ≡ true → isIdChar c ≡ false
   -- an ASCII byte starts an identifier, or goes on in one, by ranges of letters and digits

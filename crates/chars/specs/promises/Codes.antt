@@ -24,7 +24,7 @@ pub record CodeLaws : Type 0 where
   pub carry : (f : ℕ → Bool) (l : List ℕ) (c : ℕ) → every f l ≡ true → member l c ≡ true → f c ≡ true
   pub carry-not : (f : ℕ → Bool) (l : List ℕ) (c : ℕ) → every (λ x. not (f x)) l ≡ true → member l c ≡ true → f c ≡ false
   -- where a test fails at every code of a list, a code at which it holds is no member
-  pub no_member : (f : ℕ → Bool) (l : List ℕ) (c : ℕ) → every (λ x. not (f x)) l ≡ true → f c ≡ true → member l c ≡ false
+  pub no-member : (f : ℕ → Bool) (l : List ℕ) (c : ℕ) → every (λ x. not (f x)) l ≡ true → f c ≡ true → member l c ≡ false
   -- a test that implies another, over a list
   pub every-sub : (f g : ℕ → Bool) (l : List ℕ) → every f l ≡ true → ((c : ℕ) → f c ≡ true → g c ≡ true) → every g l ≡ true
   -- the list of n codes from a on
@@ -38,7 +38,7 @@ pub record CodeLaws : Type 0 where
   pub hits : (ks : List ℕ) (x : ℕ) → OneOf ks x → member ks x ≡ true
   pub misses : (ks : List ℕ) (x : ℕ) → (OneOf ks x → ⊥) → member ks x ≡ false
   -- a code and one range
-  pub between_in : (l h c : ℕ) → l ≤ c → c ≤ h → between l h c ≡ true
+  pub between-in : (l h c : ℕ) → l ≤ c → c ≤ h → between l h c ≡ true
   pub between-out : (l h c : ℕ) → (l ≤ c → h < c) → between l h c ≡ false
-  pub in_between : (l h c : ℕ) → between l h c ≡ true → (l ≤ c) × (c ≤ h)
+  pub in-between : (l h c : ℕ) → between l h c ≡ true → (l ≤ c) × (c ≤ h)
   pub not-between : (l h c : ℕ) → between l h c ≡ false → l ≤ c → h < c

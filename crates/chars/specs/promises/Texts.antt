@@ -2,7 +2,7 @@
 use Rattle.std.specs.Prelude.{ℕ, ◌+◌, ◌-◌, ◌≤◌, ◌<◌, ◌≡◌, Bool, true, false, List, [], ◌∷◌, length, drop, get_or}
 use Rattle.chars.specs.paper.Text.{Char, Text, from, place, headIs}
 use Rattle.chars.specs.computed.Runs.{afterRun}
-use Rattle.chars.specs.code.Text.{code_at, charEnd, stepAt}
+use Rattle.chars.specs.code.Text.{codeAt, charEnd, stepAt}
 use Rattle.chars.specs.declared.text.Step.TheVariants as step
 
 -- r is what is left of s after some characters
@@ -26,34 +26,34 @@ pub data PastWide : Text → Text → Type 0 where
 
 pub record TextLaws : Type 0 where
   -- ---- at a place: the first character and the text from where it ends, which is further on and within the script; nothing past the end
-  pub at-char : (s : List ℕ) (i : ℕ) → i < length s → from s i ≡ record { code = code_at s i; at = i } ∷ from s (charEnd s i)
+  pub at-char : (s : List ℕ) (i : ℕ) → i < length s → from s i ≡ record { code = codeAt s i; at = i } ∷ from s (charEnd s i)
   pub next-on : (s : List ℕ) (i : ℕ) → i < length s → (i < charEnd s i) × (charEnd s i ≤ length s)
   pub at-end : (s : List ℕ) (i : ℕ) → length s ≤ i → from s i ≡ []
   -- the text from i on starts at i
   pub place-from : (s : List ℕ) (i : ℕ) → i ≤ length s → place (length s) (from s i) ≡ i
   -- an ASCII byte is a character
-  pub at_ascii : (s : List ℕ) (i : ℕ) → i < length s → get_or s i 0 < 0x80 → from s i ≡ record { code = get_or s i 0; at = i } ∷ from s (i + 1)
-  pub ascii-code : (s : List ℕ) (i : ℕ) → i < length s → get_or s i 0 < 0x80 → code_at s i ≡ get_or s i 0
+  pub at-ascii : (s : List ℕ) (i : ℕ) → i < length s → get_or s i 0 < 0x80 → from s i ≡ record { code = get_or s i 0; at = i } ∷ from s (i + 1)
+  pub ascii-code : (s : List ℕ) (i : ℕ) → i < length s → get_or s i 0 < 0x80 → codeAt s i ≡ get_or s i 0
   pub ascii-next : (s : List ℕ) (i : ℕ) → i < length s → get_or s i 0 < 0x80 → charEnd s i ≡ i + 1
   -- what begins past ASCII has a code past ASCII; the other bytes of a character are 0x80 to 0xBF
-  pub wide-code : (s : List ℕ) (i : ℕ) → 0x80 ≤ get_or s i 0 → 0x80 ≤ code_at s i
+  pub wide-code : (s : List ℕ) (i : ℕ) → 0x80 ≤ get_or s i 0 → 0x80 ≤ codeAt s i
   pub wide-tail : (s : List ℕ) (i : ℕ) → i < length s → (j : ℕ) → i < j → j < charEnd s i → (0x80 ≤ get_or s j 0) × (get_or s j 0 ≤ 0xBF)
   -- from such a byte, and from one byte further, only characters past ASCII lie before the character's end
   pub wide-past : (s : List ℕ) (i : ℕ) → i < length s → 0x80 ≤ get_or s i 0
       → PastWide (from s i) (from s (charEnd s i)) × PastWide (from s (i + 1)) (from s (charEnd s i))
   -- ---- a class of ASCII characters is seen by the byte there, which counts as 0 past the end
-  pub head_byte : (p : ℕ → Bool) → AsciiClass p → (s : List ℕ) (i : ℕ) → headIs p (from s i) ≡ p (get_or s i 0)
+  pub head-byte : (p : ℕ → Bool) → AsciiClass p → (s : List ℕ) (i : ℕ) → headIs p (from s i) ≡ p (get_or s i 0)
   -- ---- one step
-  pub step-text : (s : List ℕ) (i code next : ℕ) → step.Char code next ≡ stepAt s i → (i < length s) × (code_at s i ≡ code) × (charEnd s i ≡ next)
+  pub step-text : (s : List ℕ) (i code next : ℕ) → step.Char code next ≡ stepAt s i → (i < length s) × (codeAt s i ≡ code) × (charEnd s i ≡ next)
   pub step-none : (s : List ℕ) (i : ℕ) → step.End ≡ stepAt s i → length s ≤ i
   -- ---- suffixes
-  pub suffix_refl : (s : Text) → Suffix s s
+  pub suffix-refl : (s : Text) → Suffix s s
   pub suffix-cons : {r s : Text} (c : Char) → Suffix r s → Suffix r (c ∷ s)
-  pub suffix_trans : {q r s : Text} → Suffix q r → Suffix r s → Suffix q s
+  pub suffix-trans : {q r s : Text} → Suffix q r → Suffix r s → Suffix q s
   pub suffix-same : {q r s : Text} → Suffix q s → Suffix r s → length q ≡ length r → q ≡ r
   pub drop-suffix : (k : ℕ) (s : Text) → Suffix (drop k s) s
   -- ---- texts of the script: what is left of one is one too, and each is the script's text from its own place on
-  pub text_at : (script : List ℕ) (c : Char) (s : Text) → ScriptText script (c ∷ s) → (from script c.at ≡ c ∷ s) × ScriptText script s
+  pub text-at : (script : List ℕ) (c : Char) (s : Text) → ScriptText script (c ∷ s) → (from script c.at ≡ c ∷ s) × ScriptText script s
   pub text-drop : (script : List ℕ) (k : ℕ) (s : Text) → ScriptText script s → ScriptText script (drop k s)
   pub text-suffix : (script : List ℕ) (r s : Text) → Suffix r s → ScriptText script s → ScriptText script r
   pub text-place : (script : List ℕ) (s : Text) → ScriptText script s → from script (place (length script) s) ≡ s

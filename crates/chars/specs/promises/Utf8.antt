@@ -1,11 +1,11 @@
 -- What stands at a byte offset, the longest valid prefix, and what is written for a code.
 use Rattle.std.specs.Prelude.{ℕ, ◌+◌, ◌≤◌, ◌<◌, ◌≡◌, Bool, true, not, ◌&&◌, List, ◌++◌, length, drop, get_or, leb}
 use Rattle.chars.specs.paper.Quoted.{between}
-use Rattle.chars.specs.paper.Utf8.{WellFormed, LongestValid, width, code_of}
+use Rattle.chars.specs.paper.Utf8.{WellFormed, LongestValid, width, codeOf}
 use Rattle.chars.specs.computed.Valid.{validPrefix}
 use Rattle.chars.specs.computed.Encoded.{encoded}
 use Rattle.chars.specs.code.Utf8.{decodeAt}
-use Rattle.chars.specs.code.Text.{charEnd, code_at}
+use Rattle.chars.specs.code.Text.{charEnd, codeAt}
 use Rattle.chars.specs.declared.utf8.Decoded.TheVariants as decoded
 
 pub record Decoding (s : List ℕ) (i : ℕ) : Type 0 where
@@ -19,7 +19,7 @@ pub record Decoding (s : List ℕ) (i : ℕ) : Type 0 where
   -- past the end nothing stands
   pub past : length s ≤ i → decodeAt s i ≡ decoded.Nothing
   -- the text there begins with it
-  pub in-text : (c w : ℕ) → decoded.Char c w ≡ decodeAt s i → (code_at s i ≡ c) × (charEnd s i ≡ i + w)
+  pub in-text : (c w : ℕ) → decoded.Char c w ≡ decodeAt s i → (codeAt s i ≡ c) × (charEnd s i ≡ i + w)
 
 pub record ValidLaws : Type 0 where
   -- what is computed is the longest valid prefix, and a text has one
@@ -27,19 +27,19 @@ pub record ValidLaws : Type 0 where
   pub longest-one : {s : List ℕ} {m n : ℕ} → LongestValid s m → LongestValid s n → m ≡ n
   -- a text is well-formed exactly where that prefix is all of it
   pub valid-all : (s : List ℕ) → WellFormed s → validPrefix s ≡ length s
-  pub all_valid : (s : List ℕ) → length s ≤ validPrefix s → WellFormed s
+  pub all-valid : (s : List ℕ) → length s ≤ validPrefix s → WellFormed s
   -- well-formed text begins with no byte of 0x80 to 0xBF, and behind its first character it is well-formed
   pub next-valid : (s : List ℕ) (i : ℕ) → i < length s → WellFormed (drop i s)
       → (0x80 ≤ get_or s i 0 → 0xBF < get_or s i 0) × WellFormed (drop (charEnd s i) s)
 
 -- a code that UTF-8 can carry: a Unicode scalar value, at most U+10FFFF and no surrogate
-abbrev pub is_scalar : ℕ → Bool
-is_scalar c = leb c 0x10FFFF && not (between 0xD800 0xDFFF c)
+abbrev pub isScalar : ℕ → Bool
+isScalar c = leb c 0x10FFFF && not (between 0xD800 0xDFFF c)
 
 -- the bytes that are written for a code
 pub record EncodingLaws : Type 0 where
   -- what is written for a scalar value is one well-formed character of Table 3-7, whatever follows it, and decodes to the code again
-  pub decodes : (c : ℕ) (rest : List ℕ) → is_scalar c ≡ true
-      → (width (encoded c ++ rest) ≡ length (encoded c)) × (code_of (length (encoded c)) (encoded c ++ rest) ≡ c)
+  pub decodes : (c : ℕ) (rest : List ℕ) → isScalar c ≡ true
+      → (width (encoded c ++ rest) ≡ length (encoded c)) × (codeOf (length (encoded c)) (encoded c ++ rest) ≡ c)
   -- put before well-formed text it gives well-formed text
-  pub encodes-valid : (c : ℕ) → is_scalar c ≡ true → (rest : List ℕ) → WellFormed rest → WellFormed (encoded c ++ rest)
+  pub encodes-valid : (c : ℕ) → isScalar c ≡ true → (rest : List ℕ) → WellFormed rest → WellFormed (encoded c ++ rest)

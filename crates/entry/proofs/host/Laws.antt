@@ -17,11 +17,11 @@ use Rattle.token.specs.code.Records.{measuredOf, tokensIn, Fits, begun, storedFr
 use Rattle.entry.specs.code.Host.{judgedOf, scratchOf}
 use Rattle.entry.specs.paper.Host.{seen}
 use Rattle.entry.specs.computed.Host.{granted, rejected, lacking, seenOf, Verdict, verdict, hostOf}
-use Rattle.words.specs.Words.{block_of}
+use Rattle.words.specs.Words.{blockOf}
 use Rattle.token.specs.declared.records.Measured.TheVariants as measured
 use Rattle.entry.specs.declared.host.Judged.{Judged}
 use Rattle.entry.specs.declared.host.Judged.TheVariants as judged
-use Rattle.token.proofs.Base.{zero_one}
+use Rattle.token.proofs.Base.{zero-one}
 use Rattle.token.proofs.records.Measures.{begun-fits}
 use Rattle.token.proofs.theorems.Alone.{records-length}
 use Rattle.words.proofs.Stores.{sets-front}
@@ -35,12 +35,12 @@ was-total (tokenized ts) n b e =
     let x : n ≡ 0 + length ts = cc in
     let y : b ≡ 0 + recordBytes ts = cc in
     (ts, refl, x ∙ zero-add (length ts), y ∙ zero-add (recordBytes ts))
-was-total (refused j a) n b e = zero_one (cc)
+was-total (refused j a) n b e = zero-one (cc)
 
 was-stopped : (v : Answer) (j a : ℕ) → measured.Refused j a ≡ measuredOf 0 0 v → v ≡ refused j a
 unfolding measuredOf
 was-stopped (refused i b) j a e = cc
-was-stopped (tokenized ts) j a e = zero_one (cc)
+was-stopped (tokenized ts) j a e = zero-one (cc)
 
 -- ---- judging: 17, 18, 1 to 16, 19
 
@@ -95,20 +95,20 @@ module _ (s scratch : List ℕ) where
 was-refused : (v : Verdict) (j a : ℕ) → judged.Refused j a ≡ judgedOf v → v ≡ rejected j a
 unfolding judgedOf
 was-refused (rejected i b) j a e = cc
-was-refused (granted ts) j a e = zero_one (cc)
-was-refused (lacking ts) j a e = zero_one (cc)
+was-refused (granted ts) j a e = zero-one (cc)
+was-refused (lacking ts) j a e = zero-one (cc)
 
 was-short : (v : Verdict) (n b : ℕ) → judged.Short n b ≡ judgedOf v → (ts : List Token) × (v ≡ lacking ts) × (n ≡ length ts) × (b ≡ recordBytes ts)
 unfolding judgedOf
 was-short (lacking ts) n b e = (ts, refl, cc, cc)
-was-short (granted ts) n b e = zero_one (cc)
-was-short (rejected j a) n b e = zero_one (cc)
+was-short (granted ts) n b e = zero-one (cc)
+was-short (rejected j a) n b e = zero-one (cc)
 
 was-fits : (v : Verdict) (n b : ℕ) → judged.Fits n b ≡ judgedOf v → (ts : List Token) × (v ≡ granted ts) × (n ≡ length ts) × (b ≡ recordBytes ts)
 unfolding judgedOf
 was-fits (granted ts) n b e = (ts, refl, cc, cc)
-was-fits (lacking ts) n b e = zero_one (cc)
-was-fits (rejected j a) n b e = zero_one (cc)
+was-fits (lacking ts) n b e = zero-one (cc)
+was-fits (rejected j a) n b e = zero-one (cc)
 
 -- ---- what the host sees
 
@@ -122,22 +122,22 @@ module _ (s buf block : List ℕ) where
     unfolding hostOf
     by-verdict v e = simp (eq-eqb (length block) 16 h, e)
 
-    pub entry-refused : (blk : List ℕ) (j a : ℕ) → judged.Refused j a ≡ judgedOf (verdict s (length buf)) → blk ≡ block_of j a 0 0
+    pub entry-refused : (blk : List ℕ) (j a : ℕ) → judged.Refused j a ≡ judgedOf (verdict s (length buf)) → blk ≡ blockOf j a 0 0
         → seen j buf blk ≡ hostOf s buf block
     unfolding seenOf
     entry-refused blk j a e q = ap (seen j buf) q ∙ by-verdict (rejected j a) (was-refused _ j a e)
 
-    pub entry-short : (blk : List ℕ) (n b : ℕ) → judged.Short n b ≡ judgedOf (verdict s (length buf)) → blk ≡ block_of 19 0 n b
+    pub entry-short : (blk : List ℕ) (n b : ℕ) → judged.Short n b ≡ judgedOf (verdict s (length buf)) → blk ≡ blockOf 19 0 n b
         → seen 19 buf blk ≡ hostOf s buf block
     unfolding seenOf
     entry-short blk n b e q =
         let w = was-short _ n b e in
-        ap (seen 19 buf) (q ∙ ap (λ k. block_of 19 0 k b) w.2 ∙ ap (block_of 19 0 (length w.0)) w.3) ∙ by-verdict (lacking w.0) w.1
+        ap (seen 19 buf) (q ∙ ap (λ k. blockOf 19 0 k b) w.2 ∙ ap (blockOf 19 0 (length w.0)) w.3) ∙ by-verdict (lacking w.0) w.1
 
-    pub entry_done : (out blk : List ℕ) (n b : ℕ) → judged.Fits n b ≡ judgedOf (verdict s (length buf)) → out ≡ sets buf 0 (records (tokensIn (answer s)))
-        → blk ≡ block_of 0 0 n b → seen 0 out blk ≡ hostOf s buf block
+    pub entry-done : (out blk : List ℕ) (n b : ℕ) → judged.Fits n b ≡ judgedOf (verdict s (length buf)) → out ≡ sets buf 0 (records (tokensIn (answer s)))
+        → blk ≡ blockOf 0 0 n b → seen 0 out blk ≡ hostOf s buf block
     unfolding seenOf
-    entry_done out blk n b e o q =
+    entry-done out blk n b e o q =
         let w = was-fits _ n b e in
         let ts = w.0 in
         let g = verdict-granted s (length buf) ts w.1 in
@@ -146,7 +146,7 @@ module _ (s buf block : List ℕ) where
         let f : out ≡ records ts ++ drop (recordBytes ts) buf =
         o ∙ ap (λ v. sets buf 0 (records (tokensIn v))) g.0 ∙ sets-front buf (records ts) z ∙ ap (λ k. records ts ++ drop k buf) y in
         ap (λ u. seen 0 u blk) f
-        ∙ ap (seen 0 (records ts ++ drop (recordBytes ts) buf)) (q ∙ ap (λ u. block_of 0 0 u b) w.2 ∙ ap (block_of 0 0 (length ts)) w.3)
+        ∙ ap (seen 0 (records ts ++ drop (recordBytes ts) buf)) (q ∙ ap (λ u. blockOf 0 0 u b) w.2 ∙ ap (blockOf 0 0 (length ts)) w.3)
         ∙ by-verdict (granted ts) w.1
 
 -- what writing asks for
@@ -162,15 +162,15 @@ module _ (s : List ℕ) (room n b : ℕ) (e : judged.Fits n b ≡ judgedOf (verd
       let w = was-fits _ n b e in
       w.3 ∙ sym (ap (λ v. recordBytes (tokensIn v)) (verdict-granted s room w.0 w.1).0)
 
-  pub entry_length : length s ≤ mostBytes
-  entry_length = go (ltb mostBytes (length s)) refl
+  pub entry-length : length s ≤ mostBytes
+  entry-length = go (ltb mostBytes (length s)) refl
     where
       go : (x : Bool) → ltb mostBytes (length s) ≡ x → length s ≤ mostBytes
       go false q = ltb-false mostBytes (length s) q
       go true q =
           let w = was-fits _ n b e in
           let v = sym (verdict-17 s room (ltb-true mostBytes (length s) q)) ∙ w.1 in
-          zero_one (cc)
+          zero-one (cc)
 
   pub entry-valid : length s ≤ validPrefix s
   entry-valid = go (ltb (validPrefix s) (length s)) refl
@@ -179,8 +179,8 @@ module _ (s : List ℕ) (room n b : ℕ) (e : judged.Fits n b ≡ judgedOf (verd
       go false q = ltb-false (validPrefix s) (length s) q
       go true q =
           let w = was-fits _ n b e in
-          let v = sym (verdict-18 s room entry_length (ltb-true (validPrefix s) (length s) q)) ∙ w.1 in
-          zero_one (cc)
+          let v = sym (verdict-18 s room entry-length (ltb-true (validPrefix s) (length s) q)) ∙ w.1 in
+          zero-one (cc)
 
   -- a buffer that the records fit into has them
   pub entry-held : (scratch next : List ℕ) → length next ≡ length scratch → next ≡ scratchOf s scratch → b ≤ length next
@@ -192,5 +192,5 @@ module _ (s : List ℕ) (room n b : ℕ) (e : judged.Fits n b ≡ judgedOf (verd
       let y = records-length ts in
       let z : recordBytes ts ≤ length scratch = omega (arith, w.3) in
       let f = begun-fits s scratch (rw g.0 (record { is-tokenized = refl; fits = z })) in
-      let o = h ∙ sym (scratch-read s scratch entry_length _ refl entry-valid) ∙ f ∙ ap (λ v. sets scratch 0 (records (tokensIn v))) g.0 ∙ sets-front scratch (records ts) (omega arith) in
+      let o = h ∙ sym (scratch-read s scratch entry-length _ refl entry-valid) ∙ f ∙ ap (λ v. sets scratch 0 (records (tokensIn v))) g.0 ∙ sets-front scratch (records ts) (omega arith) in
       ap (take b) o ∙ take_at (records ts) _ b (y ∙ sym w.3) ∙ sym (ap (λ v. records (tokensIn v)) g.0)

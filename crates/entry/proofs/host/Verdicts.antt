@@ -11,7 +11,7 @@ use Rattle.token.specs.paper.Kinds.{Token}
 use Rattle.token.specs.paper.Records.{recordBytes, mostBytes}
 use Rattle.token.specs.computed.Answer.{Answer, tokenized, refused, answer}
 use Rattle.entry.specs.computed.Host.{granted, rejected, lacking, byRoom, verdict}
-use Rattle.token.proofs.Base.{zero_one}
+use Rattle.token.proofs.Base.{zero-one}
 
 module _ (room : ℕ) (w : Answer) where
   pub room-granted : (ts : List Token) → w ≡ tokenized ts → recordBytes ts ≤ room → byRoom room w ≡ granted ts
@@ -44,17 +44,17 @@ module _ (script : List ℕ) (room : ℕ) where
 granted-leb : (room : ℕ) (us ts : List Token) (b : Bool) → leb (recordBytes us) room ≡ b → cond b (granted us) (lacking us) ≡ granted ts
     → (tokenized us ≡ tokenized ts) × (recordBytes ts ≤ room)
 granted-leb room us ts true h e = let q : us ≡ ts = cc in (ap tokenized q, rw (← q) (leb-true (recordBytes us) room h))
-granted-leb room us ts false h e = zero_one (cc)
+granted-leb room us ts false h e = zero-one (cc)
 
 granted-room : (room : ℕ) (w : Answer) (ts : List Token) → byRoom room w ≡ granted ts → (w ≡ tokenized ts) × (recordBytes ts ≤ room)
 unfolding byRoom
 granted-room room (tokenized us) ts e = granted-leb room us ts (leb (recordBytes us) room) refl e
-granted-room room (refused j a) ts e = zero_one (cc)
+granted-room room (refused j a) ts e = zero-one (cc)
 
 granted-order : (p q : Bool) (v room : ℕ) (w : Answer) (ts : List Token) → cond p (rejected 17 0) (cond q (rejected 18 v) (byRoom room w)) ≡ granted ts
     → (w ≡ tokenized ts) × (recordBytes ts ≤ room)
-granted-order true q v room w ts e = zero_one (cc)
-granted-order false true v room w ts e = zero_one (cc)
+granted-order true q v room w ts e = zero-one (cc)
+granted-order false true v room w ts e = zero-one (cc)
 granted-order false false v room w ts e = granted-room room w ts e
 
 pub verdict-granted : (script : List ℕ) (room : ℕ) (ts : List Token) → verdict script room ≡ granted ts

@@ -9,7 +9,7 @@ pub examples : Examples
 unfolding entered hosted verdict tokenText hasText
 examples = record {
   scripts-hold = refl;
-  too_long = λ s room long. rw long;
+  too-long = λ s room long. rw long;
   not-utf8 = refl;
   refused-seen = refl;
   lent-25 = refl;

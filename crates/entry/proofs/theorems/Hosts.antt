@@ -17,12 +17,12 @@ use Rattle.token.specs.paper.Records.{records, tokenCount, recordBytes, mostByte
 use Rattle.token.specs.computed.Answer.{Answer, answer}
 use Rattle.entry.specs.paper.Host.{Seen, seen, numberSeen, bufferSeen, Sized, Clean, Read, Sees}
 use Rattle.entry.specs.computed.Host.{granted, rejected, lacking, Verdict, byRoom, verdict, seenOf, hostOf}
-use Rattle.words.specs.Words.{block_of}
+use Rattle.words.specs.Words.{blockOf}
 use Rattle.entry.specs.Theorems.{HostTheorems, Lends, Accepts}
 use Rattle.entry.proofs.host.Verdicts.{verdict-17, verdict-18, verdict-rest, room-granted, room-lacking, room-rejected}
 use Rattle.token.proofs.theorems.Theorems.{complete, refusal, need, answer-tokens, tokens-answer, theorems}
 use Rattle.entry.proofs.theorems.Examples.{examples}
-open valid-laws use {valid, longest-one, valid-all, all_valid}
+open valid-laws use {valid, longest-one, valid-all, all-valid}
 
 -- ---- the order, computed
 
@@ -96,7 +96,7 @@ module _ (script buffer block : List ℕ) where
       utf8 : Sized script block → (b : Bool) → ltb (validPrefix script) (length script) ≡ b → Sees script buffer block (hostOf script buffer block)
       utf8 z true h = put (Sees.eighteen z (valid script) (ltb-true (validPrefix script) (length script) h))
       utf8 z false h =
-          read (record { sized = z; utf8 = all_valid script (ltb-false (validPrefix script) (length script) h) }) (answer script) refl
+          read (record { sized = z; utf8 = all-valid script (ltb-false (validPrefix script) (length script) h) }) (answer script) refl
 
       long : length block ≡ 16 → (b : Bool) → ltb mostBytes (length script) ≡ b → Sees script buffer block (hostOf script buffer block)
       long e true h = put (Sees.seventeen e (ltb-true mostBytes (length script) h))
@@ -115,13 +115,13 @@ module _ (script buffer block : List ℕ) where
   unchanged-by (Sees.nineteen r m) h = refl
   unchanged-by (Sees.accepted r m) h = absurd (h refl)
 
-  number_by : {x : Seen} → Sees script buffer block x → numberSeen x ≤ 20
-  number_by (Sees.twenty n) = omega arith
-  number_by (Sees.seventeen e l) = omega arith
-  number_by (Sees.eighteen z v m) = omega arith
-  number_by (Sees.refused c k) = let r = met-range k.first.met in let h = r.1 in omega arith
-  number_by (Sees.nineteen r m) = omega arith
-  number_by (Sees.accepted r m) = omega arith
+  number-by : {x : Seen} → Sees script buffer block x → numberSeen x ≤ 20
+  number-by (Sees.twenty n) = omega arith
+  number-by (Sees.seventeen e l) = omega arith
+  number-by (Sees.eighteen z v m) = omega arith
+  number-by (Sees.refused c k) = let r = met-range k.first.met in let h = r.1 in omega arith
+  number-by (Sees.nineteen r m) = omega arith
+  number-by (Sees.accepted r m) = omega arith
 
   reading-by : {x : Seen} → Sees script buffer block x → numberSeen x ≡ 0 → (ps : List Piece) × Reading script ps
   reading-by (Sees.twenty n) h = absurd (omega arith)
@@ -141,7 +141,7 @@ module _ (script buffer block : List ℕ) where
       }
     where
       writes : (ps : List Piece) (ts : List Token) → Reading script ps → Tokens script [] ps ts
-          → hostOf script buffer block ≡ seen 0 (records ts ++ drop (recordBytes ts) buffer) (block_of 0 0 (tokenCount ts) (recordBytes ts))
+          → hostOf script buffer block ≡ seen 0 (records ts ++ drop (recordBytes ts) buffer) (blockOf 0 0 (tokenCount ts) (recordBytes ts))
       writes ps ts h t =
           let k : TokensOf script ts = record { pieces = ps; reading = h; tokens = t } in
           let n = need script ts (answer-tokens script ts k) in
@@ -155,7 +155,7 @@ module _ (script buffer block : List ℕ) where
       record {
         sees = λ x. ((λ e. rw e at sees-host), sees-only);
         unchanged = unchanged-by sees-host;
-        numbers = number_by sees-host;
+        numbers = number-by sees-host;
         script-theorems = theorems script;
         lent-enough = lent-enough;
         examples = examples;

@@ -1,6 +1,6 @@
 -- Document 01's examples: by the listing of a script, by what the host sees, and of token text. `HostTheorems` asks for them.
 use Rattle.std.specs.Prelude.{ℕ, ◌≡◌, true, List, [], ◌∷◌, ◌++◌, map, length, replicate, ltb}
-use Rattle.words.specs.Words.{block_of}
+use Rattle.words.specs.Words.{blockOf}
 use Rattle.chars.specs.paper.Quoted.{codes}
 use Rattle.chars.specs.computed.Encoded.{script}
 use Rattle.token.specs.paper.Records.{mostBytes}
@@ -19,13 +19,13 @@ pub record Examples : Type 0 where
   -- the twelve marked scripts, the listing's example, the refusal table's 1 to 16, ties and traps: by the listing of a script
   pub scripts-hold : holdBy entered (marked ++ listingExample ++ refusalExamples ++ tieExamples ++ traps) ≡ true
   -- 17, for every script that is so long
-  pub too_long : (s : List ℕ) (room : ℕ) → ltb mostBytes (length s) ≡ true → verdict s room ≡ rejected 17 0
+  pub too-long : (s : List ℕ) (room : ℕ) → ltb mostBytes (length s) ≡ true → verdict s room ≡ rejected 17 0
   -- 18: the place is the length of the longest valid prefix
   pub not-utf8 : map entered illFormed
       ≡ map codes ("refused 18 at 1\n" ∷ "refused 18 at 0\n" ∷ "refused 18 at 1\n" ∷ "refused 18 at 1\n" ∷ [])
   -- the same by what the host sees, and `'(x`, refused by 16 at 1; each with nothing lent for records
   pub refused-seen : map (λ s. hosted s [] (replicate 16 9)) (script "'(x" ∷ illFormed)
-      ≡ seen 16 [] (block_of 16 1 0 0) ∷ map (λ a. seen 18 [] (block_of 18 a 0 0)) (1 ∷ 0 ∷ 1 ∷ 1 ∷ [])
+      ≡ seen 16 [] (blockOf 16 1 0 0) ∷ map (λ a. seen 18 [] (blockOf 18 a 0 0)) (1 ∷ 0 ∷ 1 ∷ 1 ∷ [])
   -- 19: `a`, 25 bytes lent; 20: a block of 15 bytes; and `a` accepted into 27 bytes, of which the last keeps its value
   pub lent-25 : hosted (script "a") (replicate 25 7) (replicate 16 9)
       ≡ seen 19 (replicate 25 7) (19 ∷ 0 ∷ 0 ∷ 0 ∷ 0 ∷ 0 ∷ 0 ∷ 0 ∷ 2 ∷ 0 ∷ 0 ∷ 0 ∷ 26 ∷ 0 ∷ 0 ∷ 0 ∷ [])

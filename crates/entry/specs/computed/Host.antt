@@ -4,7 +4,7 @@ use Rattle.chars.specs.computed.Valid.{validPrefix}
 use Rattle.token.specs.paper.Kinds.{Token}
 use Rattle.token.specs.computed.Answer.{Answer, answer}
 use Rattle.token.specs.paper.Records.{mostBytes, records, tokenCount, recordBytes}
-use Rattle.words.specs.Words.{block_of}
+use Rattle.words.specs.Words.{blockOf}
 use Rattle.entry.specs.paper.Host.{seen, Seen}
 
 -- the answer with `room` bytes lent: accepted, a refusal's number and place, or 19 with both counts
@@ -27,9 +27,9 @@ verdict script room =
 
 -- the number, the buffer and the block that follow from it
 unfoldable pub seenOf : Verdict → List ℕ → Seen
-seenOf (granted ts) buffer = seen 0 (records ts ++ drop (recordBytes ts) buffer) (block_of 0 0 (tokenCount ts) (recordBytes ts))
-seenOf (rejected j a) buffer = seen j buffer (block_of j a 0 0)
-seenOf (lacking ts) buffer = seen 19 buffer (block_of 19 0 (tokenCount ts) (recordBytes ts))
+seenOf (granted ts) buffer = seen 0 (records ts ++ drop (recordBytes ts) buffer) (blockOf 0 0 (tokenCount ts) (recordBytes ts))
+seenOf (rejected j a) buffer = seen j buffer (blockOf j a 0 0)
+seenOf (lacking ts) buffer = seen 19 buffer (blockOf 19 0 (tokenCount ts) (recordBytes ts))
 
 unfoldable pub hostOf : List ℕ → List ℕ → List ℕ → Seen
 hostOf script buffer block =

@@ -1,8 +1,8 @@
 -- Document 01, "Host entry and text": the listing of a script, kind, start, end, cut and values of each token, or `refused N at P`.
 use Rattle.std.specs.Prelude.{ℕ, List, [], length}
-use Rattle.words.specs.Words.{le2, le4, le8, block_of}
+use Rattle.words.specs.Words.{le2, le4, le8, blockOf}
 use Rattle.chars.specs.computed.Valid.{validFrom}
-use Rattle.token.specs.paper.Records.{values, recordLength, fields_of, head_of, recordOf, records, recordBytes, mostNeed}
+use Rattle.token.specs.paper.Records.{values, recordLength, fieldsOf, headOf, recordOf, records, recordBytes, mostNeed}
 use Rattle.token.specs.computed.Listing.{shown, refusedAt, listed}
 use Rattle.entry.specs.paper.Host.{Seen}
 use Rattle.entry.specs.computed.Host.{Verdict, granted, rejected, lacking, byRoom, verdict, seenOf, hostOf}
@@ -23,5 +23,5 @@ unfolding listed validFrom values recordLength recordBytes le4 le8 byRoom verdic
 entered script = listingOf script
 
 unfoldable pub hosted : List ℕ → List ℕ → List ℕ → Seen
-unfolding listed validFrom values recordLength recordBytes le2 le4 le8 byRoom verdict fields_of head_of recordOf records block_of seenOf hostOf
+unfolding listed validFrom values recordLength recordBytes le2 le4 le8 byRoom verdict fieldsOf headOf recordOf records blockOf seenOf hostOf
 hosted s buffer answerBlock = hostOf s buffer answerBlock

@@ -5,7 +5,7 @@ use Rattle.token.specs.paper.Kinds.{Token}
 use Rattle.token.specs.paper.Reading.{TokensOf}
 use Rattle.token.specs.paper.Refusals.{Refused}
 use Rattle.token.specs.paper.Records.{mostBytes, records, tokenCount, recordBytes}
-use Rattle.words.specs.Words.{block_of}
+use Rattle.words.specs.Words.{blockOf}
 
 -- what the host sees afterwards: the number handed back, the records buffer and the answer block
 pub data Seen : Type 0 where
@@ -39,14 +39,14 @@ pub data Sees (script buffer block : List ℕ) : Seen → Type 0 where
   -- answer block isn't 16 bytes. After 20 the block is unchanged.
   twenty : (length block ≡ 16 → ⊥) → Sees script buffer block (seen 20 buffer block)
   -- over 16,777,216 bytes, at 0
-  seventeen : length block ≡ 16 → mostBytes < length script → Sees script buffer block (seen 17 buffer (block_of 17 0 0 0))
+  seventeen : length block ≡ 16 → mostBytes < length script → Sees script buffer block (seen 17 buffer (blockOf 17 0 0 0))
   -- not UTF-8, at the length of the longest valid prefix
-  eighteen : {n : ℕ} → Sized script block → LongestValid script n → n < length script → Sees script buffer block (seen 18 buffer (block_of 18 n 0 0))
+  eighteen : {n : ℕ} → Sized script block → LongestValid script n → n < length script → Sees script buffer block (seen 18 buffer (blockOf 18 n 0 0))
   -- 1 to 16
-  refused : {j a : ℕ} → Clean script block → Refused script j a → Sees script buffer block (seen j buffer (block_of j a 0 0))
+  refused : {j a : ℕ} → Clean script block → Refused script j a → Sees script buffer block (seen j buffer (blockOf j a 0 0))
   -- records need more than lent: carries the token count and bytes needed
   nineteen : {ts : List Token} → Read script block ts → length buffer < recordBytes ts
-      → Sees script buffer block (seen 19 buffer (block_of 19 0 (tokenCount ts) (recordBytes ts)))
+      → Sees script buffer block (seen 19 buffer (blockOf 19 0 (tokenCount ts) (recordBytes ts)))
   -- 0 if accepted. Bytes past the records keep their values.
   accepted : {ts : List Token} → Read script block ts → recordBytes ts ≤ length buffer
-      → Sees script buffer block (seen 0 (records ts ++ drop (recordBytes ts) buffer) (block_of 0 0 (tokenCount ts) (recordBytes ts)))
+      → Sees script buffer block (seen 0 (records ts ++ drop (recordBytes ts) buffer) (blockOf 0 0 (tokenCount ts) (recordBytes ts)))

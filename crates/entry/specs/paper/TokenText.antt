@@ -29,7 +29,7 @@ pub record PartOf (script : Lent) (a e : ℕ) (part : Lent) : Type 0 where
 -- Token text is the script's bytes from start to end, as a part; at 21 the empty part at 0.
 pub record TextPart (script : Lent) (a e : ℕ) (part : Lent) : Type 0 where
   pub text : hasText script.now a e ≡ true → PartOf script a e part
-  pub no_text : hasText script.now a e ≡ false → PartOf script 0 0 part
+  pub no-text : hasText script.now a e ≡ false → PartOf script 0 0 part
 
 -- the number for hosts
 abbrev pub textNumber : List ℕ → ℕ → ℕ → ℕ

@@ -12,7 +12,7 @@ use borrow.Author.Tests.{eqb-true, eqb-false}
 use Rattle.chars.specs.paper.Quoted.{between}
 use Rattle.chars.proofs.theorems.Promises.{code_laws}
 use Rattle.lines.specs.computed.Lines.{part, countIn}
-open code_laws use {between_in, between-out}
+open code_laws use {between-in, between-out}
 
 -- ---- parts
 
@@ -27,12 +27,12 @@ part-more s i j h k =
     ∙ ap (λ b. take (j - i) (drop i s) ++ (b ∷ [])) (get_or-drop i s (j - i) 0 ∙ ap (λ n. get_or s n 0) f)
 
 -- none
-pub part_none : (s : List ℕ) (i : ℕ) → part s i i ≡ []
-part_none s i = let e : i - i ≡ 0 = omega arith in ap (λ n. take n (drop i s)) e
+pub part-none : (s : List ℕ) (i : ℕ) → part s i i ≡ []
+part-none s i = let e : i - i ≡ 0 = omega arith in ap (λ n. take n (drop i s)) e
 
 -- two that meet
-pub part_join : (s : List ℕ) (i j k : ℕ) → i ≤ j → j ≤ k → part s i k ≡ part s i j ++ part s j k
-part_join s i j k h l =
+pub part-join : (s : List ℕ) (i j k : ℕ) → i ≤ j → j ≤ k → part s i k ≡ part s i j ++ part s j k
+part-join s i j k h l =
     let e : k - i ≡ j - i + (k - j) = omega arith in
     let f : i + (j - i) ≡ j = omega arith in
     ap (λ n. take n (drop i s)) e
@@ -46,8 +46,8 @@ part-front s j = ap (λ n. take n s) (sub-zero j)
 pub part-all : (s : List ℕ) → part s 0 (length s) ≡ s
 part-all s = part-front s (length s) ∙ take-length s
 
-pub part_length : (s : List ℕ) (i j : ℕ) → j ≤ length s → length (part s i j) ≡ j - i
-part_length s i j h = let d = length-drop i s in length-take-le (j - i) (drop i s) (omega arith)
+pub part-length : (s : List ℕ) (i j : ℕ) → j ≤ length s → length (part s i j) ≡ j - i
+part-length s i j h = let d = length-drop i s in length-take-le (j - i) (drop i s) (omega arith)
 
 -- ---- counting
 
@@ -56,7 +56,7 @@ pub between-lf : (b : ℕ) → between 0x0A 0x0A b ≡ eqb b 0x0A
 between-lf b = go (eqb b 0x0A) refl
   where
     go : (t : Bool) → eqb b 0x0A ≡ t → between 0x0A 0x0A b ≡ t
-    go true e = let z = eqb-true b 0x0A e in between_in 0x0A 0x0A b (omega arith) (omega arith)
+    go true e = let z = eqb-true b 0x0A e in between-in 0x0A 0x0A b (omega arith) (omega arith)
     go false e = between-out 0x0A 0x0A b (λ l. let z = eqb-false b 0x0A e in omega arith)
 
 module _ (low high : ℕ) where
@@ -70,10 +70,10 @@ module _ (low high : ℕ) where
       go true e = omega arith
       go false e = e
 
-  pub count_most : (s : List ℕ) → countIn low high s ≤ length s
+  pub count-most : (s : List ℕ) → countIn low high s ≤ length s
   unfolding countIn
-  count_most [] = omega arith
-  count_most (b ∷ s) = go (between low high b) (count_most s)
+  count-most [] = omega arith
+  count-most (b ∷ s) = go (between low high b) (count-most s)
     where
       go : (t : Bool) → countIn low high s ≤ length s → cond t (suc (countIn low high s)) (countIn low high s) ≤ suc (length s)
       go true h = omega arith
@@ -84,9 +84,9 @@ module _ (low high : ℕ) where
   count-one b = refl
 
   -- nothing counted before the first byte
-  pub count_none : (s : List ℕ) (i : ℕ) → countIn low high (part s i i) ≡ 0
+  pub count-none : (s : List ℕ) (i : ℕ) → countIn low high (part s i i) ≡ 0
   unfolding countIn
-  count_none s i = ap (countIn low high) (part_none s i)
+  count-none s i = ap (countIn low high) (part-none s i)
 
   -- one byte more, and a part more
   pub count-more : (s : List ℕ) (i j : ℕ) → i ≤ j → j < length s
@@ -97,13 +97,13 @@ module _ (low high : ℕ) where
       ∙ ap (λ m. countIn low high (part s i j) + m) (count-one (get_or s j 0))
 
   pub count-join : (s : List ℕ) (i j k : ℕ) → i ≤ j → j ≤ k → countIn low high (part s i j) + countIn low high (part s j k) ≡ countIn low high (part s i k)
-  count-join s i j k h l = sym (count-append (part s i j) (part s j k)) ∙ ap (countIn low high) (sym (part_join s i j k h l))
+  count-join s i j k h l = sym (count-append (part s i j) (part s j k)) ∙ ap (countIn low high) (sym (part-join s i j k h l))
 
   pub count-within : (s : List ℕ) (i j : ℕ) → j ≤ length s → countIn low high (part s i j) ≤ j - i
-  count-within s i j h = let a = count_most (part s i j) in let b = part_length s i j h in omega arith
+  count-within s i j h = let a = count-most (part s i j) in let b = part-length s i j h in omega arith
 
 -- for the functions that count
-pub ruleset counting = (count_none, count-more, count-join, count-within)
+pub ruleset counting = (count-none, count-more, count-join, count-within)
 
 -- over the whole script
-pub ruleset whole = (count_most, part-all)
+pub ruleset whole = (count-most, part-all)

@@ -79,16 +79,16 @@ module _ (index : List ℕ) (a : ℕ) where
   search-below zero low size h k = absurd (omega arith)
   search-below (suc m) low size h k = go (leb size 1) refl (λ l s. search-below m l s)
     where
-      half_of : (t : Bool) → 1 < size → ((l s : ℕ) → s ≤ m → 1 ≤ s → searchIn m index a l s < l + s)
+      half-of : (t : Bool) → 1 < size → ((l s : ℕ) → s ≤ m → 1 ≤ s → searchIn m index a l s < l + s)
           → searchIn m index a (cond t (low + size / 2) low) (cond t (size - size / 2) (size / 2)) < low + size
-      half_of true q on = let l = half size q in let r = on (low + size / 2) (size - size / 2) (omega arith) (omega arith) in omega arith
-      half_of false q on = let l = half size q in let r = on low (size / 2) (omega arith) (omega arith) in omega arith
+      half-of true q on = let l = half size q in let r = on (low + size / 2) (size - size / 2) (omega arith) (omega arith) in omega arith
+      half-of false q on = let l = half size q in let r = on low (size / 2) (omega arith) (omega arith) in omega arith
 
       go : (t : Bool) → leb size 1 ≡ t → ((l s : ℕ) → s ≤ m → 1 ≤ s → searchIn m index a l s < l + s) → searchIn (suc m) index a low size < low + size
       go true e on = let q = search-one (suc m) low size (leb-true size 1 e) in omega arith
       go false e on =
           let q = leb-false size 1 e in
-          rw (search-step m low size q) (half_of (leb (get_or index (low + size / 2) 0) a) q on)
+          rw (search-step m low size q) (half-of (leb (get_or index (low + size / 2) 0) a) q on)
 
   -- where the numbers up to the one at n, and only these, are at most a, it is the one at n
   pub search-finds : (m low size n : ℕ) → size ≤ m → low ≤ n → n < low + size
@@ -100,13 +100,13 @@ module _ (index : List ℕ) (a : ℕ) where
       On : Type 0
       On = (l s : ℕ) → s ≤ m → l ≤ n → n < l + s → ((k : ℕ) → k < l + s → leb (get_or index k 0) a ≡ leb k n) → searchIn m index a l s ≡ n
 
-      half_of : (t : Bool) → leb (low + size / 2) n ≡ t → 1 < size → On
+      half-of : (t : Bool) → leb (low + size / 2) n ≡ t → 1 < size → On
           → searchIn m index a (cond t (low + size / 2) low) (cond t (size - size / 2) (size / 2)) ≡ n
-      half_of true w q on =
+      half-of true w q on =
           let l = half size q in
           let r = leb-true (low + size / 2) n w in
           on (low + size / 2) (size - size / 2) (omega arith) r (omega arith) (λ k j. is k (omega arith))
-      half_of false w q on =
+      half-of false w q on =
           let l = half size q in
           let r = leb-false (low + size / 2) n w in
           on low (size / 2) (omega arith) b r (λ k j. is k (omega arith))
@@ -116,7 +116,7 @@ module _ (index : List ℕ) (a : ℕ) where
       go false e on =
           let q = leb-false size 1 e in
           let l = half size q in
-          search-step m low size q ∙ rw (is (low + size / 2) (omega arith)) (half_of (leb (low + size / 2) n) refl q on)
+          search-step m low size q ∙ rw (is (low + size / 2) (omega arith)) (half-of (leb (low + size / 2) n) refl q on)
 
 -- of the first `lines` numbers one is found
 pub search-within : (index : List ℕ) (lines a : ℕ) → 1 ≤ lines → searchOf index lines a < lines

@@ -8,9 +8,9 @@ use lib.Dec.{ltb, leb}
 use native.Mathlib.Numerals.{add-one}
 use native.Mathlib.Omega.{arith}
 use borrow.Author.Tests.{eq-eqb, ne_eqb, ltb-true, ltb-false, lt-ltb, le-ltb, leb-true, le-leb, not-true}
-use Rattle.words.specs.Words.{block_of, told}
+use Rattle.words.specs.Words.{blockOf, told}
 use Rattle.chars.specs.computed.Valid.{validPrefix}
-use Rattle.chars.proofs.Bools.{clash, and_both}
+use Rattle.chars.proofs.Bools.{clash, and-both}
 use Rattle.token.specs.paper.Records.{mostBytes}
 use Rattle.entry.specs.paper.Host.{seen}
 use Rattle.entry.specs.paper.TokenText.{insideCharacter, hasText}
@@ -71,9 +71,9 @@ module _ (s : List ℕ) (a : ℕ) where
   pub good-place : hasText s a a ≡ true → GoodPlace s a
   unfolding hasText
   good-place e =
-      let k = and_both (leb a a && leb a (length s) && not (insideCharacter s a)) (not (insideCharacter s a)) e in
-      let m = and_both (leb a a && leb a (length s)) (not (insideCharacter s a)) k.0 in
-      let i = and_both (leb a a) (leb a (length s)) m.0 in
+      let k = and-both (leb a a && leb a (length s) && not (insideCharacter s a)) (not (insideCharacter s a)) e in
+      let m = and-both (leb a a && leb a (length s)) (not (insideCharacter s a)) k.0 in
+      let i = and-both (leb a a) (leb a (length s)) m.0 in
       record { within = leb-true a (length s) i.1; outside = not-true (insideCharacter s a) k.1 }
 
   pub place-good : GoodPlace s a → hasText s a a ≡ true
@@ -88,16 +88,16 @@ module _ (s index block : List ℕ) where
   index-none n = rw (ne_eqb (length block) 16 n)
 
   module _ (e : length block ≡ 16) where
-    pub index-refused : (j a : ℕ) (b : List ℕ) → checked.Refused j a ≡ checkedOf s → b ≡ block_of j a 0 0 → seen j index b ≡ indexSeen s index block
+    pub index-refused : (j a : ℕ) (b : List ℕ) → checked.Refused j a ≡ checkedOf s → b ≡ blockOf j a 0 0 → seen j index b ≡ indexSeen s index block
     unfolding indexSeen builtBy
     index-refused j a b q f = rw (eq-eqb (length block) 16 e, ← q, f)
 
     module _ (n : ℕ) (b : List ℕ) (q : checked.Lines n ≡ checkedOf s) where
-      pub index_short : length index < n → b ≡ block_of 26 0 n 0 → seen 26 index b ≡ indexSeen s index block
+      pub index-short : length index < n → b ≡ blockOf 26 0 n 0 → seen 26 index b ≡ indexSeen s index block
       unfolding indexSeen builtBy
-      index_short l f = rw (eq-eqb (length block) 16 e, ← q, lt-ltb (length index) n l, f)
+      index-short l f = rw (eq-eqb (length block) 16 e, ← q, lt-ltb (length index) n l, f)
 
-      pub index-built : (out : List ℕ) → n ≤ length index → out ≡ startsOf s ++ drop (lineCount s) index → b ≡ block_of 0 0 n 0
+      pub index-built : (out : List ℕ) → n ≤ length index → out ≡ startsOf s ++ drop (lineCount s) index → b ≡ blockOf 0 0 n 0
           → seen 0 out b ≡ indexSeen s index block
       unfolding indexSeen builtBy
       index-built out l o f = rw (eq-eqb (length block) 16 e, ← q, le-ltb (length index) n l, f, o, (was-lines s n q).1)
@@ -110,21 +110,21 @@ module _ (s index : List ℕ) (a : ℕ) (block : List ℕ) where
   position-none n = rw (ne_eqb (length block) 16 n)
 
   module _ (e : length block ≡ 16) where
-    pub position-refused : (j p : ℕ) (b : List ℕ) → checked.Refused j p ≡ checkedOf s → b ≡ block_of j p 0 0 → told j b ≡ positionTold s index a block
+    pub position-refused : (j p : ℕ) (b : List ℕ) → checked.Refused j p ≡ checkedOf s → b ≡ blockOf j p 0 0 → told j b ≡ positionTold s index a block
     unfolding positionTold answeredBy
     position-refused j p b q f = rw (eq-eqb (length block) 16 e, ← q, f)
 
     module _ (n : ℕ) (b : List ℕ) (q : checked.Lines n ≡ checkedOf s) where
-      pub position-off : hasText s a a ≡ false → b ≡ block_of 25 0 0 0 → told 25 b ≡ positionTold s index a block
+      pub position-off : hasText s a a ≡ false → b ≡ blockOf 25 0 0 0 → told 25 b ≡ positionTold s index a block
       unfolding positionTold answeredBy
       position-off t f = rw (eq-eqb (length block) 16 e, ← q, t, f)
 
       module _ (t : hasText s a a ≡ true) where
-        pub position-short : length index < n → b ≡ block_of 26 0 0 0 → told 26 b ≡ positionTold s index a block
+        pub position-short : length index < n → b ≡ blockOf 26 0 0 0 → told 26 b ≡ positionTold s index a block
         unfolding positionTold answeredBy
         position-short l f = rw (eq-eqb (length block) 16 e, ← q, t, lt-ltb (length index) n l, f)
 
-        pub position-found : (k c : ℕ) → n ≤ length index → k ≡ searchOf index n a → c ≡ columnSince s (get_or index k 0) a → b ≡ block_of 0 0 (k + 1) c
+        pub position-found : (k c : ℕ) → n ≤ length index → k ≡ searchOf index n a → c ≡ columnSince s (get_or index k 0) a → b ≡ blockOf 0 0 (k + 1) c
             → told 0 b ≡ positionTold s index a block
         unfolding positionTold answeredBy foundIn
         position-found k c l g h f = rw (eq-eqb (length block) 16 e, ← q, t, le-ltb (length index) n l, f, h, add-one k, g)

@@ -13,7 +13,7 @@ use borrow.Author.Tests.{eqb-true, eq-eqb, ne_eqb}
 use Rattle.words.proofs.Stores.{after, sets-front}
 use Rattle.lines.specs.computed.Lines.{part, countIn, startsIn, startsOf, lineCount}
 use Rattle.lines.specs.code.Index.{noLf}
-use Rattle.lines.proofs.count.Laws.{between-lf, part-more, part_none, part_join, part-all, part_length, count-append, count-one}
+use Rattle.lines.proofs.count.Laws.{between-lf, part-more, part-none, part-join, part-all, part-length, count-append, count-one}
 
 -- ---- starts
 
@@ -48,8 +48,8 @@ lines-length s = ap suc (starts-count 0 s)
 -- two parts that meet
 pub starts-join : (s : List ℕ) (i j k : ℕ) → i ≤ j → j ≤ k → j ≤ length s → startsIn i (part s i k) ≡ startsIn i (part s i j) ++ startsIn j (part s j k)
 starts-join s i j k h l m =
-    let e : i + length (part s i j) ≡ j = let p = part_length s i j m in omega arith in
-    ap (startsIn i) (part_join s i j k h l)
+    let e : i + length (part s i j) ≡ j = let p = part-length s i j m in omega arith in
+    ap (startsIn i) (part-join s i j k h l)
     ∙ starts-append i (part s i j) (part s j k)
     ∙ ap (λ n. startsIn i (part s i j) ++ startsIn n (part s j k)) e
 
@@ -60,7 +60,7 @@ starts-sum s i j k h l m = sym (ap length (starts-join s i j k h l m) ∙ length
 
 -- one byte
 part-one : (s : List ℕ) (j : ℕ) → j < length s → part s j (j + 1) ≡ get_or s j 0 ∷ []
-part-one s j h = part-more s j j (omega arith) h ∙ ap (λ l. l ++ (get_or s j 0 ∷ [])) (part_none s j)
+part-one s j h = part-more s j j (omega arith) h ∙ ap (λ l. l ++ (get_or s j 0 ∷ [])) (part-none s j)
 
 pub one-lf : (s : List ℕ) (j : ℕ) → j < length s → get_or s j 0 ≡ 0x0A → startsIn j (part s j (j + 1)) ≡ (j + 1) ∷ []
 unfolding startsIn
@@ -71,9 +71,9 @@ unfolding startsIn
 one-other s j h n = ap (startsIn j) (part-one s j h) ∙ rw (ne_eqb (get_or s j 0) 0x0A n)
 
 -- none before the first byte
-pub starts_none : (s : List ℕ) (i : ℕ) → startsIn i (part s i i) ≡ []
+pub starts-none : (s : List ℕ) (i : ℕ) → startsIn i (part s i i) ≡ []
 unfolding startsIn
-starts_none s i = ap (startsIn i) (part_none s i)
+starts-none s i = ap (startsIn i) (part-none s i)
 
 -- ---- eight bytes without an LF
 
@@ -160,7 +160,7 @@ starts-room s i j k h b g q =
     omega (arith, ap length o)
 
 -- for the loop over the bytes
-pub ruleset each_byte = (starts_none, count-lf, stored-lf, none-other, starts-room, length-sets)
+pub ruleset each_byte = (starts-none, count-lf, stored-lf, none-other, starts-room, length-sets)
 
 -- all of them, behind the first line's start
 pub starts-front : (s l : List ℕ) → lineCount s ≤ length l → sets (set l 0 0) 1 (startsIn 0 (part s 0 (length s))) ≡ startsOf s ++ drop (lineCount s) l
@@ -182,9 +182,9 @@ unfolding lineCount
 some_line s = omega arith
 
 -- so there is room for the starts of a part where there is room for all
-pub starts_fit : (s : List ℕ) (i j : ℕ) → i ≤ j → j ≤ length s
+pub starts-fit : (s : List ℕ) (i j : ℕ) → i ≤ j → j ≤ length s
     → length (startsIn i (part s i j)) + (1 + length (startsIn 0 (part s 0 i))) ≤ lineCount s
-starts_fit s i j h b =
+starts-fit s i j h b =
     let l = lines-all s in
     let c = starts-sum s 0 i j (omega arith) h (omega arith) in
     let d = starts-sum s 0 j (length s) (omega arith) b b in
@@ -210,4 +210,4 @@ module _ (s : List ℕ) (i k : ℕ) (h : i ≤ k) (b : k ≤ length s) where
   stored-more l = starts-stored s l 1 0 i k (omega arith) h (omega arith)
 
 -- for the loop over the script
-pub ruleset each_eight = (some_line, starts-begin, starts_fit, same-free, sum-more, stored-more, starts-front, length-sets, length-set)
+pub ruleset each_eight = (some_line, starts-begin, starts-fit, same-free, sum-more, stored-more, starts-front, length-sets, length-set)

@@ -42,8 +42,8 @@ module _ (script : List ℕ) where
   line-starts l (Starts.starts e) zero h = record { left = from script 0; counts = Counts.first; stands = place-from script 0 (omega arith) }
   line-starts l (Starts.starts e) (suc k) h = let q : 1 + suc k ≡ suc k + 1 = omega arith in rw q at (begins 1 e Counts.first k (omega arith))
 
-  pub last_line : (l : List ℕ) → Starts script l → (c : ℕ) × Position script (length script) (length l) c
-  last_line l (Starts.starts {l = ends} e) =
+  pub last-line : (l : List ℕ) → Starts script l → (c : ℕ) × Position script (length script) (length l) c
+  last-line l (Starts.starts {l = ends} e) =
       let q : 1 + length ends ≡ suc (length ends) = omega arith in
       let r = lasts 1 e Counts.first in
       (r.0, record { left = []; counts = rw q at r.1; stands = refl })

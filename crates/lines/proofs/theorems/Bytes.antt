@@ -13,9 +13,9 @@ use borrow.Author.Tests.{eq-eqb, ne_eqb}
 use Rattle.chars.specs.paper.Quoted.{between}
 use Rattle.chars.specs.code.Runs.{Each, AllIn}
 use Rattle.chars.proofs.theorems.Promises.{code_laws}
-use Rattle.lines.specs.computed.Lines.{part, countIn, startsIn, columnFrom, lfsBefore, line_at, columnAt, columnSince}
-use Rattle.lines.proofs.count.Laws.{between-lf, part_join, part-front, part_length, count-append, count-one, count_most}
-open code_laws use {between_in, between-out}
+use Rattle.lines.specs.computed.Lines.{part, countIn, startsIn, columnFrom, lfsBefore, lineAt, columnAt, columnSince}
+use Rattle.lines.proofs.count.Laws.{between-lf, part-join, part-front, part-length, count-append, count-one, count-most}
+open code_laws use {between-in, between-out}
 
 -- no LF stands from the place i to the place j
 abbrev pub Unbroken : List ℕ → ℕ → ℕ → Type 0
@@ -71,13 +71,13 @@ column-plain c (b ∷ x) e =
         → columnFrom (cond t 1 (cond u c (suc c))) x ≡ c + (suc (length x) - cond u (suc (countIn 0x80 0xBF x)) (countIn 0x80 0xBF x))
     go true u e more = absurd (omega arith)
     go false true e more = more c e ∙ omega arith
-    go false false e more = let m = count_most 0x80 0xBF x in more (suc c) e ∙ omega arith
+    go false false e more = let m = count-most 0x80 0xBF x in more (suc c) e ∙ omega arith
 
 -- from one place to another
 pub column-part : (s : List ℕ) (i j : ℕ) → i ≤ j → columnAt s j ≡ columnFrom (columnAt s i) (part s i j)
 unfolding columnAt
 column-part s i j h =
-    let e = sym (part-front s j) ∙ part_join s 0 i j (omega arith) h ∙ ap (λ x. x ++ part s i j) (part-front s i) in
+    let e = sym (part-front s j) ∙ part-join s 0 i j (omega arith) h ∙ ap (λ x. x ++ part s i j) (part-front s i) in
     ap (columnFrom 1) e ∙ column-append 1 (take i s) (part s i j)
 
 -- in a line that starts at i
@@ -85,7 +85,7 @@ pub column-since : (s : List ℕ) (i a : ℕ) → i ≤ a → a ≤ length s →
 unfolding columnSince
 column-since s i a h l e n =
     let p = column-part s i a h ∙ ap (λ c. columnFrom c (part s i a)) e ∙ column-plain 1 (part s i a) n in
-    let k = part_length s i a l in
+    let k = part-length s i a l in
     omega arith
 
 -- ---- line and column behind one byte
@@ -94,8 +94,8 @@ module _ (s : List ℕ) where
   front : (i : ℕ) → i < length s → take (i + 1) s ≡ take i s ++ (get_or s i 0 ∷ [])
   front i h = ap (λ n. take n s) (add-one i) ∙ take-suc s i 0 h
 
-  line-next : (i : ℕ) → i < length s → line_at s (i + 1) ≡ line_at s i + cond (eqb (get_or s i 0) 0x0A) 1 0
-  unfolding line_at lfsBefore
+  line-next : (i : ℕ) → i < length s → lineAt s (i + 1) ≡ lineAt s i + cond (eqb (get_or s i 0) 0x0A) 1 0
+  unfolding lineAt lfsBefore
   line-next i h =
       let a = ap (countIn 0x0A 0x0A) (front i h) ∙ count-append 0x0A 0x0A (take i s) (get_or s i 0 ∷ []) in
       let b = count-one 0x0A 0x0A (get_or s i 0) ∙ ap (λ t. cond t 1 0) (between-lf (get_or s i 0)) in
@@ -107,31 +107,31 @@ module _ (s : List ℕ) where
   column-next i h = ap (columnFrom 1) (front i h) ∙ column-append 1 (take i s) (get_or s i 0 ∷ [])
 
   -- an LF begins a line
-  pub past-lf : (i : ℕ) → i < length s → get_or s i 0 ≡ 0x0A → (line_at s (i + 1) ≡ line_at s i + 1) × (columnAt s (i + 1) ≡ 1)
+  pub past-lf : (i : ℕ) → i < length s → get_or s i 0 ≡ 0x0A → (lineAt s (i + 1) ≡ lineAt s i + 1) × (columnAt s (i + 1) ≡ 1)
   past-lf i h e = let z = eq-eqb (get_or s i 0) 0x0A e in (line-next i h ∙ rw z, column-next i h ∙ rw z)
 
   -- a byte 0x80 to 0xBF begins neither a line nor a column
-  pub past-tail : (i : ℕ) → i < length s → 0x80 ≤ get_or s i 0 → get_or s i 0 ≤ 0xBF → (line_at s (i + 1) ≡ line_at s i) × (columnAt s (i + 1) ≡ columnAt s i)
+  pub past-tail : (i : ℕ) → i < length s → 0x80 ≤ get_or s i 0 → get_or s i 0 ≤ 0xBF → (lineAt s (i + 1) ≡ lineAt s i) × (columnAt s (i + 1) ≡ columnAt s i)
   past-tail i h l m =
       let z = ne_eqb (get_or s i 0) 0x0A (λ e. omega arith) in
-      (line-next i h ∙ rw (z, add-zero), column-next i h ∙ rw (z, between_in 0x80 0xBF (get_or s i 0) l m))
+      (line-next i h ∙ rw (z, add-zero), column-next i h ∙ rw (z, between-in 0x80 0xBF (get_or s i 0) l m))
 
   -- every other byte a column
   pub past-other : (i : ℕ) → i < length s → (get_or s i 0 ≡ 0x0A → ⊥) → (0x80 ≤ get_or s i 0 → 0xBF < get_or s i 0)
-      → (line_at s (i + 1) ≡ line_at s i) × (columnAt s (i + 1) ≡ columnAt s i + 1)
+      → (lineAt s (i + 1) ≡ lineAt s i) × (columnAt s (i + 1) ≡ columnAt s i + 1)
   past-other i h n f =
       let z = ne_eqb (get_or s i 0) 0x0A n in
       (line-next i h ∙ rw (z, add-zero), column-next i h ∙ rw (z, between-out 0x80 0xBF (get_or s i 0) f, add-one))
 
-  tails-many : (k i : ℕ) → i + k ≤ length s → AllIn 0x80 0xBF s i (i + k) → (line_at s (i + k) ≡ line_at s i) × (columnAt s (i + k) ≡ columnAt s i)
+  tails-many : (k i : ℕ) → i + k ≤ length s → AllIn 0x80 0xBF s i (i + k) → (lineAt s (i + k) ≡ lineAt s i) × (columnAt s (i + k) ≡ columnAt s i)
   tails-many zero i h t = (rw add-zero, rw add-zero)
   tails-many (suc k) i h t =
       let e : i + suc k ≡ i + 1 + k = omega arith in
       let b = t i (omega arith) (omega arith) in
       let p = past-tail i (omega arith) b.0 b.1 in
       let r = tails-many k (i + 1) (omega arith) (λ j l m. t j (omega arith) (omega arith)) in
-      (ap (line_at s) e ∙ r.0 ∙ p.0, ap (columnAt s) e ∙ r.1 ∙ p.1)
+      (ap (lineAt s) e ∙ r.0 ∙ p.0, ap (columnAt s) e ∙ r.1 ∙ p.1)
 
   -- nor do bytes 0x80 to 0xBF in a row
-  pub past-tails : (i j : ℕ) → i ≤ j → j ≤ length s → AllIn 0x80 0xBF s i j → (line_at s j ≡ line_at s i) × (columnAt s j ≡ columnAt s i)
+  pub past-tails : (i j : ℕ) → i ≤ j → j ≤ length s → AllIn 0x80 0xBF s i j → (lineAt s j ≡ lineAt s i) × (columnAt s j ≡ columnAt s i)
   past-tails i j l h t = let e : i + (j - i) ≡ j = omega arith in rw e at (tails-many (j - i) i (omega arith) (rw e t))

@@ -101,8 +101,8 @@ module _ (s : List ℕ) where
   -- ---- a place, in an index whose first numbers are the starts
 
   module _ (index : List ℕ) (a : ℕ) (is : take (lineCount s) index ≡ startsOf s) (l : a ≤ length s) where
-    same_start : (k : ℕ) → k < lineCount s → get_or index k 0 ≡ get_or (startsOf s) k 0
-    same_start k h = sym (get_or-take (lineCount s) index k 0 h) ∙ ap (λ t. get_or t k 0) is
+    same-start : (k : ℕ) → k < lineCount s → get_or index k 0 ≡ get_or (startsOf s) k 0
+    same-start k h = sym (get_or-take (lineCount s) index k 0 h) ∙ ap (λ t. get_or t k 0) is
 
     pub finds-line : searchOf index (lineCount s) a ≡ lfsBefore s a
     unfolding searchOf
@@ -118,7 +118,7 @@ module _ (s : List ℕ) where
         (omega arith)
         (omega arith)
         (omega arith)
-        (λ k h. ap (λ x. leb x a) (same_start k (omega arith)) ∙ start-most k a (omega arith) l)
+        (λ k h. ap (λ x. leb x a) (same-start k (omega arith)) ∙ start-most k a (omega arith) l)
 
     pub finds-column : columnSince s (get_or index (lfsBefore s a) 0) a ≡ columnAt s a
     finds-column =
@@ -128,4 +128,4 @@ module _ (s : List ℕ) where
         let h = leb-true i a (start-most n a b l ∙ le-leb n n (omega arith)) in
         let m = leb-true n (lfsBefore s i) (sym (start-most n i b (omega arith)) ∙ le-leb i i (omega arith)) in
         let r = lfs-rest i a h in
-        ap (λ x. columnSince s x a) (same_start n b) ∙ sym (column-since s i a h l (first-column n b) (omega arith))
+        ap (λ x. columnSince s x a) (same-start n b) ∙ sym (column-since s i a h l (first-column n b) (omega arith))

@@ -10,7 +10,7 @@ use lib.Dec.{eqb, ltb}
 use native.Mathlib.Numerals.{add-one}
 use native.Mathlib.Omega.{arith}
 use borrow.Author.Tests.{eqb-true, eqb-false, ltb-true, ltb-false}
-use Rattle.words.specs.Words.{block_of, Told, told, numberTold}
+use Rattle.words.specs.Words.{blockOf, Told, told, numberTold}
 use Rattle.chars.specs.computed.Valid.{validPrefix}
 use Rattle.chars.proofs.Bools.{clash}
 use Rattle.chars.proofs.theorems.Promises.{valid-laws}
@@ -19,17 +19,17 @@ use Rattle.entry.specs.paper.Host.{Seen, seen, numberSeen, bufferSeen}
 use Rattle.entry.specs.paper.TokenText.{hasText}
 use Rattle.lines.specs.paper.Lines.{Starts, Position, GoodPlace}
 use Rattle.lines.specs.paper.Host.{Taken, Builds, Answers}
-use Rattle.lines.specs.computed.Lines.{startsOf, lineCount, line_at, columnAt, searchOf, columnSince}
+use Rattle.lines.specs.computed.Lines.{startsOf, lineCount, lineAt, columnAt, searchOf, columnSince}
 use Rattle.lines.specs.computed.Host.{checkedOf, indexSeen, positionTold}
 use Rattle.lines.specs.declared.host.Checked.{Checked}
 use Rattle.lines.specs.declared.host.Checked.TheVariants as checked
 use Rattle.lines.proofs.index.Laws.{lines-length, some_line}
 use Rattle.lines.proofs.find.Laws.{column-between, search-within}
-use Rattle.lines.proofs.host.Laws.{CheckedAs, long, invalid, good, checked-as, checked-long, checked-invalid, checked-good, good-place, place-good, index-none, index-refused, index_short, index-built, position-none, position-refused, position-off, position-short, position-found}
+use Rattle.lines.proofs.host.Laws.{CheckedAs, long, invalid, good, checked-as, checked-long, checked-invalid, checked-good, good-place, place-good, index-none, index-refused, index-short, index-built, position-none, position-refused, position-off, position-short, position-found}
 use Rattle.lines.proofs.theorems.Starts.{starts-are}
-use Rattle.lines.proofs.theorems.Counting.{counted_is}
+use Rattle.lines.proofs.theorems.Counting.{counted-is}
 use Rattle.lines.proofs.theorems.Finding.{finds-line, finds-column}
-open valid-laws use {valid, longest-one, valid-all, all_valid}
+open valid-laws use {valid, longest-one, valid-all, all-valid}
 
 module _ (s : List ℕ) where
   -- the script's own starts are declared
@@ -39,7 +39,7 @@ module _ (s : List ℕ) where
   -- ---- 17, 18, the number of lines
 
   taken : (block : List ℕ) → length block ≡ 16 → length s ≤ mostBytes → length s ≤ validPrefix s → Taken s block
-  taken block e l x = record { sixteen = e; in-limit = l; utf8 = all_valid s x }
+  taken block e l x = record { sixteen = e; in-limit = l; utf8 = all-valid s x }
 
   taken-lines : {block : List ℕ} → Taken s block → checked.Lines (lineCount s) ≡ checkedOf s
   taken-lines t = let v = valid-all s t.utf8 in checked-good s t.in-limit (validPrefix s) refl (omega arith)
@@ -53,7 +53,7 @@ module _ (s : List ℕ) where
     builds-only (Builds.eighteen {n} e l v x) = sym (index-refused s index block e 18 n _ (checked-invalid s l n (longest-one v (valid s)) x) refl)
     builds-only (Builds.twentySix {l} t st x) =
         let e = sym (ap length ((starts-are s l).1 st)) ∙ lines-length s in
-        rw e (sym (index_short s index block t.sixteen (lineCount s) _ (taken-lines t) (omega arith) refl))
+        rw e (sym (index-short s index block t.sixteen (lineCount s) _ (taken-lines t) (omega arith) refl))
     builds-only (Builds.built {l} t st x) =
         let q = (starts-are s l).1 st in
         let e = sym (ap length q) ∙ lines-length s in
@@ -73,11 +73,11 @@ module _ (s : List ℕ) where
         go : (b : Bool) → ltb (length index) (lineCount s) ≡ b → Builds s index block (indexSeen s index block)
         go true w =
             let h = ltb-true (length index) (lineCount s) w in
-            let y : Builds s index block (seen 26 index (block_of 26 0 (length (startsOf s)) 0)) = Builds.twentySix t own-starts (omega (arith, n)) in
-            rw (← index_short s index block e (lineCount s) _ q h refl) (rw n at y)
+            let y : Builds s index block (seen 26 index (blockOf 26 0 (length (startsOf s)) 0)) = Builds.twentySix t own-starts (omega (arith, n)) in
+            rw (← index-short s index block e (lineCount s) _ q h refl) (rw n at y)
         go false w =
             let h = ltb-false (length index) (lineCount s) w in
-            let y : Builds s index block (seen 0 (startsOf s ++ drop (length (startsOf s)) index) (block_of 0 0 (length (startsOf s)) 0)) =
+            let y : Builds s index block (seen 0 (startsOf s ++ drop (length (startsOf s)) index) (blockOf 0 0 (length (startsOf s)) 0)) =
             Builds.built t own-starts (omega (arith, n))
             in
             rw (← index-built s index block e (lineCount s) _ q _ h refl refl) (rw n at y)
@@ -122,21 +122,21 @@ module _ (s : List ℕ) where
     -- over the starts it is line and column by counting
     counted : Taken s block → GoodPlace s a → take (lineCount s) index ≡ startsOf s
         → Position s a (suc (searchOf index (lineCount s) a)) (columnSince s (get_or index (searchOf index (lineCount s) a) 0) a)
-    unfolding line_at
+    unfolding lineAt
     counted t g is =
         let e = finds-line s index a is g.within in
-        rw (e, finds-column s index a is g.within) ((counted_is s t.utf8 a (line_at s a) (columnAt s a) g).0 (refl, refl))
+        rw (e, finds-column s index a is g.within) ((counted-is s t.utf8 a (lineAt s a) (columnAt s a) g).0 (refl, refl))
 
     found-told : Taken s block → GoodPlace s a → lineCount s ≤ length index
-        → told 0 (block_of 0 0 (suc (searchOf index (lineCount s) a)) (columnSince s (get_or index (searchOf index (lineCount s) a) 0) a)) ≡ positionTold s index a block
+        → told 0 (blockOf 0 0 (suc (searchOf index (lineCount s) a)) (columnSince s (get_or index (searchOf index (lineCount s) a) 0) a)) ≡ positionTold s index a block
     found-told t g h =
         position-found s index a block t.sixteen (lineCount s) _ (taken-lines t) (place-good s a g) _ _ h refl refl
-        (ap (λ k. block_of 0 0 k (columnSince s (get_or index (searchOf index (lineCount s) a) 0) a)) (sym (add-one _)))
+        (ap (λ k. blockOf 0 0 k (columnSince s (get_or index (searchOf index (lineCount s) a) 0) a)) (sym (add-one _)))
 
-    answers_by : {x : Checked} → CheckedAs s x → x ≡ checkedOf s → length block ≡ 16 → Answers s index a block (positionTold s index a block)
-    answers_by (long l) q e = rw (← position-refused s index a block e 17 0 _ q refl) (Answers.seventeen e l)
-    answers_by (invalid l x) q e = rw (← position-refused s index a block e 18 (validPrefix s) _ q refl) (Answers.eighteen e l (valid s) x)
-    answers_by (good l x) q e = go (hasText s a a) refl (ltb (length index) (lineCount s)) refl
+    answers-by : {x : Checked} → CheckedAs s x → x ≡ checkedOf s → length block ≡ 16 → Answers s index a block (positionTold s index a block)
+    answers-by (long l) q e = rw (← position-refused s index a block e 17 0 _ q refl) (Answers.seventeen e l)
+    answers-by (invalid l x) q e = rw (← position-refused s index a block e 18 (validPrefix s) _ q refl) (Answers.eighteen e l (valid s) x)
+    answers-by (good l x) q e = go (hasText s a a) refl (ltb (length index) (lineCount s)) refl
       where
         t : Taken s block
         t = taken block e l x
@@ -169,7 +169,7 @@ module _ (s : List ℕ) where
     answers-are = go (eqb (length block) 16) refl
       where
         go : (b : Bool) → eqb (length block) 16 ≡ b → Answers s index a block (positionTold s index a block)
-        go true e = answers_by (checked-as s) refl (eqb-true (length block) 16 e)
+        go true e = answers-by (checked-as s) refl (eqb-true (length block) 16 e)
         go false e = let n = eqb-false (length block) 16 e in rw (← position-none s index a block n) (Answers.twenty n)
 
     -- ---- nothing else is told: no other refusal, and over the starts no other line and column
@@ -185,10 +185,10 @@ module _ (s : List ℕ) where
               absurd (omega arith)
           go false w = ltb-false (length index) (lineCount s) w
 
-      pub counted-told : Taken s block → (l c : ℕ) → GoodPlace s a → Position s a l c → positionTold s index a block ≡ told 0 (block_of 0 0 l c)
-      unfolding line_at
+      pub counted-told : Taken s block → (l c : ℕ) → GoodPlace s a → Position s a l c → positionTold s index a block ≡ told 0 (blockOf 0 0 l c)
+      unfolding lineAt
       counted-told t l c g p =
-          let k = (counted_is s t.utf8 a l c g).1 p in
+          let k = (counted-is s t.utf8 a l c g).1 p in
           let e = finds-line s index a is g.within in
           sym (found-told t g enough) ∙ rw (e, finds-column s index a is g.within, k.0, k.1)
 

@@ -4,8 +4,8 @@ use mathlib.Core.List.{List}
 use Rattle.lines.specs.Theorems.{LineTheorems}
 use Rattle.lines.proofs.index.Laws.{lines-length}
 use Rattle.lines.proofs.theorems.Starts.{starts-are}
-use Rattle.lines.proofs.theorems.Begins.{line-starts, last_line}
-use Rattle.lines.proofs.theorems.Counting.{counted_is, only-good}
+use Rattle.lines.proofs.theorems.Begins.{line-starts, last-line}
+use Rattle.lines.proofs.theorems.Counting.{counted-is, only-good}
 use Rattle.lines.proofs.theorems.Hosts.{builds-are, index-unchanged, index-built-first, answers-are, answers-only, counted-told}
 use Rattle.lines.proofs.theorems.Examples.{line-examples}
 
@@ -13,13 +13,13 @@ pub line_theorems : (script : List ℕ) → LineTheorems script
 line_theorems script = record {
   starts = starts-are script;
   line-starts = line-starts script;
-  last_line = last_line script;
-  counted = counted_is script;
+  last-line = last-line script;
+  counted = counted-is script;
   only-good = only-good script;
   builds = builds-are script;
   unchanged = index-unchanged script;
   answers = answers-are script;
-  answers_one = λ index a block x is h. answers-only script index a block (λ z. rw lines-length at (is z)) h;
+  answers-one = λ index a block x is h. answers-only script index a block (λ z. rw lines-length at (is z)) h;
   over-built = λ index block z a l c p other e.
       let b = index-built-first script index block z in
       let t = b.1 in

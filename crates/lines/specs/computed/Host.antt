@@ -1,6 +1,6 @@
 -- What the host sees of building and of a query, computed.
 use Rattle.std.specs.Prelude.{ℕ, suc, cond, List, ◌++◌, length, drop, get_or, eqb, ltb}
-use Rattle.words.specs.Words.{block_of, Told, told}
+use Rattle.words.specs.Words.{blockOf, Told, told}
 use Rattle.chars.specs.computed.Valid.{validPrefix}
 use Rattle.token.specs.paper.Records.{mostBytes}
 use Rattle.entry.specs.paper.Host.{Seen, seen}
@@ -19,10 +19,10 @@ checkedOf script =
 -- ---- building
 
 unfoldable pub builtBy : Checked → List ℕ → List ℕ → Seen
-builtBy (checked.Refused j a) script index = seen j index (block_of j a 0 0)
+builtBy (checked.Refused j a) script index = seen j index (blockOf j a 0 0)
 builtBy (checked.Lines n) script index =
-    let built = seen 0 (startsOf script ++ drop n index) (block_of 0 0 n 0) in
-    cond (ltb (length index) n) (seen 26 index (block_of 26 0 n 0)) built
+    let built = seen 0 (startsOf script ++ drop n index) (blockOf 0 0 n 0) in
+    cond (ltb (length index) n) (seen 26 index (blockOf 26 0 n 0)) built
 
 unfoldable pub indexSeen : List ℕ → List ℕ → List ℕ → Seen
 indexSeen script index block = cond (eqb (length block) 16) (builtBy (checkedOf script) script index) (seen 20 index block)
@@ -33,13 +33,13 @@ indexSeen script index block = cond (eqb (length block) 16) (builtBy (checkedOf 
 unfoldable pub foundIn : ℕ → List ℕ → List ℕ → ℕ → Told
 foundIn n script index a =
     let k = searchOf index n a in
-    told 0 (block_of 0 0 (suc k) (columnSince script (get_or index k 0) a))
+    told 0 (blockOf 0 0 (suc k) (columnSince script (get_or index k 0) a))
 
 unfoldable pub answeredBy : Checked → List ℕ → List ℕ → ℕ → Told
-answeredBy (checked.Refused j p) script index a = told j (block_of j p 0 0)
+answeredBy (checked.Refused j p) script index a = told j (blockOf j p 0 0)
 answeredBy (checked.Lines n) script index a =
-    let found = cond (ltb (length index) n) (told 26 (block_of 26 0 0 0)) (foundIn n script index a) in
-    cond (hasText script a a) found (told 25 (block_of 25 0 0 0))
+    let found = cond (ltb (length index) n) (told 26 (blockOf 26 0 0 0)) (foundIn n script index a) in
+    cond (hasText script a a) found (told 25 (blockOf 25 0 0 0))
 
 unfoldable pub positionTold : List ℕ → List ℕ → ℕ → List ℕ → Told
 positionTold script index a block = cond (eqb (length block) 16) (answeredBy (checkedOf script) script index a) (told 20 block)

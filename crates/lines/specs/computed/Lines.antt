@@ -40,8 +40,8 @@ unfoldable pub columnFrom : ℕ → List ℕ → ℕ
 columnFrom c [] = c
 columnFrom c (b ∷ s) = columnFrom (cond (eqb b 0x0A) 1 (cond (between 0x80 0xBF b) c (suc c))) s
 
-unfoldable pub line_at : List ℕ → ℕ → ℕ
-line_at script a = suc (lfsBefore script a)
+unfoldable pub lineAt : List ℕ → ℕ → ℕ
+lineAt script a = suc (lfsBefore script a)
 
 unfoldable pub columnAt : List ℕ → ℕ → ℕ
 columnAt script a = columnFrom 1 (take a script)

@@ -11,12 +11,12 @@ use lib.Dec.{eqb}
 use denote.Laws.{Is}
 use denote.Enum.Declared.{row}
 use denote.Enum.Laws.{owed, vals}
-use Rattle.words.specs.Words.{le2, le4, le8, block_of, Told, told}
+use Rattle.words.specs.Words.{le2, le4, le8, blockOf, Told, told}
 use Rattle.words.proofs.Stores.{after, whole, length-block}
 use Rattle.words.proofs.Joins.{eights}
 use Rattle.token.specs.paper.Kinds.{Token, kindNumber}
-use Rattle.token.specs.paper.Records.{bit, values_of, values, recordLength, fields_of, head_of, recordOf}
-use Rattle.token.specs.code.Form.{joined, form_of, byForm}
+use Rattle.token.specs.paper.Records.{bit, valuesOf, values, recordLength, fieldsOf, headOf, recordOf}
+use Rattle.token.specs.code.Form.{joined, formOf, byForm}
 use Rattle.token.specs.declared.kinds.TokenKind.{TokenKind}
 use Rattle.token.specs.declared.kinds.TokenKind.TheVariants as tk
 use Rattle.token.proofs.form.Laws.{form-record}
@@ -37,10 +37,10 @@ use Rattle.rolls.proofs.theorems.Kinds.{Carries, int, long, content, mark, nothi
 
 -- two blocks of 16 bytes and a number of eight cover 40 bytes
 put-forty : (l : List ℕ) (a b c d e f g h x : ℕ) → length l ≡ 40
-    → sets (sets (sets l 0 (block_of a b c d)) 16 (block_of e f g h)) 32 (le8 x) ≡ block_of a b c d ++ (block_of e f g h ++ le8 x)
+    → sets (sets (sets l 0 (blockOf a b c d)) 16 (blockOf e f g h)) 32 (le8 x) ≡ blockOf a b c d ++ (blockOf e f g h ++ le8 x)
 put-forty l a b c d e f g h x k =
-    let first = block_of a b c d in
-    let second = block_of e f g h in
+    let first = blockOf a b c d in
+    let second = blockOf e f g h in
     let n1 = length-block a b c d in
     let n2 = length-block e f g h in
     let n3 = eights.size x in
@@ -64,8 +64,8 @@ eight-bit true = refl
 eight-bit false = refl
 
 -- the values as one number are the values as the record has them, with zeros behind them
-eight-values : {k : TokenKind} → Carries k → Handed k → le8 (joined (values_of k)) ≡ take 8 (values k ++ replicate 8 0)
-unfolding values le8 le4 le2 recordLength byForm form_of recordOf head_of fields_of
+eight-values : {k : TokenKind} → Carries k → Handed k → le8 (joined (valuesOf k)) ≡ take 8 (values k ++ replicate 8 0)
+unfolding values le8 le4 le2 recordLength byForm formOf recordOf headOf fieldsOf
 eight-values (int v) h =
     let f = int-fits v h in
     let low : v % 4294967296 ≡ v = omega arith in
@@ -79,36 +79,36 @@ eight-values (nothing k n l b) h = rw n
 -- ---- the block of a record
 
 token-parts : (t : Token) (next : ℕ)
-    → block_of 0 0 (kindNumber t.kind) t.start ++ (block_of t.end (bit t.cut) 0 next ++ take 8 (values t.kind ++ replicate 8 0)) ≡ tokenBlock t next
-unfolding block_of tokenBlock le4
+    → blockOf 0 0 (kindNumber t.kind) t.start ++ (blockOf t.end (bit t.cut) 0 next ++ take 8 (values t.kind ++ replicate 8 0)) ≡ tokenBlock t next
+unfolding blockOf tokenBlock le4
 token-parts t next = refl
 
-stop-parts : (j a : ℕ) → block_of j a 0 0 ++ (block_of 0 0 0 0 ++ le8 0) ≡ stopBlock j a
-unfolding block_of stopBlock le4 le8
+stop-parts : (j a : ℕ) → blockOf j a 0 0 ++ (blockOf 0 0 0 0 ++ le8 0) ≡ stopBlock j a
+unfolding blockOf stopBlock le4 le8
 stop-parts j a = refl
 
 pub put_stop_block : (l : List ℕ) (j a : ℕ) → length l ≡ 40
-    → sets (sets (sets l 0 (block_of j a 0 0)) 16 (block_of 0 0 0 0)) 32 (le8 0) ≡ stopBlock j a
+    → sets (sets (sets l 0 (blockOf j a 0 0)) 16 (blockOf 0 0 0 0)) 32 (le8 0) ≡ stopBlock j a
 put_stop_block l j a k = put-forty l j a 0 0 0 0 0 0 0 k ∙ stop-parts j a
 
 pub put_token_block : (l : List ℕ) (k : TokenKind) (start end : ℕ) (cut : Bool) (next : ℕ) → Handed k → length l ≡ 40
-    → sets (sets (sets l 0 (block_of 0 0 (form_of k).number start)) 16 (block_of end (bit cut) 0 next)) 32 (le8 (form_of k).values)
+    → sets (sets (sets l 0 (blockOf 0 0 (formOf k).number start)) 16 (blockOf end (bit cut) 0 next)) 32 (le8 (formOf k).values)
     ≡ tokenBlock (record { kind = k; start = start; end = end; cut = cut }) next
-unfolding form_of
+unfolding formOf
 put_token_block l k start end cut next h size =
-    put-forty l 0 0 (kindNumber k) start end (bit cut) 0 next (joined (values_of k)) size
-    ∙ ap (λ v. block_of 0 0 (kindNumber k) start ++ (block_of end (bit cut) 0 next ++ v)) (eight-values (carries k) h)
+    put-forty l 0 0 (kindNumber k) start end (bit cut) 0 next (joined (valuesOf k)) size
+    ∙ ap (λ v. blockOf 0 0 (kindNumber k) start ++ (blockOf end (bit cut) 0 next ++ v)) (eight-values (carries k) h)
     ∙ token-parts (record { kind = k; start = start; end = end; cut = cut }) next
 
 -- ---- what is told, by what the code hands on
 
 abbrev pub countedTold : ℕ → Counted → Told
-countedTold bytes (counted.Tokens n) = told 0 (block_of 0 0 n bytes)
-countedTold bytes (counted.Refused j a) = told j (block_of j a 0 0)
+countedTold bytes (counted.Tokens n) = told 0 (blockOf 0 0 n bytes)
+countedTold bytes (counted.Refused j a) = told j (blockOf j a 0 0)
 
 outcome-told : (bytes : ℕ) (x : Outcome) → outcomeTold bytes x ≡ countedTold bytes (countedOf 0 x)
 unfolding countedOf
-outcome-told bytes (tokens ts) = ap (λ n. told 0 (block_of 0 0 n bytes)) (sym (zero-add (length ts)))
+outcome-told bytes (tokens ts) = ap (λ n. told 0 (blockOf 0 0 n bytes)) (sym (zero-add (length ts)))
 outcome-told bytes (refused j a) = refl
 
 pub told-roll : (roll block : List ℕ)

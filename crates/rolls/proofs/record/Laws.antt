@@ -8,7 +8,7 @@ use lib.Seq.{take_all}
 use native.Mathlib.Nat.{le_of_eq}
 use native.Mathlib.Omega.{arith}
 use borrow.Author.Tests.{le-leb, lt-leb, lt-ltb, le-ltb}
-use Rattle.token.specs.code.Form.{held_at, RecordForm}
+use Rattle.token.specs.code.Form.{heldAt, RecordForm}
 use Rattle.token.specs.declared.form.Held.{Held}
 use Rattle.rolls.specs.paper.Roll.{Stepped, yielded, stopped}
 use Rattle.rolls.specs.computed.Roll.{lengthFor, isKind, isWrong, tokenOf, stepHeld, readAt, eofFollowed}
@@ -17,17 +17,17 @@ use Rattle.rolls.specs.declared.record.Yield.{Yield}
 use Rattle.rolls.specs.declared.record.Yield.TheVariants as yield
 
 -- no kind's number is past the keywords'
-pub none_above : (n : ℕ) → 45 < n → 0 ≡ lengthFor n
+pub none-above : (n : ℕ) → 45 < n → 0 ≡ lengthFor n
 unfolding lengthFor
-none_above n a = grind arith
+none-above n a = grind arith
 
 -- ---- one step, branch by branch
 
 -- what is read at the start of the bytes that are left is the record at the place
-pub held_left : RecordForm → (roll : List ℕ) (at : ℕ) → held_at (take (length roll - at) (drop at roll)) 0 ≡ held_at roll at
+pub held_left : RecordForm → (roll : List ℕ) (at : ℕ) → heldAt (take (length roll - at) (drop at roll)) 0 ≡ heldAt roll at
 held_left form roll at =
     let all : take (length roll - at) (drop at roll) ≡ drop at roll = take_all (length roll - at) (drop at roll) (le_of_eq (length-drop at roll)) in
-    ap (λ l. held_at l 0) all ∙ sym (form.held_on roll at)
+    ap (λ l. heldAt l 0) all ∙ sym (form.held-on roll at)
 
 module _ (h : Held) (at left previous : ℕ) where
   -- a rule is broken
@@ -37,9 +37,9 @@ module _ (h : Held) (at left previous : ℕ) where
 
   module _ (w : isWrong h previous ≡ false) where
     -- bytes after Eof
-    pub held_more : eofFollowed h left ≡ true → stepHeld h at left previous ≡ stopped 24 (at + h.length)
+    pub held-more : eofFollowed h left ≡ true → stepHeld h at left previous ≡ stopped 24 (at + h.length)
     unfolding stepHeld
-    held_more m = simp (w, m)
+    held-more m = simp (w, m)
 
     pub held-token : eofFollowed h left ≡ false → stepHeld h at left previous ≡ yielded (tokenOf h) (at + h.length)
     unfolding stepHeld
@@ -47,11 +47,11 @@ module _ (h : Held) (at left previous : ℕ) where
 
 module _ (roll : List ℕ) (at previous : ℕ) where
   -- no bytes are left
-  pub step_end : length roll ≤ at → readAt roll at previous ≡ stopped 24 (length roll)
+  pub step-end : length roll ≤ at → readAt roll at previous ≡ stopped 24 (length roll)
   unfolding readAt
-  step_end i = simp (le-leb (length roll) at i)
+  step-end i = simp (le-leb (length roll) at i)
 
-  module _ (h : Held) (e : h ≡ held_at roll at) (i : at < length roll) where
+  module _ (h : Held) (e : h ≡ heldAt roll at) (i : at < length roll) where
     -- fewer than four
     pub step-few : length roll - at < 4 → readAt roll at previous ≡ stopped 22 at
     unfolding readAt

@@ -20,7 +20,7 @@ use Rattle.rolls.specs.declared.roll.Counted.TheVariants as counted
 use Rattle.rolls.proofs.record.Laws.{stepOf, step_of}
 use Rattle.rolls.proofs.theorems.Eofs.{is-eof, not-eof}
 use Rattle.rolls.proofs.theorems.Steps.{steps}
-use Rattle.rolls.proofs.theorems.Reading.{onward, from-only, from_is}
+use Rattle.rolls.proofs.theorems.Reading.{onward, from-only, from-is}
 
 -- ---- how many tokens
 
@@ -49,7 +49,7 @@ module _ (roll : List ℕ) (b : Bytes roll) (at previous n : ℕ) where
       go : (q : Bool) → isEof t.kind ≡ q → countedOf n (readFrom roll at previous) ≡ turned n roll (yieldOf (yielded t next))
       go true q = rw (q, from-only roll b (Reads.last s (is-eof t.kind q))) refl
       go false q =
-          rw q (ap (countedOf n) (from-only roll b (Reads.more s (not-eof t.kind q) (from_is roll b next t.end))) ∙ total-more n t _)
+          rw q (ap (countedOf n) (from-only roll b (Reads.more s (not-eof t.kind q) (from-is roll b next t.end))) ∙ total-more n t _)
 
   pub turn : countedOf n (readFrom roll at previous) ≡ turned n roll (yieldOf (readAt roll at previous))
   unfolding countedOf yieldOf
@@ -60,8 +60,8 @@ module _ (roll : List ℕ) (b : Bytes roll) (at previous n : ℕ) where
       go (stopped j a) e = rw e (ap (countedOf n) (from-only roll b (Reads.refuses ((steps roll b at previous _).0 e))))
 
 -- a token that is yielded moves on, and stays inside
-pub turn_on : (roll : List ℕ) → Bytes roll → (at previous : ℕ) (k : TokenKind) (start end : ℕ) (cut : Bool) (next : RollCursor)
+pub turn-on : (roll : List ℕ) → Bytes roll → (at previous : ℕ) (k : TokenKind) (start end : ℕ) (cut : Bool) (next : RollCursor)
     → yield.Token k start end cut next ≡ yieldOf (readAt roll at previous) → (at < next.at) × (next.at ≤ length roll)
-turn_on roll b at previous k start end cut next e =
+turn-on roll b at previous k start end cut next e =
     let o = onward roll b at previous next.at _ (sym (step_of _) ∙ ap stepOf (sym e)) in
     (o.0, o.1)

@@ -9,35 +9,35 @@ use Rattle.words.specs.Joins.{Bytes}
 use Rattle.words.proofs.Joins.{drop-bytes}
 use Rattle.token.specs.paper.Kinds.{Token}
 use Rattle.token.specs.paper.Records.{recordLength, recordOf, records}
-use Rattle.token.specs.code.Form.{Whole, form_of, held_at, storedOf}
+use Rattle.token.specs.code.Form.{Whole, formOf, heldAt, storedOf}
 use Rattle.token.specs.declared.kinds.TokenKind.TheVariants as tk
 use Rattle.token.proofs.form.Laws.{form-known, form-record}
 use Rattle.token.proofs.form.ReadBack.{record-form}
-use Rattle.rolls.specs.paper.Roll.{length_at, Sound, yielded, Steps, Outcome, tokens, refused, prepend, Reads}
+use Rattle.rolls.specs.paper.Roll.{lengthAt, Sound, yielded, Steps, Outcome, tokens, refused, prepend, Reads}
 use Rattle.rolls.specs.computed.Roll.{readRoll}
 use Rattle.rolls.proofs.theorems.Kinds.{bit-one, bit-most}
-use Rattle.rolls.proofs.theorems.Values.{held_of, held-is, length-is}
+use Rattle.rolls.proofs.theorems.Values.{heldOf, held-is, length-is}
 use Rattle.rolls.proofs.theorems.Reading.{reads}
-open record-form use {held_on, stored-again}
+open record-form use {held-on, stored-again}
 
 -- what stands in a token's record is stored as the token's record
-stored_of : (t : Token) → storedOf (held_of t) ≡ recordOf t
-unfolding form_of
-stored_of t = rw (bit-one t.cut) (form-record t)
+stored-of : (t : Token) → storedOf (heldOf t) ≡ recordOf t
+unfolding formOf
+stored-of t = rw (bit-one t.cut) (form-record t)
 
 module _ (roll : List ℕ) (b : Bytes roll) (at previous : ℕ) (t : Token) (s : Sound roll at previous t) where
   -- what stands there is what the token's record has
-  held-here : held_at (drop at roll) 0 ≡ held_of t
-  held-here = sym (held_on roll at) ∙ held-is roll b at s.known t s.token
+  held-here : heldAt (drop at roll) 0 ≡ heldOf t
+  held-here = sym (held-on roll at) ∙ held-is roll b at s.known t s.token
 
   -- and the record is as long as the token's
-  size : length_at roll at ≡ recordLength t.kind
+  size : lengthAt roll at ≡ recordLength t.kind
   size = length-is roll b at s.known t s.token
 
   -- a whole record stands there
-  whole_here : Whole (drop at roll)
-  unfolding form_of
-  whole_here =
+  whole-here : Whole (drop at roll)
+  unfolding formOf
+  whole-here =
       let r = s.room in
       let n = size in
       record {
@@ -48,15 +48,15 @@ module _ (roll : List ℕ) (b : Bytes roll) (at previous : ℕ) (t : Token) (s :
       }
 
   -- the record of a sound token is the bytes that it was read from
-  sound-again : recordOf t ≡ take (length_at roll at) (drop at roll)
+  sound-again : recordOf t ≡ take (lengthAt roll at) (drop at roll)
   sound-again =
-      sym (stored_of t) ∙ ap storedOf (sym held-here) ∙ stored-again (drop at roll) whole_here
+      sym (stored-of t) ∙ ap storedOf (sym held-here) ∙ stored-again (drop at roll) whole-here
       ∙ ap (λ n. take n (drop at roll)) (ap (λ h. h.length) held-here ∙ sym size)
 
   -- and what follows them stands behind them
-  and-rest : (rest : List ℕ) → rest ≡ drop (at + length_at roll at) roll → recordOf t ++ rest ≡ drop at roll
+  and-rest : (rest : List ℕ) → rest ≡ drop (at + lengthAt roll at) roll → recordOf t ++ rest ≡ drop at roll
   and-rest rest e =
-      rw (sound-again, e, ← (drop-drop (length_at roll at) at roll)) (take-append-drop (length_at roll at) (drop at roll))
+      rw (sound-again, e, ← (drop-drop (lengthAt roll at) at roll)) (take-append-drop (lengthAt roll at) (drop at roll))
 
 -- ---- the roll
 

@@ -11,14 +11,14 @@ use Rattle.chars.specs.promises.Codes.{every, span}
 use Rattle.chars.proofs.theorems.Promises.{code_laws}
 use Rattle.words.specs.Words.{le4, le8}
 use Rattle.token.specs.paper.Kinds.{kindNumber}
-use Rattle.token.specs.paper.Records.{bit, Value, one, four, eight, values_of, values, headLength, recordLength}
+use Rattle.token.specs.paper.Records.{bit, Value, one, four, eight, valuesOf, values, headLength, recordLength}
 use Rattle.token.specs.code.Form.{joined}
 use Rattle.token.specs.declared.kinds.Kw.TheVariants as kw
 use Rattle.token.specs.declared.kinds.TokenKind.{TokenKind}
 use Rattle.token.specs.declared.kinds.TokenKind.TheVariants as tk
 use Rattle.rolls.specs.paper.Roll.{KindLength, of-kind}
 use Rattle.rolls.specs.computed.Roll.{lengthFor, isKind, keywordFor, kindFor}
-use Rattle.rolls.proofs.record.Laws.{none_above}
+use Rattle.rolls.proofs.record.Laws.{none-above}
 open code_laws use {carry-span}
 
 -- ---- what a kind carries
@@ -29,7 +29,7 @@ pub data Carries : TokenKind → Type 0 where
   long : (v : ℕ) → Carries (tk.LongLit v)
   content : (a e : ℕ) → Carries (tk.Str a e)
   mark : (b : Bool) → Carries (tk.Newline b)
-  nothing : (k : TokenKind) → values_of k ≡ [] → lengthFor (kindNumber k) ≡ headLength → ((v : ℕ) → kindFor (kindNumber k) v ≡ k)
+  nothing : (k : TokenKind) → valuesOf k ≡ [] → lengthFor (kindNumber k) ≡ headLength → ((v : ℕ) → kindFor (kindNumber k) v ≡ k)
       → Carries k
 
 -- The other laws of kinds go by these five. This is the one that lists the kinds.
@@ -71,7 +71,7 @@ carries (tk.Kw kw.At) = nothing (tk.Kw kw.At) refl refl (λ v. refl)
 -- ---- lengths
 
 -- without values a record is its first 13 bytes
-pub bare-length : (k : TokenKind) → values_of k ≡ [] → recordLength k ≡ headLength
+pub bare-length : (k : TokenKind) → valuesOf k ≡ [] → recordLength k ≡ headLength
 unfolding recordLength values
 bare-length k n = rw n
 
@@ -103,9 +103,9 @@ abbrev hasKind : ℕ → Bool
 hasKind n = eqb (lengthFor n) 0 || eqb (kindNumber (kindFor n 0)) n && eqb (recordLength (kindFor n 0)) (lengthFor n)
 
 -- each below 46 is so
-all_kinds : every hasKind (span 0 46) ≡ true
+all-kinds : every hasKind (span 0 46) ≡ true
 unfolding lengthFor kindFor keywordFor recordLength values le4 le8
-all_kinds = refl
+all-kinds = refl
 
 -- a number with a length is a kind's, and the length is that kind's
 length-kind : (n : ℕ) → (lengthFor n ≡ 0 → ⊥) → KindLength n (lengthFor n)
@@ -119,8 +119,8 @@ length-kind n h = below (leb 46 n) refl
         rw (eqb-true (kindNumber (kindFor n 0)) n p.0, eqb-true (recordLength (kindFor n 0)) (lengthFor n) p.1) at (of-kind (kindFor n 0))
 
     below : (b : Bool) → leb 46 n ≡ b → KindLength n (lengthFor n)
-    below true e = absurd (h (sym (none_above n (leb-true 46 n e))))
-    below false e = named (eqb (lengthFor n) 0) refl (carry-span hasKind 0 46 n all_kinds (omega arith) (leb-false 46 n e))
+    below true e = absurd (h (sym (none-above n (leb-true 46 n e))))
+    below false e = named (eqb (lengthFor n) 0) refl (carry-span hasKind 0 46 n all-kinds (omega arith) (leb-false 46 n e))
 
 -- a kind with its length passes the test
 pub is-kind : {n size : ℕ} → KindLength n size → isKind n size ≡ true
@@ -156,17 +156,17 @@ bit-one true = refl
 bit-one false = refl
 
 -- the kind of a known number has that number, whatever the values
-number_by : {k : TokenKind} → Carries k → (v : ℕ) → kindNumber (kindFor (kindNumber k) v) ≡ kindNumber k
+number-by : {k : TokenKind} → Carries k → (v : ℕ) → kindNumber (kindFor (kindNumber k) v) ≡ kindNumber k
 unfolding kindFor
-number_by (int x) v = refl
-number_by (long x) v = refl
-number_by (content a e) v = refl
-number_by (mark b) v = refl
-number_by (nothing k n l b) v = ap kindNumber (b v)
+number-by (int x) v = refl
+number-by (long x) v = refl
+number-by (content a e) v = refl
+number-by (mark b) v = refl
+number-by (nothing k n l b) v = ap kindNumber (b v)
 
 -- the same of a number that is known
 pub number-for : {n size : ℕ} → KindLength n size → (v : ℕ) → kindNumber (kindFor n v) ≡ n
-number-for (of-kind k) v = number_by (carries k) v
+number-for (of-kind k) v = number-by (carries k) v
 
 -- two numbers of four bytes, taken out of the one of eight that they make
 pub lower : (a e : ℕ) → a < 4294967296 → (a + e * 4294967296) % 4294967296 ≡ a
@@ -180,14 +180,14 @@ str-back : (a e : ℕ) → a < 4294967296 → e < 4294967296 → kindFor 6 (a % 
 unfolding kindFor
 str-back a e h k = rw (mod-eq_of_lt h, mod-eq_of_lt k, lower a e h, upper a e h)
 
-kind-by : {k : TokenKind} → Carries k → Fit (values_of k) → kindFor (kindNumber k) (joined (values_of k)) ≡ k
+kind-by : {k : TokenKind} → Carries k → Fit (valuesOf k) → kindFor (kindNumber k) (joined (valuesOf k)) ≡ k
 unfolding kindFor
 kind-by (int v) h = ap tk.IntLit (mod-eq_of_lt h.0)
 kind-by (long v) h = refl
 kind-by (content a e) h = str-back a e h.0 h.1.0
 kind-by (mark b) h = ap tk.Newline (bit-one b)
-kind-by (nothing k n l b) h = b (joined (values_of k))
+kind-by (nothing k n l b) h = b (joined (valuesOf k))
 
 -- number and values tell the kind, where the values fit
-pub kind-back : (k : TokenKind) → Fit (values_of k) → kindFor (kindNumber k) (joined (values_of k)) ≡ k
+pub kind-back : (k : TokenKind) → Fit (valuesOf k) → kindFor (kindNumber k) (joined (valuesOf k)) ≡ k
 kind-back k h = kind-by (carries k) h

@@ -16,7 +16,7 @@ use Rattle.rolls.specs.paper.Roll.{Stepped, yielded, stopped, Steps, Outcome, to
 use Rattle.rolls.specs.computed.Roll.{readAt, isEof, readIn, readFrom, readRoll}
 use Rattle.rolls.proofs.theorems.Kinds.{length-least}
 use Rattle.rolls.proofs.theorems.Eofs.{is-eof, not-eof, other-kind}
-use Rattle.rolls.proofs.theorems.Steps.{step_is, steps-only, steps}
+use Rattle.rolls.proofs.theorems.Steps.{step-is, steps-only, steps}
 
 -- ---- one more record
 
@@ -33,10 +33,10 @@ module _ (most : ℕ) (roll : List ℕ) (at previous : ℕ) where
   read-last t next e q = rw (e, q, readIn)
 
   -- any other token is followed by what is read behind it
-  pub read_more : (t : Token) (next : ℕ) → readAt roll at previous ≡ yielded t next → isEof t.kind ≡ false
+  pub read-more : (t : Token) (next : ℕ) → readAt roll at previous ≡ yielded t next → isEof t.kind ≡ false
       → readIn (suc most) roll at previous ≡ prepend t (readIn most roll next t.end)
   unfolding readIn
-  read_more t next e q = rw (e, q, readIn)
+  read-more t next e q = rw (e, q, readIn)
 
 -- a record that is yielded has bytes, and they lie within the roll
 pub yields-on : (roll : List ℕ) (at previous next : ℕ) (t : Token) → Steps roll at previous (yielded t next) → (at + headLength ≤ next) × (next ≤ length roll)
@@ -44,7 +44,7 @@ yields-on roll at previous next t (Steps.yields s f) = let k = length-least s.kn
 
 -- and its token's end fits 4 bytes
 yields-end : (roll : List ℕ) → Bytes roll → (at previous next : ℕ) (t : Token) → Steps roll at previous (yielded t next) → t.end < 4294967296
-yields-end roll b at previous next t (Steps.yields s f) = rw s.token.end_is (four-fits roll (at + 8) b)
+yields-end roll b at previous next t (Steps.yields s f) = rw s.token.end-is (four-fits roll (at + 8) b)
 
 pub onward : (roll : List ℕ) → Bytes roll → (at previous next : ℕ) (t : Token) → readAt roll at previous ≡ yielded t next
     → (at < next) × (next ≤ length roll) × (t.end < 4294967296)
@@ -58,63 +58,63 @@ module _ (roll : List ℕ) (b : Bytes roll) where
   -- ---- what is declared is computed, with any bound past the bytes left
 
   -- by the declaration
-  reads_only : {at previous : ℕ} {x : Outcome} → Reads roll at previous x → (most : ℕ) → length roll - at < most → readIn most roll at previous ≡ x
-  reads_only r zero h = absurd (omega arith)
-  reads_only {at} {previous} (Reads.refuses {j = j} {a = a} s) (suc most) h = read-stop most roll at previous j a (steps-only roll b at previous s)
-  reads_only {at} {previous} (Reads.last {next = next} {t = t} s e) (suc most) h =
+  reads-only : {at previous : ℕ} {x : Outcome} → Reads roll at previous x → (most : ℕ) → length roll - at < most → readIn most roll at previous ≡ x
+  reads-only r zero h = absurd (omega arith)
+  reads-only {at} {previous} (Reads.refuses {j = j} {a = a} s) (suc most) h = read-stop most roll at previous j a (steps-only roll b at previous s)
+  reads-only {at} {previous} (Reads.last {next = next} {t = t} s e) (suc most) h =
       read-last most roll at previous t next (steps-only roll b at previous s) (ap isEof e)
-  reads_only {at} {previous} (Reads.more {next = next} {t = t} s e r) (suc most) h =
+  reads-only {at} {previous} (Reads.more {next = next} {t = t} s e r) (suc most) h =
       let o = yields-on roll at previous next t s in
       let l = o.0 in
       let m = o.1 in
-      read_more most roll at previous t next (steps-only roll b at previous s) (other-kind t.kind e)
-      ∙ ap (prepend t) (reads_only r most (omega arith))
+      read-more most roll at previous t next (steps-only roll b at previous s) (other-kind t.kind e)
+      ∙ ap (prepend t) (reads-only r most (omega arith))
 
   -- ---- and it is declared of what is computed
 
   module _ (most at previous : ℕ) where
-    reads_more : (t : Token) (next : ℕ) → readAt roll at previous ≡ yielded t next → Reads roll next t.end (readIn most roll next t.end)
+    reads-more : (t : Token) (next : ℕ) → readAt roll at previous ≡ yielded t next → Reads roll next t.end (readIn most roll next t.end)
         → Reads roll at previous (readIn (suc most) roll at previous)
-    reads_more t next e r = go (isEof t.kind) refl
+    reads-more t next e r = go (isEof t.kind) refl
       where
         s : Steps roll at previous (yielded t next)
-        s = rw e at (step_is roll b at previous)
+        s = rw e at (step-is roll b at previous)
 
         go : (q : Bool) → isEof t.kind ≡ q → Reads roll at previous (readIn (suc most) roll at previous)
         go true q = rw (read-last most roll at previous t next e q) (Reads.last s (is-eof t.kind q))
-        go false q = rw (read_more most roll at previous t next e q) (Reads.more s (not-eof t.kind q) r)
+        go false q = rw (read-more most roll at previous t next e q) (Reads.more s (not-eof t.kind q) r)
 
     reads-stop : (j a : ℕ) → readAt roll at previous ≡ stopped j a → Reads roll at previous (readIn (suc most) roll at previous)
-    reads-stop j a e = rw (read-stop most roll at previous j a e) (Reads.refuses (rw e at (step_is roll b at previous)))
+    reads-stop j a e = rw (read-stop most roll at previous j a e) (Reads.refuses (rw e at (step-is roll b at previous)))
 
   -- by the bound
-  reads_in : (most at previous : ℕ) → length roll - at < most → Reads roll at previous (readIn most roll at previous)
-  reads_in zero at previous h = absurd (omega arith)
-  reads_in (suc most) at previous h = go (readAt roll at previous) refl (reads_in most)
+  reads-in : (most at previous : ℕ) → length roll - at < most → Reads roll at previous (readIn most roll at previous)
+  reads-in zero at previous h = absurd (omega arith)
+  reads-in (suc most) at previous h = go (readAt roll at previous) refl (reads-in most)
     where
       go : (y : Stepped) → readAt roll at previous ≡ y
           → ((next end : ℕ) → length roll - next < most → Reads roll next end (readIn most roll next end))
           → Reads roll at previous (readIn (suc most) roll at previous)
       go (stopped j a) e r = reads-stop most at previous j a e
       go (yielded t next) e r =
-          let o = yields-on roll at previous next t (rw e at (step_is roll b at previous)) in
+          let o = yields-on roll at previous next t (rw e at (step-is roll b at previous)) in
           let l = o.0 in
           let m = o.1 in
-          reads_more most at previous t next e (r next t.end (omega arith))
+          reads-more most at previous t next e (r next t.end (omega arith))
 
   -- ---- from an offset on, with the bound that is computed
 
-  pub from_is : (at previous : ℕ) → Reads roll at previous (readFrom roll at previous)
+  pub from-is : (at previous : ℕ) → Reads roll at previous (readFrom roll at previous)
   unfolding readFrom
-  from_is at previous = reads_in (suc (length roll - at)) at previous (omega arith)
+  from-is at previous = reads-in (suc (length roll - at)) at previous (omega arith)
 
   pub from-only : {at previous : ℕ} {x : Outcome} → Reads roll at previous x → readFrom roll at previous ≡ x
   unfolding readFrom
-  from-only {at} r = reads_only r (suc (length roll - at)) (omega arith)
+  from-only {at} r = reads-only r (suc (length roll - at)) (omega arith)
 
   pub reads : (x : Outcome) → (readRoll roll ≡ x) ↔ Reads roll 0 0 x
   unfolding readRoll
-  reads x = (λ e. rw e at (from_is 0 0), from-only)
+  reads x = (λ e. rw e at (from-is 0 0), from-only)
 
 -- ---- the last token is Eof, and no other is
 

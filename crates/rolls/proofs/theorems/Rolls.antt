@@ -3,7 +3,7 @@ use Prim.Native.Nat.{ℕ}
 use mathlib.Core.List.{List}
 use lib.ListN.{length}
 use Rattle.words.specs.Joins.{Bytes}
-use Rattle.token.proofs.theorems.Bounded.{all-bounded, in_order, last-eof}
+use Rattle.token.proofs.theorems.Bounded.{all-bounded, in-order, last-eof}
 use Rattle.rolls.specs.Theorems.{RollTheorems}
 use Rattle.rolls.proofs.theorems.Examples.{roll-examples}
 use Rattle.rolls.proofs.theorems.Steps.{steps}
@@ -21,7 +21,7 @@ roll-theorems roll b =
       tells-roll = λ block x. tells-roll roll b block x;
       onward = λ at previous next t e. onward roll b at previous next t e;
       by-block = λ at previous next t short e. by-block roll b at previous next t short e;
-      written = λ script ts short h. read-written (length script) ts short (all-bounded script ts h) (in_order script ts h) (last-eof script ts h);
+      written = λ script ts short h. read-written (length script) ts short (all-bounded script ts h) (in-order script ts h) (last-eof script ts h);
       back = λ ts e. back roll b ts e;
       one-eof = λ ts e. one-eof roll b ts e;
       examples = roll-examples;

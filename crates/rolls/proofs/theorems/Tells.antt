@@ -11,7 +11,7 @@ use native.Mathlib.Omega.{arith}
 use borrow.Author.Tests.{eqb-true, eqb-false, eq-eqb, ne_eqb}
 use Rattle.words.specs.Joins.{Bytes}
 use Rattle.words.specs.Words.{le4, twoAt, fourAt, Told, told}
-use Rattle.words.proofs.Joins.{four-le4, two_fits}
+use Rattle.words.proofs.Joins.{four-le4, two-fits}
 use Rattle.token.specs.paper.Kinds.{Token, kindNumber}
 use Rattle.token.specs.paper.Records.{bit, values}
 use Rattle.rolls.specs.paper.Roll.{yielded, Steps}
@@ -43,9 +43,9 @@ module _ (roll : List ℕ) (b : Bytes roll) where
   -- ---- one record
 
   module _ (at previous : ℕ) where
-    record_is : (block : List ℕ) → TellsRecord roll at previous block (recordTold roll at previous block)
+    record-is : (block : List ℕ) → TellsRecord roll at previous block (recordTold roll at previous block)
     unfolding recordTold
-    record_is block = go (eqb (length block) 40) refl
+    record-is block = go (eqb (length block) 40) refl
       where
         go : (q : Bool) → eqb (length block) 40 ≡ q → TellsRecord roll at previous block (cond q (steppedTold (readAt roll at previous)) (told 20 block))
         go true e = TellsRecord.answers (eqb-true (length block) 40 e) ((steps roll b at previous (readAt roll at previous)).0 refl)
@@ -57,13 +57,13 @@ module _ (roll : List ℕ) (b : Bytes roll) where
     record-only {block} (TellsRecord.answers {x} h s) = rw (eq-eqb (length block) 40 h, (steps roll b at previous x).1 s)
 
     pub tells-record : (block : List ℕ) (x : Told) → (recordTold roll at previous block ≡ x) ↔ TellsRecord roll at previous block x
-    tells-record block x = (λ e. rw e at (record_is block), record-only)
+    tells-record block x = (λ e. rw e at (record-is block), record-only)
 
 -- ---- the numbers by which a host steps
 
 -- a kind that is yielded fits 2 bytes
 yields-kind : (roll : List ℕ) → Bytes roll → (at previous next : ℕ) (t : Token) → Steps roll at previous (yielded t next) → kindNumber t.kind < 65536
-yields-kind roll b at previous next t (Steps.yields s f) = rw s.token.kind-is (two_fits roll (at + 2) b)
+yields-kind roll b at previous next t (Steps.yields s f) = rw s.token.kind-is (two-fits roll (at + 2) b)
 
 -- numbers of a block that fit stand there as they are
 block-numbers : (t : Token) (next : ℕ) → kindNumber t.kind < 65536 → t.end < 4294967296 → next < 4294967296

@@ -10,27 +10,27 @@ use native.Mathlib.Omega.{arith}
 use borrow.Author.Tests.{le-ltb}
 use Rattle.token.specs.paper.Kinds.{kindNumber, Token}
 use Rattle.token.specs.paper.Reading.{OnlyLastEof}
-use Rattle.token.specs.paper.Records.{bit, values_of, headLength, recordLength, recordOf, records, mostBytes}
-use Rattle.token.specs.code.Form.{joined, held_at}
+use Rattle.token.specs.paper.Records.{bit, valuesOf, headLength, recordLength, recordOf, records, mostBytes}
+use Rattle.token.specs.code.Form.{joined, heldAt}
 use Rattle.token.specs.declared.kinds.TokenKind.{TokenKind}
 use Rattle.token.specs.declared.kinds.TokenKind.TheVariants as tk
 use Rattle.token.proofs.form.Stores.{length-record}
 use Rattle.token.proofs.form.ReadBack.{record-form}
-use Rattle.token.proofs.theorems.Bounded.{ValuesWithin, Bounded, AllBounded, InOrder, token_back}
-use Rattle.rolls.specs.paper.Roll.{length_at, kind_at, of-kind, yielded, tokens, prepend}
+use Rattle.token.proofs.theorems.Bounded.{ValuesWithin, Bounded, AllBounded, InOrder, token-back}
+use Rattle.rolls.specs.paper.Roll.{lengthAt, kindAt, of-kind, yielded, tokens, prepend}
 use Rattle.rolls.specs.computed.Roll.{lengthFor, badValues, isWrong, stepHeld, readAt, isEof, readIn, readFrom, readRoll}
 use Rattle.rolls.proofs.theorems.Kinds.{Carries, int, long, content, mark, nothing, carries, length-least, is-kind, Fit, bit-most, lower, upper}
 use Rattle.rolls.proofs.theorems.Rules.{bad-none}
-use Rattle.rolls.proofs.theorems.Values.{held_of, token-held}
+use Rattle.rolls.proofs.theorems.Values.{heldOf, token-held}
 use Rattle.rolls.proofs.theorems.Eofs.{number-eof, other-kind}
 use Rattle.rolls.proofs.theorems.Steps.{held-yields, whole-known}
-use Rattle.rolls.proofs.theorems.Reading.{read-last, read_more}
-open record-form use {held_on}
+use Rattle.rolls.proofs.theorems.Reading.{read-last, read-more}
+open record-form use {held-on}
 
 -- ---- values within their limits
 
 -- they fit
-within-fit : (a e : ℕ) {k : TokenKind} → Carries k → e ≤ mostBytes → ValuesWithin a e k → Fit (values_of k)
+within-fit : (a e : ℕ) {k : TokenKind} → Carries k → e ≤ mostBytes → ValuesWithin a e k → Fit (valuesOf k)
 within-fit a e (int v) s h = (omega arith, tt)
 within-fit a e (long v) s h = (omega arith, tt)
 within-fit a e (content b c) s h = let x = h.1 in let y = h.2 in (omega arith, (omega arith, tt))
@@ -53,7 +53,7 @@ bare-good n size v a e c l =
 
 -- the same of any kind
 within-good : (a e c : ℕ) {k : TokenKind} → Carries k → e ≤ mostBytes → ValuesWithin a e k
-    → badValues (record { number = kindNumber k; length = recordLength k; values = joined (values_of k); start = a; end = e; cut = c }) ≡ false
+    → badValues (record { number = kindNumber k; length = recordLength k; values = joined (valuesOf k); start = a; end = e; cut = c }) ≡ false
 unfolding badValues
 within-good a e c (int v) s h = le-ltb 2147483647 v h
 within-good a e c (long v) s h = le-ltb 9223372036854775807 v h
@@ -63,14 +63,14 @@ within-good a e c (content b d) s h =
     let z = h.2 in
     str-good a e (recordLength (tk.Str b d)) c b d (omega arith) (omega arith) x y z
 within-good a e c (mark m) s h = le-ltb 1 (bit m) (bit-most m)
-within-good a e c (nothing k n l b) s h = bare-good (kindNumber k) (recordLength k) (joined (values_of k)) a e c l
+within-good a e c (nothing k n l b) s h = bare-good (kindNumber k) (recordLength k) (joined (valuesOf k)) a e c l
 
 module _ (n : ℕ) (short : n ≤ mostBytes) (roll : List ℕ) where
   -- ---- one record
 
   module _ (at previous : ℕ) (t : Token) (h : Bounded n t) (after : previous ≤ t.start) where
     -- a token within its limits, not before the one before it, breaks no rule
-    right : isWrong (held_of t) previous ≡ false
+    right : isWrong (heldOf t) previous ≡ false
     unfolding isWrong
     right =
         let l = h.start in
@@ -79,30 +79,30 @@ module _ (n : ℕ) (short : n ≤ mostBytes) (roll : List ℕ) where
         (within-good t.start t.end (bit t.cut) (carries t.kind) (omega arith) h.values)
 
     -- and its values fit
-    fit : Fit (values_of t.kind)
+    fit : Fit (valuesOf t.kind)
     fit = let m = h.end in within-fit t.start t.end (carries t.kind) (omega arith) h.values
 
     module _ (rest : List ℕ) (here : drop at roll ≡ recordOf t ++ rest) where
       -- what stands there is what the token's record has
-      held-there : held_at roll at ≡ held_of t
-      held-there = held_on roll at ∙ ap (λ l. held_at l 0) here ∙ token_back n short t h rest
+      held-there : heldAt roll at ≡ heldOf t
+      held-there = held-on roll at ∙ ap (λ l. heldAt l 0) here ∙ token-back n short t h rest
 
       -- the bytes left are the record and what follows
-      left_is : length roll - at ≡ recordLength t.kind + length rest
-      left_is = sym (length-drop at roll) ∙ ap length here ∙ length-append (recordOf t) rest ∙ ap (λ m. m + length rest) (length-record t)
+      left-is : length roll - at ≡ recordLength t.kind + length rest
+      left-is = sym (length-drop at roll) ∙ ap length here ∙ length-append (recordOf t) rest ∙ ap (λ m. m + length rest) (length-record t)
 
       -- a token's record is yielded as the token, if it is no Eof or nothing follows
       step-written : (t.kind ≡ tk.Eof → rest ≡ []) → readAt roll at previous ≡ yielded t (at + recordLength t.kind)
-      unfolding held_at
+      unfolding heldAt
       step-written f =
-          let size : length_at roll at ≡ recordLength t.kind = ap (λ x. x.length) held-there in
-          let number : kind_at roll at ≡ kindNumber t.kind = ap (λ x. x.number) held-there in
+          let size : lengthAt roll at ≡ recordLength t.kind = ap (λ x. x.length) held-there in
+          let number : kindAt roll at ≡ kindNumber t.kind = ap (λ x. x.number) held-there in
           let k = of-kind t.kind in
           let least = length-least k in
-          let left = left_is in
+          let left = left-is in
           whole-known roll at previous (omega arith) (omega arith) (rw (number, size) (is-kind k))
           ∙ ap (λ x. stepHeld x at (length roll - at) previous) held-there
-          ∙ held-yields (held_of t) at (length roll - at) previous right (λ e. let z = ap length (f (number-eof t.kind e)) in omega arith)
+          ∙ held-yields (heldOf t) at (length roll - at) previous right (λ e. let z = ap length (f (number-eof t.kind e)) in omega arith)
           ∙ ap (λ x. yielded x (at + recordLength t.kind)) (token-held t fit)
 
       -- and what follows stands behind it
@@ -123,9 +123,9 @@ module _ (n : ℕ) (short : n ≤ mostBytes) (roll : List ℕ) where
       read-last most roll at previous t (at + recordLength t.kind) (step-written at previous t h.0 o.0 [] e (λ z. refl)) (ap isEof q)
   read-records (OnlyLastEof.other {t} {ts} q w) (suc most) at previous h o e l =
       let least = length-least (of-kind t.kind) in
-      let left = left_is at previous t h.0 o.0 (records ts) e in
+      let left = left-is at previous t h.0 o.0 (records ts) e in
       let step = step-written at previous t h.0 o.0 (records ts) e (λ z. absurd (q z)) in
-      read_more most roll at previous t (at + recordLength t.kind) step (other-kind t.kind q)
+      read-more most roll at previous t (at + recordLength t.kind) step (other-kind t.kind q)
       ∙ ap (prepend t)
       (read-records w most (at + recordLength t.kind) t.end h.1 o.1 (rest-there at previous t h.0 o.0 (records ts) e) (omega arith))
 

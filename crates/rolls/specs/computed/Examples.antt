@@ -35,16 +35,16 @@ pub record RollExamples : Type 0 where
   -- two tokens each
   pub whole-rolls : read (seven ∷ sevenLong ∷ string ∷ lineEnd ∷ []) ≡ (0 ∷ 2 ∷ []) ∷ (0 ∷ 2 ∷ []) ∷ (0 ∷ 2 ∷ []) ∷ (0 ∷ 2 ∷ []) ∷ []
   -- cut short: no byte, at the end of the first record, inside the second, inside its first four bytes
-  pub cut_short : read (map (λ n. take n seven) (0 ∷ 17 ∷ 29 ∷ 19 ∷ [])) ≡ (24 ∷ 0 ∷ []) ∷ (24 ∷ 17 ∷ []) ∷ (22 ∷ 17 ∷ []) ∷ (22 ∷ 17 ∷ []) ∷ []
+  pub cut-short : read (map (λ n. take n seven) (0 ∷ 17 ∷ 29 ∷ 19 ∷ [])) ≡ (24 ∷ 0 ∷ []) ∷ (24 ∷ 17 ∷ []) ∷ (22 ∷ 17 ∷ []) ∷ (22 ∷ 17 ∷ []) ∷ []
   -- 22 before 23: an unknown kind, cut short
   pub few-first : read (take 29 (set seven 19 19) ∷ []) ≡ (22 ∷ 17 ∷ []) ∷ []
   -- 23: no kind 19; an Ident of 17 bytes; a length of 0
-  pub no_such : read (set seven 2 19 ∷ set seven 2 1 ∷ set seven 0 0 ∷ []) ≡ (23 ∷ 0 ∷ []) ∷ (23 ∷ 0 ∷ []) ∷ (23 ∷ 0 ∷ []) ∷ []
+  pub no-such : read (set seven 2 19 ∷ set seven 2 1 ∷ set seven 0 0 ∷ []) ≡ (23 ∷ 0 ∷ []) ∷ (23 ∷ 0 ∷ []) ∷ (23 ∷ 0 ∷ []) ∷ []
   -- 24: a cut or after-comment byte of 2; a negative IntLit or LongLit
   pub byte-range : read (set seven 12 2 ∷ set lineEnd 13 2 ∷ set seven 16 128 ∷ set sevenLong 20 128 ∷ [])
       ≡ (24 ∷ 0 ∷ []) ∷ (24 ∷ 0 ∷ []) ∷ (24 ∷ 0 ∷ []) ∷ (24 ∷ 0 ∷ []) ∷ []
   -- 24: a start past the end; a start before the previous end
-  pub out_of_order : read (set seven 4 2 ∷ set seven 21 0 ∷ []) ≡ (24 ∷ 0 ∷ []) ∷ (24 ∷ 17 ∷ []) ∷ []
+  pub out-of-order : read (set seven 4 2 ∷ set seven 21 0 ∷ []) ≡ (24 ∷ 0 ∷ []) ∷ (24 ∷ 17 ∷ []) ∷ []
   -- 24: content that starts before its token, ends past it, or ends before it starts
   pub content-range : read (set string 4 2 ∷ set string 17 4 ∷ set string 17 0 ∷ []) ≡ (24 ∷ 0 ∷ []) ∷ (24 ∷ 0 ∷ []) ∷ (24 ∷ 0 ∷ []) ∷ []
   -- 24: one byte after Eof, or a second roll

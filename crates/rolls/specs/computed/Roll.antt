@@ -2,7 +2,7 @@
 use Rattle.std.specs.Prelude.{ℕ, zero, suc, ◌+◌, ◌-◌, ◌/◌, ◌%◌, Bool, false, cond, not, ◌&&◌, ◌||◌, List, [], ◌∷◌, length, eqb, leb, ltb}
 use Rattle.token.specs.paper.Kinds.{kindNumber, Token}
 use Rattle.token.specs.paper.Records.{headLength, intLength, longLength, strLength, lineLength}
-use Rattle.token.specs.code.Form.{held_at}
+use Rattle.token.specs.code.Form.{heldAt}
 use Rattle.token.specs.declared.kinds.Kw.{Kw}
 use Rattle.token.specs.declared.kinds.Kw.TheVariants as kw
 use Rattle.token.specs.declared.kinds.TokenKind.{TokenKind}
@@ -67,7 +67,7 @@ stepHeld h at left previous =
 unfoldable pub readAt : List ℕ → ℕ → ℕ → Stepped
 readAt roll at previous =
     let left = length roll - at in
-    let h = held_at roll at in
+    let h = heldAt roll at in
     let known = cond (isKind h.number h.length) (stepHeld h at left previous) (stopped 23 at) in
     let whole = cond (ltb left 4 || ltb left h.length) (stopped 22 at) known in
     cond (leb (length roll) at) (stopped 24 (length roll)) whole

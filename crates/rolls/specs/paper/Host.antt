@@ -2,7 +2,7 @@
 -- goes on: the number handed back and the place come first, unused numbers are 0, and 20, a block of another length, goes before every other refusal and
 -- leaves the block unchanged. Numbers have 4 bytes (`le4`), so that larger ones stand there modulo 2³².
 use Rattle.std.specs.Prelude.{ℕ, ◌≡◌, List, ◌++◌, length, take, replicate}
-use Rattle.words.specs.Words.{le4, block_of, Told, told}
+use Rattle.words.specs.Words.{le4, blockOf, Told, told}
 use Rattle.token.specs.paper.Kinds.{Token, kindNumber}
 use Rattle.token.specs.paper.Records.{bit, values}
 use Rattle.rolls.specs.paper.Roll.{Stepped, yielded, stopped, Steps, Outcome, tokens, refused, ReadsRoll}
@@ -10,8 +10,8 @@ use Rattle.rolls.specs.paper.Roll.{Stepped, yielded, stopped, Steps, Outcome, to
 -- ---- a roll: 16 bytes, refusal, place, token count, bytes of the roll
 
 abbrev pub outcomeTold : ℕ → Outcome → Told
-outcomeTold bytes (tokens ts) = told 0 (block_of 0 0 (length ts) bytes)
-outcomeTold bytes (refused j a) = told j (block_of j a 0 0)
+outcomeTold bytes (tokens ts) = told 0 (blockOf 0 0 (length ts) bytes)
+outcomeTold bytes (refused j a) = told j (blockOf j a 0 0)
 
 pub data TellsRoll (roll block : List ℕ) : Told → Type 0 where
   twenty : (length block ≡ 16 → ⊥) → TellsRoll roll block (told 20 block)

@@ -1,28 +1,28 @@
 -- Document 02, request 1, "Records read back": what a record holds, the refusals 22 to 24, one record, and the whole roll.
 use Rattle.std.specs.Prelude.{ℕ, ◌+◌, ◌≤◌, ◌<◌, ◌≡◌, ◌⊎◌, List, [], ◌∷◌, length}
-use Rattle.words.specs.Words.{one_at, twoAt, fourAt, eightAt}
+use Rattle.words.specs.Words.{oneAt, twoAt, fourAt, eightAt}
 use Rattle.token.specs.paper.Kinds.{kindNumber, Token}
-use Rattle.token.specs.paper.Records.{bit, Value, one, four, eight, values_of, headLength, recordLength}
+use Rattle.token.specs.paper.Records.{bit, Value, one, four, eight, valuesOf, headLength, recordLength}
 use Rattle.token.specs.declared.kinds.TokenKind.{TokenKind}
 use Rattle.token.specs.declared.kinds.TokenKind.TheVariants as tk
 
 -- ---- what stands at a record's offset. Document 01, "Records": length (2 bytes, whole record), kind (2), start (4), end (4), cut (1), then the
 -- values
 
-abbrev pub length_at : List ℕ → ℕ → ℕ
-length_at roll at = twoAt roll at
+abbrev pub lengthAt : List ℕ → ℕ → ℕ
+lengthAt roll at = twoAt roll at
 
-abbrev pub kind_at : List ℕ → ℕ → ℕ
-kind_at roll at = twoAt roll (at + 2)
+abbrev pub kindAt : List ℕ → ℕ → ℕ
+kindAt roll at = twoAt roll (at + 2)
 
-abbrev pub start_at : List ℕ → ℕ → ℕ
-start_at roll at = fourAt roll (at + 4)
+abbrev pub startAt : List ℕ → ℕ → ℕ
+startAt roll at = fourAt roll (at + 4)
 
-abbrev pub end_at : List ℕ → ℕ → ℕ
-end_at roll at = fourAt roll (at + 8)
+abbrev pub endAt : List ℕ → ℕ → ℕ
+endAt roll at = fourAt roll (at + 8)
 
-abbrev pub cut_at : List ℕ → ℕ → ℕ
-cut_at roll at = one_at roll (at + 12)
+abbrev pub cutAt : List ℕ → ℕ → ℕ
+cutAt roll at = oneAt roll (at + 12)
 
 -- Str: content start and end
 abbrev pub contentStart : List ℕ → ℕ → ℕ
@@ -34,24 +34,24 @@ contentEnd roll at = fourAt roll (at + headLength + 4)
 -- values one after the other, each of as many bytes as it takes
 abbrev pub ValuesFrom : List ℕ → ℕ → List Value → Type 0
 ValuesFrom roll i [] = Unit {0}
-ValuesFrom roll i (one v ∷ vs) = (v ≡ one_at roll i) × ValuesFrom roll (i + 1) vs
+ValuesFrom roll i (one v ∷ vs) = (v ≡ oneAt roll i) × ValuesFrom roll (i + 1) vs
 ValuesFrom roll i (four v ∷ vs) = (v ≡ fourAt roll i) × ValuesFrom roll (i + 4) vs
 ValuesFrom roll i (eight v ∷ vs) = (v ≡ eightAt roll i) × ValuesFrom roll (i + 8) vs
 
 -- the token that the record holds, with its values
 pub record TokenAt (roll : List ℕ) (at : ℕ) (t : Token) : Type 0 where
-  pub kind-is : kindNumber t.kind ≡ kind_at roll at
-  pub start_is : t.start ≡ start_at roll at
-  pub end_is : t.end ≡ end_at roll at
-  pub cut-is : bit t.cut ≡ cut_at roll at
-  pub values-are : ValuesFrom roll (at + headLength) (values_of t.kind)
+  pub kind-is : kindNumber t.kind ≡ kindAt roll at
+  pub start-is : t.start ≡ startAt roll at
+  pub end-is : t.end ≡ endAt roll at
+  pub cut-is : bit t.cut ≡ cutAt roll at
+  pub values-are : ValuesFrom roll (at + headLength) (valuesOf t.kind)
 
 -- ---- the refusals, checked in this order at each record
 
 -- 22 bytes are left, but fewer than four or than the record's length
 pub record TooFew (roll : List ℕ) (at : ℕ) : Type 0 where
   pub left : at < length roll
-  pub fewer : (length roll < at + 4) ⊎ (length roll < at + length_at roll at)
+  pub fewer : (length roll < at + 4) ⊎ (length roll < at + lengthAt roll at)
 
 -- a kind, by its number, and the length of its records
 pub data KindLength : ℕ → ℕ → Type 0 where
@@ -59,29 +59,29 @@ pub data KindLength : ℕ → ℕ → Type 0 where
 
 -- 23 unknown kind or a length that isn't the kind's
 abbrev pub NoKind : List ℕ → ℕ → Type 0
-NoKind roll at = KindLength (kind_at roll at) (length_at roll at) → ⊥
+NoKind roll at = KindLength (kindAt roll at) (lengthAt roll at) → ⊥
 
 -- 24, after a token that ends at `previous` in the script. A number is negative where its last byte is 128 or more.
 pub data Wrong (roll : List ℕ) (at previous : ℕ) : Type 0 where
   -- a cut or after-comment byte above 1 (17 Newline)
-  cut-byte : 1 < cut_at roll at → Wrong roll at previous
-  after-comment : kind_at roll at ≡ 17 → 1 < one_at roll (at + headLength) → Wrong roll at previous
+  cut-byte : 1 < cutAt roll at → Wrong roll at previous
+  after-comment : kindAt roll at ≡ 17 → 1 < oneAt roll (at + headLength) → Wrong roll at previous
   -- a negative IntLit or LongLit value (4 and 5)
-  negative-int : kind_at roll at ≡ 4 → 128 ≤ one_at roll (at + headLength + 3) → Wrong roll at previous
-  negative-long : kind_at roll at ≡ 5 → 128 ≤ one_at roll (at + headLength + 7) → Wrong roll at previous
+  negative-int : kindAt roll at ≡ 4 → 128 ≤ oneAt roll (at + headLength + 3) → Wrong roll at previous
+  negative-long : kindAt roll at ≡ 5 → 128 ≤ oneAt roll (at + headLength + 7) → Wrong roll at previous
   -- start past end, start before the previous end
-  past_end : end_at roll at < start_at roll at → Wrong roll at previous
-  before-previous : start_at roll at < previous → Wrong roll at previous
+  past-end : endAt roll at < startAt roll at → Wrong roll at previous
+  before-previous : startAt roll at < previous → Wrong roll at previous
   -- Str content outside its token or ending before it starts (6)
-  content-before : kind_at roll at ≡ 6 → contentStart roll at < start_at roll at → Wrong roll at previous
-  content-past : kind_at roll at ≡ 6 → end_at roll at < contentEnd roll at → Wrong roll at previous
-  content-order : kind_at roll at ≡ 6 → contentEnd roll at < contentStart roll at → Wrong roll at previous
+  content-before : kindAt roll at ≡ 6 → contentStart roll at < startAt roll at → Wrong roll at previous
+  content-past : kindAt roll at ≡ 6 → endAt roll at < contentEnd roll at → Wrong roll at previous
+  content-order : kindAt roll at ≡ 6 → contentEnd roll at < contentStart roll at → Wrong roll at previous
 
 -- none of them: t is the record's token
 pub record Sound (roll : List ℕ) (at previous : ℕ) (t : Token) : Type 0 where
   pub four : at + 4 ≤ length roll
-  pub room : at + length_at roll at ≤ length roll
-  pub known : KindLength (kind_at roll at) (length_at roll at)
+  pub room : at + lengthAt roll at ≤ length roll
+  pub known : KindLength (kindAt roll at) (lengthAt roll at)
   pub right : Wrong roll at previous → ⊥
   pub token : TokenAt roll at t
 
@@ -99,11 +99,11 @@ pub data Steps (roll : List ℕ) (at previous : ℕ) : Stepped → Type 0 where
   twenty-three : at < length roll → (TooFew roll at → ⊥) → NoKind roll at → Steps roll at previous (stopped 23 at)
   twenty-four : at < length roll → (TooFew roll at → ⊥) → (NoKind roll at → ⊥) → Wrong roll at previous → Steps roll at previous (stopped 24 at)
   -- 24 also meets bytes after Eof, at the first of them and before any other check there
-  after-eof : {t : Token} → Sound roll at previous t → t.kind ≡ tk.Eof → at + length_at roll at < length roll
-      → Steps roll at previous (stopped 24 (at + length_at roll at))
+  after-eof : {t : Token} → Sound roll at previous t → t.kind ≡ tk.Eof → at + lengthAt roll at < length roll
+      → Steps roll at previous (stopped 24 (at + lengthAt roll at))
   -- yields each token with its values
-  yields : {t : Token} → Sound roll at previous t → (t.kind ≡ tk.Eof → at + length_at roll at ≡ length roll)
-      → Steps roll at previous (yielded t (at + length_at roll at))
+  yields : {t : Token} → Sound roll at previous t → (t.kind ≡ tk.Eof → at + lengthAt roll at ≡ length roll)
+      → Steps roll at previous (yielded t (at + lengthAt roll at))
 
 -- ---- the roll: its tokens, or the first refusal
 

@@ -7,25 +7,25 @@ use lib.ListN.{length, drop, get_or}
 use lib.Dec.{eqb, ltb}
 use native.Mathlib.Omega.{arith}
 use borrow.Author.Tests.{ltb-true, ltb-false, eqb-true}
-use Rattle.chars.specs.paper.Quoted.{one_of}
+use Rattle.chars.specs.paper.Quoted.{oneOf}
 use Rattle.chars.specs.paper.Classes.{isIdStart, isOpSign, isPrintable}
 use Rattle.chars.specs.paper.Text.{Char, Text, from, place}
 use Rattle.chars.specs.computed.Runs.{afterRun}
-use Rattle.chars.proofs.Bools.{and_both}
+use Rattle.chars.proofs.Bools.{and-both}
 use Rattle.chars.specs.promises.Texts.{ScriptText}
 use Rattle.chars.proofs.theorems.Promises.{text-laws}
 use Rattle.token.proofs.Classes.{sign-no-semi}
 use Rattle.token.specs.paper.Tests.{begins, backslash, apostrophe, opSign, freeSign, opensComment, plainChar}
 use Rattle.token.specs.computed.Answer.{Found, Esc, unbroken, broken, afterSlash, afterIdent, tickNext, escapedOf, scanCharSym}
 use Rattle.token.specs.code.Cursor.{cursorAt}
-use Rattle.token.specs.code.Piece.{piece_of}
+use Rattle.token.specs.code.Piece.{pieceOf}
 use Rattle.token.specs.code.String.{escEnd, escapeOf}
-use Rattle.token.specs.code.Charsym.{escapedChar, symbol_of}
+use Rattle.token.specs.code.Charsym.{escapedChar, symbolOf}
 use Rattle.token.specs.declared.cursor.Cursor.{Cursor}
 use Rattle.token.specs.declared.kinds.TokenKind.TheVariants as tk
 use Rattle.token.specs.declared.piece.Piece.TheVariants as piece
 use Rattle.token.specs.declared.piece.Ended.TheVariants as ended
-use Rattle.token.proofs.Base.{zero_one}
+use Rattle.token.proofs.Base.{zero-one}
 use Rattle.token.proofs.cursor.Bytes.{any-byte, inside, past}
 use Rattle.token.proofs.cursor.Laws.{Here}
 open text-laws use {text-drop, text-place, at-end, place-from}
@@ -33,12 +33,12 @@ open text-laws use {text-drop, text-place, at-end, place-from}
 -- ---- pieces
 
 pub sym-token : (s : List ℕ) (end : ℕ) (t : Text) (f : Found) → end ≤ length s → from s end ≡ t → f ≡ Found.token tk.CharSym t
-    → piece.Token tk.CharSym (cursorAt end) ≡ piece_of (length s) f
-unfolding piece_of
+    → piece.Token tk.CharSym (cursorAt end) ≡ pieceOf (length s) f
+unfolding pieceOf
 sym-token s end t f h q e = rw (e, ← q, place-from s end h)
 
-pub sym-stuck : (s : List ℕ) (j at : ℕ) (f : Found) → at ≤ length s → f ≡ Found.stuck j (from s at) → piece.Refused j at ≡ piece_of (length s) f
-unfolding piece_of
+pub sym-stuck : (s : List ℕ) (j at : ℕ) (f : Found) → at ≤ length s → f ≡ Found.stuck j (from s at) → piece.Refused j at ≡ pieceOf (length s) f
+unfolding pieceOf
 sym-stuck s j at f h e = rw (e, place-from s at h)
 
 -- ---- `'`
@@ -53,18 +53,18 @@ module _ (s : List ℕ) (i : ℕ) where
       let h = inside s i (omega arith) in
       (omega arith, past s i h (omega arith))
 
-  pub tick-closes : eqb (get_or s i 0) 0x27 ≡ true → piece.Token tk.CharSym (cursorAt (i + 1)) ≡ piece_of (length s) (tickNext (from s i))
+  pub tick-closes : eqb (get_or s i 0) 0x27 ≡ true → piece.Token tk.CharSym (cursorAt (i + 1)) ≡ pieceOf (length s) (tickNext (from s i))
   tick-closes e = let h = past-tick e in sym-token s (i + 1) _ _ h.0 (sym h.1) (rw (tick-byte ∙ e))
 
-  pub tick-lacks : i ≤ length s → eqb (get_or s i 0) 0x27 ≡ false → piece.Refused 15 i ≡ piece_of (length s) (tickNext (from s i))
+  pub tick-lacks : i ≤ length s → eqb (get_or s i 0) 0x27 ≡ false → piece.Refused 15 i ≡ pieceOf (length s) (tickNext (from s i))
   tick-lacks h e = sym-stuck s 15 i _ h (rw (tick-byte ∙ e))
 
 -- the byte behind an escape
 pub tick_next : (s : List ℕ) (i : ℕ) → i ≤ length s
-    → piece_of (length s) (tickNext (from s i)) ≡ cond (eqb (get_or s i 0) 0x27) (piece.Token tk.CharSym (cursorAt (i + 1))) (piece.Refused 15 i)
+    → pieceOf (length s) (tickNext (from s i)) ≡ cond (eqb (get_or s i 0) 0x27) (piece.Token tk.CharSym (cursorAt (i + 1))) (piece.Refused 15 i)
 tick_next s i h = go (eqb (get_or s i 0) 0x27) refl
   where
-    go : (b : Bool) → eqb (get_or s i 0) 0x27 ≡ b → piece_of (length s) (tickNext (from s i)) ≡ cond b (piece.Token tk.CharSym (cursorAt (i + 1))) (piece.Refused 15 i)
+    go : (b : Bool) → eqb (get_or s i 0) 0x27 ≡ b → pieceOf (length s) (tickNext (from s i)) ≡ cond b (piece.Token tk.CharSym (cursorAt (i + 1))) (piece.Refused 15 i)
     go true e = sym (tick-closes s i e)
     go false e = sym (tick-lacks s i h e)
 
@@ -90,67 +90,67 @@ module _ (s : List ℕ) (i : ℕ) where
           let z : end.at ≡ place (length s) (drop k (from s i)) = ap (λ d. d.at) y in
           let w = text-within s (drop k (from s i)) t in
           (omega arith, ap (λ j. tickNext (from s j)) z ∙ ap tickNext (text-place s (drop k (from s i)) t))
-      go (broken j q) e = zero_one (cc)
+      go (broken j q) e = zero-one (cc)
 
-  pub escape-wrong : (j at : ℕ) → ended.Refused j at ≡ escapeOf (length s) (from s i) → piece.Refused j at ≡ piece_of (length s) (escapedChar (from s i))
-  unfolding escapeOf piece_of
+  pub escape-wrong : (j at : ℕ) → ended.Refused j at ≡ escapeOf (length s) (from s i) → piece.Refused j at ≡ pieceOf (length s) (escapedChar (from s i))
+  unfolding escapeOf pieceOf
   escape-wrong j at e = go (afterSlash (from s i)) e
     where
-      go : (a : Esc) → ended.Refused j at ≡ escEnd (length s) (from s i) a → piece.Refused j at ≡ piece_of (length s) (escapedOf (from s i) a)
-      go (unbroken k) e = zero_one (cc)
+      go : (a : Esc) → ended.Refused j at ≡ escEnd (length s) (from s i) a → piece.Refused j at ≡ pieceOf (length s) (escapedOf (from s i) a)
+      go (unbroken k) e = zero-one (cc)
       go (broken k q) e = cc
 
 -- ---- a symbol, by the first character of its name
 
 symbol-at : (c : Char) (r t : Text) → t ≡ c ∷ r
-    → symbol_of t ≡ cond (isIdStart c.code) (Found.token tk.CharSym (afterIdent false r))
+    → symbolOf t ≡ cond (isIdStart c.code) (Found.token tk.CharSym (afterIdent false r))
     (cond (isOpSign c.code && not (opensComment t)) (Found.token tk.CharSym (afterRun freeSign t))
-    (cond (one_of ";" c.code && not (opSign r)) (Found.token tk.CharSym r) (Found.stuck 16 t)))
-unfolding symbol_of
+    (cond (oneOf ";" c.code && not (opSign r)) (Found.token tk.CharSym r) (Found.stuck 16 t)))
+unfolding symbolOf
 symbol-at c r t e = rw e
 
-pub no_symbol : (t : Text) → t ≡ [] → symbol_of t ≡ Found.stuck 16 t
-unfolding symbol_of
-no_symbol t e = rw e
+pub no-symbol : (t : Text) → t ≡ [] → symbolOf t ≡ Found.stuck 16 t
+unfolding symbolOf
+no-symbol t e = rw e
 
 module _ (s : List ℕ) (i code next : ℕ) (h : Here s i code next) where
-  pub word-is : isIdStart code ≡ true → symbol_of (from s i) ≡ Found.token tk.CharSym (afterIdent false (from s next))
+  pub word-is : isIdStart code ≡ true → symbolOf (from s i) ≡ Found.token tk.CharSym (afterIdent false (from s next))
   word-is e = symbol-at _ _ (from s i) h.text ∙ rw e
 
-  pub run_is : isIdStart code ≡ false → isOpSign code ≡ true → opensComment (from s i) ≡ false
-      → symbol_of (from s i) ≡ Found.token tk.CharSym (afterRun freeSign (from s i))
-  run_is e f g = symbol-at _ _ (from s i) h.text ∙ rw (e, f, g)
+  pub run-is : isIdStart code ≡ false → isOpSign code ≡ true → opensComment (from s i) ≡ false
+      → symbolOf (from s i) ≡ Found.token tk.CharSym (afterRun freeSign (from s i))
+  run-is e f g = symbol-at _ _ (from s i) h.text ∙ rw (e, f, g)
 
-  pub comment-is : isIdStart code ≡ false → isOpSign code ≡ true → opensComment (from s i) ≡ true → symbol_of (from s i) ≡ Found.stuck 16 (from s i)
+  pub comment-is : isIdStart code ≡ false → isOpSign code ≡ true → opensComment (from s i) ≡ true → symbolOf (from s i) ≡ Found.stuck 16 (from s i)
   comment-is e f g = symbol-at _ _ (from s i) h.text ∙ rw (e, f, g, sign-no-semi code f)
 
-  semi-code : one_of ";" code ≡ eqb code 0x3B
+  semi-code : oneOf ";" code ≡ eqb code 0x3B
   semi-code = or-false (eqb code 0x3B)
 
-  pub other-is : isIdStart code ≡ false → isOpSign code ≡ false → eqb code 0x3B ≡ false → symbol_of (from s i) ≡ Found.stuck 16 (from s i)
+  pub other-is : isIdStart code ≡ false → isOpSign code ≡ false → eqb code 0x3B ≡ false → symbolOf (from s i) ≡ Found.stuck 16 (from s i)
   other-is e f g = symbol-at _ _ (from s i) h.text ∙ rw (e, f, semi-code ∙ g)
 
-  pub semi-sign-is : isIdStart code ≡ false → isOpSign code ≡ false → eqb code 0x3B ≡ true → opSign (from s next) ≡ true → symbol_of (from s i) ≡ Found.stuck 16 (from s i)
+  pub semi-sign-is : isIdStart code ≡ false → isOpSign code ≡ false → eqb code 0x3B ≡ true → opSign (from s next) ≡ true → symbolOf (from s i) ≡ Found.stuck 16 (from s i)
   semi-sign-is e f g o = symbol-at _ _ (from s i) h.text ∙ rw (e, f, semi-code ∙ g, o)
 
-  pub semi-is : isIdStart code ≡ false → isOpSign code ≡ false → eqb code 0x3B ≡ true → opSign (from s next) ≡ false → symbol_of (from s i) ≡ Found.token tk.CharSym (from s next)
+  pub semi-is : isIdStart code ≡ false → isOpSign code ≡ false → eqb code 0x3B ≡ true → opSign (from s next) ≡ false → symbolOf (from s i) ≡ Found.token tk.CharSym (from s next)
   semi-is e f g o = symbol-at _ _ (from s i) h.text ∙ rw (e, f, semi-code ∙ g, o)
 
 -- ---- from the `'` on; m is the text after it
 
 scan-is : (t m : Text) → drop 1 t ≡ m
     → scanCharSym t ≡ cond (backslash m) (escapedChar (drop 1 m))
-    (cond (plainChar m && apostrophe (drop 1 m)) (Found.token tk.CharSym (drop 2 m)) (symbol_of m))
-unfolding scanCharSym symbol_of
+    (cond (plainChar m && apostrophe (drop 1 m)) (Found.token tk.CharSym (drop 2 m)) (symbolOf m))
+unfolding scanCharSym symbolOf
 scan-is t m e = rw (← e)
 
-pub end_is : (t m : Text) → drop 1 t ≡ m → m ≡ [] → scanCharSym t ≡ Found.stuck 16 m
-unfolding begins symbol_of
-end_is t m q e = scan-is t m q ∙ rw e
+pub end-is : (t m : Text) → drop 1 t ≡ m → m ≡ [] → scanCharSym t ≡ Found.stuck 16 m
+unfolding begins symbolOf
+end-is t m q e = scan-is t m q ∙ rw e
 
 scan-at : (t m : Text) (c : Char) (r : Text) (b : Bool) → drop 1 t ≡ m → m ≡ c ∷ r → eqb c.code 0x5C ≡ b
     → scanCharSym t ≡ cond b (escapedChar r)
-    (cond (isPrintable c.code && not b && apostrophe r) (Found.token tk.CharSym (drop 1 r)) (symbol_of m))
+    (cond (isPrintable c.code && not b && apostrophe r) (Found.token tk.CharSym (drop 1 r)) (symbolOf m))
 unfolding begins
 scan-at t m c r b q e f = scan-is t m q ∙ rw (e, and-true (eqb c.code 0x5C), f)
 
@@ -161,14 +161,14 @@ module _ (s : List ℕ) (i code next : ℕ) (h : Here s i code next) (t : Text) 
   printed : isPrintable code && true && apostrophe (from s next) ≡ isPrintable code && eqb (get_or s next 0) 0x27
   printed = rw (and-true (isPrintable code), tick-byte s next)
 
-  char_is : eqb code 0x5C ≡ false → isPrintable code && eqb (get_or s next 0) 0x27 ≡ true → scanCharSym t ≡ Found.token tk.CharSym (drop 1 (from s next))
-  char_is e f = scan-at t (from s i) _ _ false q h.text e ∙ rw (printed ∙ f)
+  char-is : eqb code 0x5C ≡ false → isPrintable code && eqb (get_or s next 0) 0x27 ≡ true → scanCharSym t ≡ Found.token tk.CharSym (drop 1 (from s next))
+  char-is e f = scan-at t (from s i) _ _ false q h.text e ∙ rw (printed ∙ f)
 
   pub char-piece : eqb code 0x5C ≡ false → isPrintable code && eqb (get_or s next 0) 0x27 ≡ true
-      → piece.Token tk.CharSym (cursorAt (next + 1)) ≡ piece_of (length s) (scanCharSym t)
+      → piece.Token tk.CharSym (cursorAt (next + 1)) ≡ pieceOf (length s) (scanCharSym t)
   char-piece e f =
-      let u = past-tick s next (and_both (isPrintable code) (eqb (get_or s next 0) 0x27) f).1 in
-      sym-token s (next + 1) _ _ u.0 (sym u.1) (char_is e f)
+      let u = past-tick s next (and-both (isPrintable code) (eqb (get_or s next 0) 0x27) f).1 in
+      sym-token s (next + 1) _ _ u.0 (sym u.1) (char-is e f)
 
-  pub symbol-is : eqb code 0x5C ≡ false → isPrintable code && eqb (get_or s next 0) 0x27 ≡ false → scanCharSym t ≡ symbol_of (from s i)
+  pub symbol-is : eqb code 0x5C ≡ false → isPrintable code && eqb (get_or s next 0) 0x27 ≡ false → scanCharSym t ≡ symbolOf (from s i)
   symbol-is e f = scan-at t (from s i) _ _ false q h.text e ∙ rw (printed ∙ f)

@@ -8,15 +8,15 @@ use lib.Dec.{ltb}
 use native.Mathlib.Omega.{arith}
 use borrow.Author.Tests.{ltb-true, ltb-false}
 use Rattle.chars.specs.paper.Text.{Char, Text, from, place}
-use Rattle.chars.specs.code.Text.{charEnd, stepAt, code_at}
+use Rattle.chars.specs.code.Text.{charEnd, stepAt, codeAt}
 use Rattle.chars.specs.computed.Runs.{afterRun}
 use Rattle.chars.specs.code.Runs.{Each}
 use Rattle.chars.specs.declared.text.Step.TheVariants as step
 use Rattle.chars.proofs.theorems.Promises.{text-laws}
-use Rattle.token.specs.code.Cursor.{cursorAt, peekedOf, peek_at}
+use Rattle.token.specs.code.Cursor.{cursorAt, peekedOf, peekAt}
 use Rattle.token.specs.declared.cursor.Cursor.{Cursor}
 use Rattle.token.specs.declared.cursor.Peeked.TheVariants as peeked
-use Rattle.token.proofs.Base.{zero_one}
+use Rattle.token.proofs.Base.{zero-one}
 open text-laws use {at-char, at-end, place-from, next-on, step-text, step-none}
 
 -- the character at i, as the code has it
@@ -37,19 +37,19 @@ here s i code next e =
       within = omega (arith, t.2);
     }
 
-pub peek-char : (s : List ℕ) (i code next : ℕ) → step.Char code next ≡ stepAt s i → peeked.Char code (cursorAt next) ≡ peek_at s i
-unfolding peek_at
+pub peek-char : (s : List ℕ) (i code next : ℕ) → step.Char code next ≡ stepAt s i → peeked.Char code (cursorAt next) ≡ peekAt s i
+unfolding peekAt
 peek-char s i code next e =
     let h = here s i code next e in
     sym (ap (peekedOf (length s)) h.text ∙ ap (λ j. peeked.Char code (cursorAt j)) (place-from s next h.within))
 
-pub peek-end : (s : List ℕ) (i : ℕ) → step.End ≡ stepAt s i → peeked.End ≡ peek_at s i
-unfolding peek_at
+pub peek-end : (s : List ℕ) (i : ℕ) → step.End ≡ stepAt s i → peeked.End ≡ peekAt s i
+unfolding peekAt
 peek-end s i e = sym (ap (peekedOf (length s)) (at-end s i (step-none s i e)))
 
 -- what a peek says
-pub peeked-char : (s : List ℕ) (i code : ℕ) (next : ℕ) → peeked.Char code (cursorAt next) ≡ peek_at s i → Here s i code next
-unfolding peek_at
+pub peeked-char : (s : List ℕ) (i code : ℕ) (next : ℕ) → peeked.Char code (cursorAt next) ≡ peekAt s i → Here s i code next
+unfolding peekAt
 peeked-char s i code next e = go (ltb i (length s)) refl
   where
     go : (b : Bool) → ltb i (length s) ≡ b → Here s i code next
@@ -58,46 +58,46 @@ peeked-char s i code next e = go (ltb i (length s)) refl
         let t = at-char s i h in
         let n = next-on s i h in
         let p = place-from s (charEnd s i) n.1 in
-        let f : peeked.Char code (cursorAt next) ≡ peeked.Char (code_at s i) (cursorAt (place (length s) (from s (charEnd s i)))) = e ∙ ap (peekedOf (length s)) t in
-        let a : code ≡ code_at s i = cc in
+        let f : peeked.Char code (cursorAt next) ≡ peeked.Char (codeAt s i) (cursorAt (place (length s) (from s (charEnd s i)))) = e ∙ ap (peekedOf (length s)) t in
+        let a : code ≡ codeAt s i = cc in
         let b : cursorAt next ≡ cursorAt (place (length s) (from s (charEnd s i))) = cc in
         let d : next ≡ charEnd s i = ap (λ (c : Cursor). c.at) b ∙ p in
         record { text = t ∙ ap (λ c. record { code = c; at = i } ∷ from s (charEnd s i)) (sym a) ∙ ap (λ j. record { code = code; at = i } ∷ from s j) (sym d); in-script = h; on = omega arith; within = omega arith }
     go false q =
         let f : peeked.Char code (cursorAt next) ≡ peeked.End = e ∙ ap (peekedOf (length s)) (at-end s i (ltb-false i (length s) q)) in
-        zero_one (cc)
+        zero-one (cc)
 
-pub peeked-end : (s : List ℕ) (i : ℕ) → peeked.End ≡ peek_at s i → length s ≤ i
-unfolding peek_at
+pub peeked-end : (s : List ℕ) (i : ℕ) → peeked.End ≡ peekAt s i → length s ≤ i
+unfolding peekAt
 peeked-end s i e = go (ltb i (length s)) refl
   where
     go : (b : Bool) → ltb i (length s) ≡ b → length s ≤ i
     go false q = ltb-false i (length s) q
     go true q =
-        let f : peeked.End ≡ peeked.Char (code_at s i) (cursorAt (place (length s) (from s (charEnd s i)))) = e ∙ ap (peekedOf (length s)) (at-char s i (ltb-true i (length s) q)) in
-        zero_one (cc)
+        let f : peeked.End ≡ peeked.Char (codeAt s i) (cursorAt (place (length s) (from s (charEnd s i)))) = e ∙ ap (peekedOf (length s)) (at-char s i (ltb-true i (length s) q)) in
+        zero-one (cc)
 
 -- ---- a run of bytes: what the loop found at its start is f
 
 module _ (p : Text → Bool) (s : List ℕ) (i : ℕ) (f : Text) where
-  pub run_past : (c : Char) (u : Text) → from s i ≡ c ∷ u → p (from s i) ≡ true → afterRun p (from s i) ≡ f → afterRun p u ≡ f
+  pub run-past : (c : Char) (u : Text) → from s i ≡ c ∷ u → p (from s i) ≡ true → afterRun p (from s i) ≡ f → afterRun p u ≡ f
   unfolding afterRun
-  run_past c u t e q = sym (ap (afterRun p) t ∙ rw (sym (ap p t) ∙ e, afterRun)) ∙ q
+  run-past c u t e q = sym (ap (afterRun p) t ∙ rw (sym (ap p t) ∙ e, afterRun)) ∙ q
 
   pub run-here : (c : Char) (u : Text) → from s i ≡ c ∷ u → p (from s i) ≡ false → afterRun p (from s i) ≡ f → from s i ≡ f
   unfolding afterRun
   run-here c u t e q = t ∙ sym (ap (afterRun p) t ∙ rw (sym (ap p t) ∙ e, afterRun)) ∙ q
 
-  pub run_none : length s ≤ i → afterRun p (from s i) ≡ f → from s i ≡ f
+  pub run-none : length s ≤ i → afterRun p (from s i) ≡ f → from s i ≡ f
   unfolding afterRun
-  run_none h q = at-end s i h ∙ sym (ap (afterRun p) (at-end s i h)) ∙ q
+  run-none h q = at-end s i h ∙ sym (ap (afterRun p) (at-end s i h)) ∙ q
 
 -- ---- bytes of one property, passed together: what f finds past any one of them is what it finds before it
 
 module _ {A : Type 0} (f : Text → A) (s : List ℕ) (P : ℕ → Type 0)
     (on : (k : ℕ) → k < length s → P (get_or s k 0) → f (from s (k + 1)) ≡ f (from s k)) where
-  pub all_past : (i r : ℕ) → i ≤ r → r ≤ length s → Each P s i r → f (from s r) ≡ f (from s i)
-  all_past i r l h a = go (r - i) i (omega arith) a
+  pub all-past : (i r : ℕ) → i ≤ r → r ≤ length s → Each P s i r → f (from s r) ≡ f (from s i)
+  all-past i r l h a = go (r - i) i (omega arith) a
     where
       go : (n i : ℕ) → i + n ≡ r → Each P s i r → f (from s r) ≡ f (from s i)
       go zero i e a = let z : r ≡ i = omega arith in ap (λ j. f (from s j)) z

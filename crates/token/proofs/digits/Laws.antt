@@ -9,25 +9,25 @@ use lib.Dec.{eqb, leb, ltb}
 use native.Mathlib.Nat.{le-mul_of_pos_right, one-le-pow}
 use native.Mathlib.Omega.{arith}
 use borrow.Author.Tests.{ltb-true, ltb-false, lt-ltb, le-ltb, leb-true, leb-false, le-leb, lt-leb, eqb-true}
-use Rattle.chars.specs.paper.Quoted.{between, codes, one_of}
+use Rattle.chars.specs.paper.Quoted.{between, codes, oneOf}
 use Rattle.chars.specs.paper.Text.{Text, from, place, headIs}
 use Rattle.chars.specs.computed.Runs.{afterRun}
-use Rattle.chars.proofs.Bools.{clash, and_both}
+use Rattle.chars.proofs.Bools.{clash, and-both}
 use Rattle.chars.specs.promises.Texts.{AsciiClass}
 use Rattle.chars.proofs.theorems.Promises.{code_laws, text-laws}
 use Rattle.token.specs.paper.Tests.{isDigit, isHexDigit, digitValue, begins, hexDigit, hexAhead, letterL}
-use Rattle.token.specs.computed.Answer.{Found, numeral, readDigits, number_of, scanNumber}
+use Rattle.token.specs.computed.Answer.{Found, numeral, readDigits, numberOf, scanNumber}
 use Rattle.token.specs.code.Cursor.{cursorAt}
-use Rattle.token.specs.code.Piece.{piece_of}
-use Rattle.token.specs.code.Digits.{digitIn, digitOf, afterUpTo, value_of, intOr}
+use Rattle.token.specs.code.Piece.{pieceOf}
+use Rattle.token.specs.code.Digits.{digitIn, digitOf, afterUpTo, valueOf, intOr}
 use Rattle.token.specs.declared.kinds.TokenKind.TheVariants as tk
 use Rattle.token.specs.declared.piece.Piece.TheVariants as piece
 use Rattle.token.specs.declared.digits.Value.TheVariants as value
-use Rattle.token.proofs.Base.{zero_one}
-use Rattle.token.proofs.cursor.Bytes.{any-byte, ascii-list, inside, past, two_bytes}
-use Rattle.token.proofs.theorems.Numbers.{valueAfter, digitsOf, read_is}
-open code_laws use {hits, misses, between_in, between-out, in_between, not-between}
-open text-laws use {head_byte, at_ascii, at-end, place-from}
+use Rattle.token.proofs.Base.{zero-one}
+use Rattle.token.proofs.cursor.Bytes.{any-byte, ascii-list, inside, past, two-bytes}
+use Rattle.token.proofs.theorems.Numbers.{valueAfter, digitsOf, read-is}
+open code_laws use {hits, misses, between-in, between-out, in-between, not-between}
+open text-laws use {head-byte, at-ascii, at-end, place-from}
 
 -- ---- the digits of a base
 
@@ -36,9 +36,9 @@ module _ (base b : ℕ) where
   unfolding digitIn isHexDigit
   kinds x y z p q r = rw (p, q, r)
 
-  pub digit_low : 0x30 ≤ b → b ≤ 0x39 → digitIn base b ≡ true
+  pub digit-low : 0x30 ≤ b → b ≤ 0x39 → digitIn base b ≡ true
   unfolding isDigit
-  digit_low h k = kinds true false false (between_in 0x30 0x39 b h k) (between-out 0x41 0x46 b (λ l. omega arith)) (between-out 0x61 0x66 b (λ l. omega arith)) ∙ go (eqb base 16)
+  digit-low h k = kinds true false false (between-in 0x30 0x39 b h k) (between-out 0x41 0x46 b (λ l. omega arith)) (between-out 0x61 0x66 b (λ l. omega arith)) ∙ go (eqb base 16)
     where
       go : (t : Bool) → cond t true true ≡ true
       go true = refl
@@ -50,15 +50,15 @@ module _ (base b : ℕ) where
 
   pub digit-upper : 0x41 ≤ b → b ≤ 0x46 → digitIn base b ≡ eqb base 16
   unfolding isDigit
-  digit-upper h k = kinds false true false (between-out 0x30 0x39 b (λ l. omega arith)) (between_in 0x41 0x46 b h k) (between-out 0x61 0x66 b (λ l. omega arith)) ∙ letter (eqb base 16)
+  digit-upper h k = kinds false true false (between-out 0x30 0x39 b (λ l. omega arith)) (between-in 0x41 0x46 b h k) (between-out 0x61 0x66 b (λ l. omega arith)) ∙ letter (eqb base 16)
 
   pub digit-lower : 0x61 ≤ b → b ≤ 0x66 → digitIn base b ≡ eqb base 16
   unfolding isDigit
-  digit-lower h k = kinds false false true (between-out 0x30 0x39 b (λ l. omega arith)) (between-out 0x41 0x46 b (λ l. omega arith)) (between_in 0x61 0x66 b h k) ∙ letter (eqb base 16)
+  digit-lower h k = kinds false false true (between-out 0x30 0x39 b (λ l. omega arith)) (between-out 0x41 0x46 b (λ l. omega arith)) (between-in 0x61 0x66 b h k) ∙ letter (eqb base 16)
 
-  pub no_digit : (0x30 ≤ b → 0x39 < b) → (0x41 ≤ b → 0x46 < b) → (0x61 ≤ b → 0x66 < b) → digitIn base b ≡ false
+  pub no-digit : (0x30 ≤ b → 0x39 < b) → (0x41 ≤ b → 0x46 < b) → (0x61 ≤ b → 0x66 < b) → digitIn base b ≡ false
   unfolding isDigit
-  no_digit h k l = kinds false false false (between-out 0x30 0x39 b h) (between-out 0x41 0x46 b k) (between-out 0x61 0x66 b l) ∙ go (eqb base 16)
+  no-digit h k l = kinds false false false (between-out 0x30 0x39 b h) (between-out 0x41 0x46 b k) (between-out 0x61 0x66 b l) ∙ go (eqb base 16)
     where
       go : (t : Bool) → cond t false false ≡ false
       go true = refl
@@ -66,16 +66,16 @@ module _ (base b : ℕ) where
 
 pub digits-ascii : (base : ℕ) → AsciiClass (digitIn base)
 digits-ascii base = record {
-  nul = no_digit base 0 (λ l. omega arith) (λ l. omega arith) (λ l. omega arith);
-  wide = λ c w. no_digit base c (λ l. omega arith) (λ l. omega arith) (λ l. omega arith);
+  nul = no-digit base 0 (λ l. omega arith) (λ l. omega arith) (λ l. omega arith);
+  wide = λ c w. no-digit base c (λ l. omega arith) (λ l. omega arith) (λ l. omega arith);
 }
 
 -- ---- a digit's value, or 16
 
 module _ (b : ℕ) where
-  pub of_low : 0x30 ≤ b → b ≤ 0x39 → b - 0x30 ≡ digitOf b
+  pub of-low : 0x30 ≤ b → b ≤ 0x39 → b - 0x30 ≡ digitOf b
   unfolding digitOf
-  of_low h k = rw (digit_low 16 b h k, le-leb b 0x39 k)
+  of-low h k = rw (digit-low 16 b h k, le-leb b 0x39 k)
 
   pub of-upper : 0x41 ≤ b → b ≤ 0x46 → b - 0x37 ≡ digitOf b
   unfolding digitOf
@@ -85,14 +85,14 @@ module _ (b : ℕ) where
   unfolding digitOf
   of-lower h k = rw (digit-lower 16 b h k, lt-leb b 0x39 (omega arith), lt-leb b 0x46 (omega arith))
 
-  pub of_none : (0x30 ≤ b → 0x39 < b) → (0x41 ≤ b → 0x46 < b) → (0x61 ≤ b → 0x66 < b) → 16 ≡ digitOf b
+  pub of-none : (0x30 ≤ b → 0x39 < b) → (0x41 ≤ b → 0x46 < b) → (0x61 ≤ b → 0x66 < b) → 16 ≡ digitOf b
   unfolding digitOf
-  of_none h k l = rw (no_digit 16 b h k l)
+  of-none h k l = rw (no-digit 16 b h k l)
 
   -- of a digit of either base, which is a hex digit, it is the digit's value
-  pub digit_value : (base : ℕ) → digitIn base b ≡ true → digitOf b ≡ digitValue b
+  pub digit-value : (base : ℕ) → digitIn base b ≡ true → digitOf b ≡ digitValue b
   unfolding digitOf digitIn isHexDigit
-  digit_value base e = go (eqb base 16) e
+  digit-value base e = go (eqb base 16) e
     where
       go : (t : Bool) → cond t (isHexDigit b) (isDigit b) ≡ true → cond (isHexDigit b) (digitValue b) 16 ≡ digitValue b
       go true e = rw e
@@ -116,25 +116,25 @@ module _ (base b : ℕ) (h : (base ≡ 10) ⊎ (base ≡ 16)) where
     where
       go : (x y z : Bool) → between 0x30 0x39 b ≡ x → between 0x41 0x46 b ≡ y → between 0x61 0x66 b ≡ z → ltb (digitOf b) base ≡ digitIn base b
       go true y z p q r =
-          let k = in_between 0x30 0x39 b p in
-          let v = of_low b k.0 k.1 in
+          let k = in-between 0x30 0x39 b p in
+          let v = of-low b k.0 k.1 in
           let m = base-lies base h in
-          lt-ltb (digitOf b) base (omega arith) ∙ sym (digit_low base b k.0 k.1)
+          lt-ltb (digitOf b) base (omega arith) ∙ sym (digit-low base b k.0 k.1)
       go false true z p q r =
-          let k = in_between 0x41 0x46 b q in
+          let k = in-between 0x41 0x46 b q in
           let v = of-upper b k.0 k.1 in
           letter-under (omega arith) (omega arith) (digit-upper base b k.0 k.1)
       go false false true p q r =
-          let k = in_between 0x61 0x66 b r in
+          let k = in-between 0x61 0x66 b r in
           let v = of-lower b k.0 k.1 in
           letter-under (omega arith) (omega arith) (digit-lower base b k.0 k.1)
       go false false false p q r =
           let x = not-between 0x30 0x39 b p in
           let y = not-between 0x41 0x46 b q in
           let z = not-between 0x61 0x66 b r in
-          let v = of_none b x y z in
+          let v = of-none b x y z in
           let m = base-lies base h in
-          le-ltb (digitOf b) base (omega arith) ∙ sym (no_digit base b x y z)
+          le-ltb (digitOf b) base (omega arith) ∙ sym (no-digit base b x y z)
 
   pub digit-taken : digitOf b < base → digitIn base b ≡ true
   digit-taken k = sym digit_under ∙ lt-ltb (digitOf b) base k
@@ -156,10 +156,10 @@ module _ (p : ℕ → Bool) where
   up-full zero t h = refl
   up-full (suc m) t h = absurd (omega arith)
 
-  read_none : (base v : ℕ) (t : Text) → headIs p t ≡ false → readDigits p base v t ≡ numeral v t
+  read-none : (base v : ℕ) (t : Text) → headIs p t ≡ false → readDigits p base v t ≡ numeral v t
   unfolding readDigits
-  read_none base v [] e = refl
-  read_none base v (c ∷ t) e = rw (e, readDigits)
+  read-none base v [] e = refl
+  read-none base v (c ∷ t) e = rw (e, readDigits)
 
 -- a class of ASCII characters, at a place of a script
 module _ (p : ℕ → Bool) (a : AsciiClass p) where
@@ -173,31 +173,31 @@ module _ (p : ℕ → Bool) (a : AsciiClass p) where
 
   module _ (s : List ℕ) (i : ℕ) where
     pub class-at : p (get_or s i 0) ≡ true → (i < length s) × (from s i ≡ record { code = get_or s i 0; at = i } ∷ from s (i + 1))
-    class-at e = let h = low (get_or s i 0) e in let k = inside s i h.0 in (k, at_ascii s i k h.1)
+    class-at e = let h = low (get_or s i 0) e in let k = inside s i h.0 in (k, at-ascii s i k h.1)
 
     pub up-stop : (m : ℕ) → p (get_or s i 0) ≡ false → afterUpTo p m (from s i) ≡ from s i
-    up-stop m e = none-up p m (from s i) (head_byte p a s i ∙ e)
+    up-stop m e = none-up p m (from s i) (head-byte p a s i ∙ e)
 
-    pub up_next : (m : ℕ) → 1 ≤ m → p (get_or s i 0) ≡ true → afterUpTo p (m - 1) (from s (i + 1)) ≡ afterUpTo p m (from s i)
+    pub up-next : (m : ℕ) → 1 ≤ m → p (get_or s i 0) ≡ true → afterUpTo p (m - 1) (from s (i + 1)) ≡ afterUpTo p m (from s i)
     unfolding afterUpTo
-    up_next zero h e = absurd (omega arith)
-    up_next (suc m) h e =
+    up-next zero h e = absurd (omega arith)
+    up-next (suc m) h e =
         let z : suc m - 1 ≡ m = omega arith in
         rw z (sym (ap (afterUpTo p (suc m)) (class-at e).1 ∙ rw (e, afterUpTo)))
 
-    pub read_next : (base v : ℕ) → p (get_or s i 0) ≡ true
+    pub read-next : (base v : ℕ) → p (get_or s i 0) ≡ true
         → readDigits p base (v * base + digitValue (get_or s i 0)) (from s (i + 1)) ≡ readDigits p base v (from s i)
     unfolding readDigits
-    read_next base v e = sym (ap (readDigits p base v) (class-at e).1 ∙ rw (e, readDigits))
+    read-next base v e = sym (ap (readDigits p base v) (class-at e).1 ∙ rw (e, readDigits))
 
     pub read-stop : (base v : ℕ) → p (get_or s i 0) ≡ false → numeral v (from s i) ≡ readDigits p base v (from s i)
-    read-stop base v e = sym (read_none p base v (from s i) (head_byte p a s i ∙ e))
+    read-stop base v e = sym (read-none p base v (from s i) (head-byte p a s i ∙ e))
 
 -- ---- values in any base and below any limit
 
 -- more digits make no smaller number
-no_less : (base v : ℕ) (ds : List ℕ) → 1 ≤ base → v ≤ valueAfter base v ds
-no_less base v ds h = let m = le-mul_of_pos_right v (one-le-pow (length ds) base h) in omega (arith, m)
+no-less : (base v : ℕ) (ds : List ℕ) → 1 ≤ base → v ≤ valueAfter base v ds
+no-less base v ds h = let m = le-mul_of_pos_right v (one-le-pow (length ds) base h) in omega (arith, m)
 
 -- where a byte is taken as a digit the script goes on
 pub digit-inside : (base : ℕ) → (base ≡ 10) ⊎ (base ≡ 16) → (s : List ℕ) (i d : ℕ) → d ≡ digitOf (get_or s i 0) → d < base → i < length s
@@ -205,83 +205,83 @@ digit-inside base h s i d e l = (class-at (digitIn base) (digits-ascii base) s i
 
 -- what a byte's value tells: below the base it is one digit more, else the digits end
 module _ (base : ℕ) (h : (base ≡ 10) ⊎ (base ≡ 16)) (s : List ℕ) (i d v : ℕ) (e : d ≡ digitOf (get_or s i 0)) where
-  pub one_more : d < base → readDigits (digitIn base) base (v * base + d) (from s (i + 1)) ≡ readDigits (digitIn base) base v (from s i)
-  one_more l =
+  pub one-more : d < base → readDigits (digitIn base) base (v * base + d) (from s (i + 1)) ≡ readDigits (digitIn base) base v (from s i)
+  one-more l =
       let p = digitIn base in
       let t = digit-taken base (get_or s i 0) h (omega arith) in
-      ap (λ k. readDigits p base (v * base + k) (from s (i + 1))) (e ∙ digit_value (get_or s i 0) base t) ∙ read_next p (digits-ascii base) s i base v t
+      ap (λ k. readDigits p base (v * base + k) (from s (i + 1))) (e ∙ digit-value (get_or s i 0) base t) ∙ read-next p (digits-ascii base) s i base v t
 
-  pub no_more : base ≤ d → numeral v (from s i) ≡ readDigits (digitIn base) base v (from s i)
-  no_more l = read-stop (digitIn base) (digits-ascii base) s i base v (digit-stops base (get_or s i 0) h (omega arith))
+  pub no-more : base ≤ d → numeral v (from s i) ≡ readDigits (digitIn base) base v (from s i)
+  no-more l = read-stop (digitIn base) (digits-ascii base) s i base v (digit-stops base (get_or s i 0) h (omega arith))
 
 pub base-some : (base : ℕ) → (base ≡ 10) ⊎ (base ≡ 16) → 1 ≤ base
 base-some base (inl e) = omega arith
 base-some base (inr e) = omega arith
 
-pub fitted : (w v : ℕ) → value.Of w ≡ value_of v → (w ≡ v) × (v ≤ 9223372036854775807)
-unfolding value_of
+pub fitted : (w v : ℕ) → value.Of w ≡ valueOf v → (w ≡ v) × (v ≤ 9223372036854775807)
+unfolding valueOf
 fitted w v e = go (leb v 9223372036854775807) refl e
   where
     go : (b : Bool) → leb v 9223372036854775807 ≡ b → value.Of w ≡ cond b (value.Of v) value.Over → (w ≡ v) × (v ≤ 9223372036854775807)
     go true q e = (cc, leb-true v 9223372036854775807 q)
-    go false q e = zero_one (cc)
+    go false q e = zero-one (cc)
 
-pub overs : (v : ℕ) → value.Over ≡ value_of v → 9223372036854775807 < v
-unfolding value_of
+pub overs : (v : ℕ) → value.Over ≡ valueOf v → 9223372036854775807 < v
+unfolding valueOf
 overs v e = go (leb v 9223372036854775807) refl e
   where
     go : (b : Bool) → leb v 9223372036854775807 ≡ b → value.Over ≡ cond b (value.Of v) value.Over → 9223372036854775807 < v
-    go true q e = zero_one (cc)
+    go true q e = zero-one (cc)
     go false q e = leb-false v 9223372036854775807 q
 
 -- ---- numbers
 
 -- `L` or `l` is one byte
-pub letter_hit : (b : ℕ) → (b ≡ 0x4C) ⊎ (b ≡ 0x6C) → one_of "Ll" b ≡ true
+pub letter_hit : (b : ℕ) → (b ≡ 0x4C) ⊎ (b ≡ 0x6C) → oneOf "Ll" b ≡ true
 letter_hit b h = hits (0x4C ∷ 0x6C ∷ []) b h
 
-pub letter_miss : (b : ℕ) → ((b ≡ 0x4C) ⊎ (b ≡ 0x6C) → ⊥) → one_of "Ll" b ≡ false
+pub letter_miss : (b : ℕ) → ((b ≡ 0x4C) ⊎ (b ≡ 0x6C) → ⊥) → oneOf "Ll" b ≡ false
 letter_miss b h = misses (0x4C ∷ 0x6C ∷ []) b h
 
 -- the number that begins at start, whose digits of the value v end at end
 module _ (s : List ℕ) (start end v : ℕ) (h : start ≤ length s) where
-  pub long-piece : v ≤ 9223372036854775807 → one_of "Ll" (get_or s end 0) ≡ true
-      → piece.Token (tk.LongLit v) (cursorAt (end + 1)) ≡ piece_of (length s) (number_of (from s start) (numeral v (from s end)))
-  unfolding piece_of
+  pub long-piece : v ≤ 9223372036854775807 → oneOf "Ll" (get_or s end 0) ≡ true
+      → piece.Token (tk.LongLit v) (cursorAt (end + 1)) ≡ pieceOf (length s) (numberOf (from s start) (numeral v (from s end)))
+  unfolding pieceOf
   long-piece k e =
-      let c = class-at (one_of "Ll") (ascii-list (codes "Ll") refl) s end e in
+      let c = class-at (oneOf "Ll") (ascii-list (codes "Ll") refl) s end e in
       let q : letterL (from s end) ≡ true = any-byte "Ll" refl s end ∙ e in
       let r : place (length s) (drop 1 (from s end)) ≡ end + 1 = ap (λ t. place (length s) (drop 1 t)) c.1 ∙ place-from s (end + 1) (omega arith) in
       rw (q, le-leb v 9223372036854775807 k, r)
 
-  pub int-piece : end ≤ length s → one_of "Ll" (get_or s end 0) ≡ false
-      → intOr start v (cursorAt end) ≡ piece_of (length s) (number_of (from s start) (numeral v (from s end)))
-  unfolding piece_of intOr
+  pub int-piece : end ≤ length s → oneOf "Ll" (get_or s end 0) ≡ false
+      → intOr start v (cursorAt end) ≡ pieceOf (length s) (numberOf (from s start) (numeral v (from s end)))
+  unfolding pieceOf intOr
   int-piece k e =
       let q : letterL (from s end) ≡ false = any-byte "Ll" refl s end ∙ e in
       rw q (go (leb v 2147483647))
     where
       go : (b : Bool) → cond b (piece.Token (tk.IntLit v) (cursorAt end)) (piece.Refused 6 start)
-          ≡ piece_of (length s) (cond b (Found.token (tk.IntLit v) (from s end)) (Found.stuck 6 (from s start)))
+          ≡ pieceOf (length s) (cond b (Found.token (tk.IntLit v) (from s end)) (Found.stuck 6 (from s start)))
       go true = rw (place-from s end k)
       go false = rw (place-from s start h)
 
 module _ (s : List ℕ) (start : ℕ) (h : start ≤ length s) where
-  over-piece : (v : ℕ) (r : Text) → 9223372036854775807 < v → piece.Refused 6 start ≡ piece_of (length s) (number_of (from s start) (numeral v r))
-  unfolding piece_of
+  over-piece : (v : ℕ) (r : Text) → 9223372036854775807 < v → piece.Refused 6 start ≡ pieceOf (length s) (numberOf (from s start) (numeral v r))
+  unfolding pieceOf
   over-piece v r k = rw (lt-leb v 9223372036854775807 k, lt-leb v 2147483647 (omega arith)) (go (letterL r))
     where
-      go : (b : Bool) → piece.Refused 6 start ≡ piece_of (length s) (cond b (Found.stuck 6 (from s start)) (Found.stuck 6 (from s start)))
+      go : (b : Bool) → piece.Refused 6 start ≡ pieceOf (length s) (cond b (Found.stuck 6 (from s start)) (Found.stuck 6 (from s start)))
       go true = rw (place-from s start h)
       go false = rw (place-from s start h)
 
   -- no digit that follows brings a value back below the limit
   pub over-read : (p : ℕ → Bool) (base : ℕ) → 1 ≤ base → (v : ℕ) (t : Text) → 9223372036854775807 < v
-      → piece.Refused 6 start ≡ piece_of (length s) (number_of (from s start) (readDigits p base v t))
+      → piece.Refused 6 start ≡ pieceOf (length s) (numberOf (from s start) (readDigits p base v t))
   over-read p base some v t k =
-      let l = no_less base v (digitsOf p t) some in
+      let l = no-less base v (digitsOf p t) some in
       over-piece (valueAfter base v (digitsOf p t)) (afterRun (headIs p) t) (omega arith)
-      ∙ ap (λ r. piece_of (length s) (number_of (from s start) r)) (sym (read_is p base v t))
+      ∙ ap (λ r. pieceOf (length s) (numberOf (from s start) r)) (sym (read-is p base v t))
 
 -- ---- `0x`
 
@@ -291,17 +291,17 @@ module _ (s : List ℕ) (i : ℕ) where
 
   zero-x : begins "0x" (from s i) ≡ zeroX
   unfolding begins
-  zero-x = two_bytes 0x30 0x78 (omega arith) (omega arith) (omega arith) (omega arith) s i
+  zero-x = two-bytes 0x30 0x78 (omega arith) (omega arith) (omega arith) (omega arith) s i
 
   past-zero-x : zeroX ≡ true → (i + 2 ≤ length s) × (drop 2 (from s i) ≡ from s (i + 2))
   past-zero-x e =
-      let b = and_both (eqb (get_or s i 0) 0x30) (eqb (get_or s (i + 1) 0) 0x78) e in
+      let b = and-both (eqb (get_or s i 0) 0x30) (eqb (get_or s (i + 1) 0) 0x78) e in
       let x = eqb-true (get_or s i 0) 0x30 b.0 in
       let y = eqb-true (get_or s (i + 1) 0) 0x78 b.1 in
       let n = inside s i (omega arith) in
       let m = inside s (i + 1) (omega arith) in
       let z : i + 1 + 1 ≡ i + 2 = omega arith in
-      (omega arith, ap (drop 2) (at_ascii s i n (omega arith)) ∙ past s (i + 1) m (omega arith) ∙ ap (from s) z)
+      (omega arith, ap (drop 2) (at-ascii s i n (omega arith)) ∙ past s (i + 1) m (omega arith) ∙ ap (from s) z)
 
   -- `0x` and a hex digit, by their bytes
   pub hex_bytes : hexAhead (from s i) ≡ eqb (get_or s i 0) 0x30 && eqb (get_or s (i + 1) 0) 0x78 && digitIn 16 (get_or s (i + 2) 0)
@@ -309,16 +309,16 @@ module _ (s : List ℕ) (i : ℕ) where
   hex_bytes = go zeroX refl
     where
       go : (t : Bool) → zeroX ≡ t → begins "0x" (from s i) && hexDigit (drop 2 (from s i)) ≡ zeroX && digitIn 16 (get_or s (i + 2) 0)
-      go true e = rw (zero-x, e) (ap (headIs (digitIn 16)) (past-zero-x e).1 ∙ head_byte (digitIn 16) (digits-ascii 16) s (i + 2))
+      go true e = rw (zero-x, e) (ap (headIs (digitIn 16)) (past-zero-x e).1 ∙ head-byte (digitIn 16) (digits-ascii 16) s (i + 2))
       go false e = rw (zero-x, e)
 
   pub hex-text : hexAhead (from s i) ≡ true → (i + 2 ≤ length s) × (drop 2 (from s i) ≡ from s (i + 2))
-  hex-text e = past-zero-x (sym zero-x ∙ (and_both (begins "0x" (from s i)) (hexDigit (drop 2 (from s i))) e).0)
+  hex-text e = past-zero-x (sym zero-x ∙ (and-both (begins "0x" (from s i)) (hexDigit (drop 2 (from s i))) e).0)
 
-  pub hex-number : hexAhead (from s i) ≡ true → number_of (from s i) (readDigits (digitIn 16) 16 0 (from s (i + 2))) ≡ scanNumber (from s i)
+  pub hex-number : hexAhead (from s i) ≡ true → numberOf (from s i) (readDigits (digitIn 16) 16 0 (from s (i + 2))) ≡ scanNumber (from s i)
   unfolding scanNumber digitIn
-  hex-number e = ap (λ t. number_of (from s i) (readDigits (digitIn 16) 16 0 t)) (sym (hex-text e).1) ∙ sym (rw e)
+  hex-number e = ap (λ t. numberOf (from s i) (readDigits (digitIn 16) 16 0 t)) (sym (hex-text e).1) ∙ sym (rw e)
 
-  pub dec-number : hexAhead (from s i) ≡ false → number_of (from s i) (readDigits (digitIn 10) 10 0 (from s i)) ≡ scanNumber (from s i)
+  pub dec-number : hexAhead (from s i) ≡ false → numberOf (from s i) (readDigits (digitIn 10) 10 0 (from s i)) ≡ scanNumber (from s i)
   unfolding scanNumber digitIn
   dec-number e = sym (rw e)

@@ -9,10 +9,10 @@ use lib.Seq.{get_or-drop, take-add, drop-drop, drop-cons}
 use native.Mathlib.Nat.{add-zero, mod-eq_of_lt}
 use native.Mathlib.Omega.{arith}
 use Rattle.words.specs.Joins.{Bytes}
-use Rattle.words.specs.Words.{le2, le4, le8, one_at, twoAt, fourAt, eightAt}
-use Rattle.words.proofs.Joins.{drop-bytes, two_from, four-from, eight-from, two-drop, four-drop, two-le2, four-le4, eight-le8, le4-four, le8-eight, Width, twos, fours}
-use Rattle.token.specs.paper.Records.{bit, headLength, fields_of}
-use Rattle.token.specs.code.Form.{Known, byForm, valuesAt, held_at, storedOf, Storable, Whole, RecordForm}
+use Rattle.words.specs.Words.{le2, le4, le8, oneAt, twoAt, fourAt, eightAt}
+use Rattle.words.proofs.Joins.{drop-bytes, two-from, four-from, eight-from, two-drop, four-drop, two-le2, four-le4, eight-le8, le4-four, le8-eight, Width, twos, fours}
+use Rattle.token.specs.paper.Records.{bit, headLength, fieldsOf}
+use Rattle.token.specs.code.Form.{Known, byForm, valuesAt, heldAt, storedOf, Storable, Whole, RecordForm}
 use Rattle.token.specs.declared.kinds.Form.{Form}
 use Rattle.token.proofs.form.Laws.{known-least, known-most, low-four, take-one, take-four, take-eight}
 
@@ -21,26 +21,26 @@ unfolding valuesAt
 values-from l i j size = simp (four-from, eight-from, get_or-drop)
 
 -- the record at a place is the first of what stands from there on.
-pub held_on : (bytes : List ℕ) (at : ℕ) → held_at bytes at ≡ held_at (drop at bytes) 0
-unfolding held_at
-held_on bytes at = simp (values-from, two_from, four-from, get_or-drop, add-zero)
+pub held-on : (bytes : List ℕ) (at : ℕ) → heldAt bytes at ≡ heldAt (drop at bytes) 0
+unfolding heldAt
+held-on bytes at = simp (values-from, two-from, four-from, get_or-drop, add-zero)
 
 -- ---- what is stored is read back
 
 values-back : {n : ℕ} (v : ℕ) (rest : List ℕ) → Known n → v < 256 ^ (n - headLength) → valuesAt (take (n - headLength) (le8 v) ++ rest) 0 n ≡ v
 unfolding valuesAt le8 le4
 values-back v rest Known.bare h = omega arith
-values-back v rest Known.line h = ap (λ l. one_at (l ++ rest) 0) (take-one v) ∙ mod-eq_of_lt h
+values-back v rest Known.line h = ap (λ l. oneAt (l ++ rest) 0) (take-one v) ∙ mod-eq_of_lt h
 values-back v rest Known.int h = ap (λ l. fourAt (l ++ rest) 0) (take-four v) ∙ four-le4 (v % 4294967296) rest (omega arith) ∙ omega arith
 values-back v rest Known.long h = ap (λ l. eightAt (l ++ rest) 0) (take-eight v) ∙ eight-le8 v rest h
 values-back v rest Known.str h = ap (λ l. eightAt (l ++ rest) 0) (take-eight v) ∙ eight-le8 v rest h
 
 -- a record that is stored, whatever follows it, is read as it was.
-pub read_back : (f : Form) (start end : ℕ) (cut : Bool) (rest : List ℕ) → Storable f start end
-    → held_at (byForm f start end cut ++ rest) 0
+pub read-back : (f : Form) (start end : ℕ) (cut : Bool) (rest : List ℕ) → Storable f start end
+    → heldAt (byForm f start end cut ++ rest) 0
     ≡ record { number = f.number; length = f.length; values = f.values; start = start; end = end; cut = bit cut }
-unfolding held_at byForm fields_of le2 le4
-read_back f start end cut rest h =
+unfolding heldAt byForm fieldsOf le2 le4
+read-back f start end cut rest h =
     let l = byForm f start end cut ++ rest in
     let size : twoAt l 0 ≡ f.length = two-le2 f.length _ (omega (arith, known-most h.known)) in
     let number : twoAt l 2 ≡ f.number = two-drop l 2 ∙ two-le2 f.number _ h.number in
@@ -75,9 +75,9 @@ module _ (l : List ℕ) (h : Bytes l) where
   number-again write read n m w i k =
       ap write (sym (w.from l i 0 ∙ ap (read l) (add-zero i))) ∙ w.forth (drop i l) (drop-bytes l i h) (rw length-drop (omega arith))
 
-  fields-again : (cut : Bool) → headLength ≤ length l → bit cut ≡ one_at l 12
-      → fields_of (twoAt l 0) (twoAt l 2) (fourAt l 4) (fourAt l 8) cut ≡ take headLength l
-  unfolding fields_of
+  fields-again : (cut : Bool) → headLength ≤ length l → bit cut ≡ oneAt l 12
+      → fieldsOf (twoAt l 0) (twoAt l 2) (fourAt l 4) (fourAt l 8) cut ≡ take headLength l
+  unfolding fieldsOf
   fields-again cut k e =
       let c : bit cut ∷ [] ≡ take 1 (drop 12 l) = rw (e, drop-cons l 12 0 k) in
       joined l _ _ 0 2 11 (number-again _ _ _ _ twos 0 (omega arith))
@@ -86,13 +86,13 @@ module _ (l : List ℕ) (h : Bytes l) where
       (joined l _ _ 8 4 1 (number-again _ _ _ _ fours 8 (omega arith)) c)))
 
 -- of a whole record's bytes nothing is lost, since what is read from them is stored as the same bytes.
-pub stored-again : (l : List ℕ) → Whole l → storedOf (held_at l 0) ≡ take (held_at l 0).length l
-unfolding held_at byForm
+pub stored-again : (l : List ℕ) → Whole l → storedOf (heldAt l 0) ≡ take (heldAt l 0).length l
+unfolding heldAt byForm
 stored-again l w =
     let n = twoAt l 0 in
     let k = known-least w.known in
     let room = w.room in
-    let fields = fields-again l w.bytes (eqb (one_at l 12) 1) (omega arith) (bit-again (one_at l 12) w.cut) in
+    let fields = fields-again l w.bytes (eqb (oneAt l 12) 1) (omega arith) (bit-again (oneAt l 12) w.cut) in
     let past : n ≤ headLength + length (drop headLength l) = rw length-drop (omega arith) in
     let values = values-again (drop headLength l) w.known (drop-bytes l headLength w.bytes) past in
     let all : headLength + (n - headLength) ≡ n = omega arith in
@@ -100,6 +100,6 @@ stored-again l w =
     ∙ ap (λ m. take m l) all
 
 pub record-form : RecordForm
-record-form = record { held_on = held_on; read_back = read_back; stored-again = stored-again }
+record-form = record { held-on = held-on; read-back = read-back; stored-again = stored-again }
 
 pub ruleset reads = (record-form)

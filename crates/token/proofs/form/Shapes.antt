@@ -8,15 +8,15 @@ use lib.Seq.{sets}
 use lib.Dec.{leb}
 use native.Mathlib.Omega.{arith}
 use Rattle.token.specs.paper.Kinds.{kindNumber}
-use Rattle.token.specs.paper.Records.{bit, values_of, values, headLength, intLength, longLength, strLength, lineLength, recordLength, fields_of}
-use Rattle.token.specs.code.Form.{joined, form_of, plainForm, headNumber, headBytes, byForm}
+use Rattle.token.specs.paper.Records.{bit, valuesOf, values, headLength, intLength, longLength, strLength, lineLength, recordLength, fieldsOf}
+use Rattle.token.specs.code.Form.{joined, formOf, plainForm, headNumber, headBytes, byForm}
 use Rattle.token.specs.code.Records.{storedIf}
 use Rattle.words.specs.Words.{le4, le8}
 use Rattle.words.proofs.Stores.{put-fours}
 use Rattle.token.specs.declared.kinds.TokenKind.{TokenKind}
 use Rattle.token.specs.declared.kinds.TokenKind.TheVariants as tk
 use Rattle.token.proofs.form.Stores.{head-fields, length-bytes}
-use Rattle.token.proofs.form.Laws.{length-form, form-known, form-length, form-values, low-four, put_both}
+use Rattle.token.proofs.form.Laws.{length-form, form-known, form-length, form-values, low-four, put-both}
 
 -- ---- lengths
 
@@ -37,8 +37,8 @@ unfolding recordLength values le8 le4
 long-size v = refl
 
 -- a form by its parts
-pub form-by : (k : TokenKind) → form_of k ≡ record { number = kindNumber k; length = recordLength k; values = joined (values_of k) }
-unfolding form_of
+pub form-by : (k : TokenKind) → formOf k ≡ record { number = kindNumber k; length = recordLength k; values = joined (valuesOf k) }
+unfolding formOf
 form-by k = refl
 
 pub ruleset forms = (form-by, line-size, str-size, int-size, long-size)
@@ -46,14 +46,14 @@ pub ruleset forms = (form-by, line-size, str-size, int-size, long-size)
 -- ---- any shape
 
 module _ (k : TokenKind) (start end : ℕ) where
-  pub length-shape : length (byForm (form_of k) start end false) ≡ recordLength k
-  length-shape = length-form (form_of k) start end false (form-known k) ∙ form-length k
+  pub length-shape : length (byForm (formOf k) start end false) ≡ recordLength k
+  length-shape = length-form (formOf k) start end false (form-known k) ∙ form-length k
 
   shape-in : (out : List ℕ) (w : ℕ)
       → sets (sets out w (headBytes (headNumber (recordLength k) (kindNumber k)) start end false)) (w + headLength) (values k)
-      ≡ sets out w (byForm (form_of k) start end false)
-  unfolding form_of
-  shape-in out w = ap (sets _ (w + headLength)) (sym (form-values k)) ∙ put_both out w _ start end false (form_of k) (form-known k) refl
+      ≡ sets out w (byForm (formOf k) start end false)
+  unfolding formOf
+  shape-in out w = ap (sets _ (w + headLength)) (sym (form-values k)) ∙ put-both out w _ start end false (formOf k) (form-known k) refl
 
 -- ---- each shape
 
@@ -63,22 +63,22 @@ module _ (out : List ℕ) (w start end : ℕ) where
   headed n k = sets out w (headBytes (headNumber n (kindNumber k)) start end false)
 
   pub line-in : (mark : Bool) → set (headed lineLength (tk.Newline mark)) (w + headLength) (bit mark)
-      ≡ sets out w (byForm (form_of (tk.Newline mark)) start end false)
+      ≡ sets out w (byForm (formOf (tk.Newline mark)) start end false)
   unfolding recordLength values
   line-in mark = shape-in (tk.Newline mark) start end out w
 
   pub str-in : (a z : ℕ) → sets (sets (headed strLength (tk.Str a z)) (w + headLength) (le4 a)) (w + headLength + 4) (le4 z)
-      ≡ sets out w (byForm (form_of (tk.Str a z)) start end false)
+      ≡ sets out w (byForm (formOf (tk.Str a z)) start end false)
   unfolding recordLength values le4
   str-in a z = put-fours (headed strLength (tk.Str a z)) _ _ (w + headLength) a z refl refl ∙ shape-in (tk.Str a z) start end out w
 
   pub int-in : (v : ℕ) → sets (headed intLength (tk.IntLit v)) (w + headLength) (le4 (v % 4294967296))
-      ≡ sets out w (byForm (form_of (tk.IntLit v)) start end false)
+      ≡ sets out w (byForm (formOf (tk.IntLit v)) start end false)
   unfolding recordLength values le4
   int-in v = ap (sets _ (w + headLength)) (low-four v) ∙ shape-in (tk.IntLit v) start end out w
 
   pub long-in : (v : ℕ) → sets (headed longLength (tk.LongLit v)) (w + headLength) (le8 v)
-      ≡ sets out w (byForm (form_of (tk.LongLit v)) start end false)
+      ≡ sets out w (byForm (formOf (tk.LongLit v)) start end false)
   unfolding recordLength values le8 le4
   long-in v = shape-in (tk.LongLit v) start end out w
 
@@ -87,7 +87,7 @@ module _ (out : List ℕ) (w start end : ℕ) where
 pub head_plain : (h number start end : ℕ) → h ≡ headNumber headLength number → headBytes h start end false ≡ byForm (plainForm number) start end false
 unfolding byForm
 head_plain h number start end e =
-    head-fields h headLength number start end false (omega arith) e ∙ sym (append-nil (fields_of headLength number start end false))
+    head-fields h headLength number start end false (omega arith) e ∙ sym (append-nil (fieldsOf headLength number start end false))
 
 -- what fits is stored, and nothing else
 pub stored-if : (out : List ℕ) (w : ℕ) (bytes : List ℕ) → storedIf out w bytes ≡ cond (leb (w + length bytes) (length out)) (sets out w bytes) out

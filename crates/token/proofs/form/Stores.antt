@@ -9,7 +9,7 @@ use lib.Dec.{leb}
 use native.Mathlib.Omega.{arith}
 use borrow.Author.Tests.{le-leb, lt-leb}
 use Rattle.token.specs.paper.Kinds.{Token}
-use Rattle.token.specs.paper.Records.{bit, values, headLength, recordLength, fields_of, head_of, recordOf}
+use Rattle.token.specs.paper.Records.{bit, values, headLength, recordLength, fieldsOf, headOf, recordOf}
 use Rattle.words.specs.Words.{le2, le4}
 use Rattle.token.specs.code.Records.{storedIf}
 use Rattle.token.specs.code.Form.{headNumber, headBytes}
@@ -18,21 +18,21 @@ use Rattle.words.proofs.Stores.{after, length-four}
 
 -- ---- lengths
 
-pub length_fields : (x k a e : ℕ) (b : Bool) → length (fields_of x k a e b) ≡ headLength
-unfolding fields_of le2 le4
-length_fields x k a e b = refl
+pub length-fields : (x k a e : ℕ) (b : Bool) → length (fieldsOf x k a e b) ≡ headLength
+unfolding fieldsOf le2 le4
+length-fields x k a e b = refl
 
 pub length-bytes : (h a e : ℕ) (b : Bool) → length (headBytes h a e b) ≡ headLength
 unfolding headBytes le4
 length-bytes h a e b = refl
 
-pub length-head : (t : Token) → length (head_of t) ≡ headLength
-unfolding head_of
-length-head t = length_fields _ _ _ _ _
+pub length-head : (t : Token) → length (headOf t) ≡ headLength
+unfolding headOf
+length-head t = length-fields _ _ _ _ _
 
 pub length-record : (t : Token) → length (recordOf t) ≡ recordLength t.kind
 unfolding recordOf recordLength
-length-record t = length-append (head_of t) (values t.kind) ∙ ap (λ n. n + length (values t.kind)) (length-head t)
+length-record t = length-append (headOf t) (values t.kind) ∙ ap (λ n. n + length (values t.kind)) (length-head t)
 
 -- ---- heads
 
@@ -50,8 +50,8 @@ put_head l w h a e b =
     ∙ after (le4 h) (le4 a ++ end) l _ w (w + 4) refl (omega arith)
 
 -- length and kind as one number are stored as both are
-pub head-fields : (h l k start end : ℕ) (cut : Bool) → l < 65536 → h ≡ headNumber l k → headBytes h start end cut ≡ fields_of l k start end cut
-unfolding headBytes fields_of
+pub head-fields : (h l k start end : ℕ) (cut : Bool) → l < 65536 → h ≡ headNumber l k → headBytes h start end cut ≡ fieldsOf l k start end cut
+unfolding headBytes fieldsOf
 head-fields h l k start end cut b e =
     let rest = le4 start ++ (le4 end ++ (bit cut ∷ [])) in
     let p : h % 65536 ≡ l = omega arith in

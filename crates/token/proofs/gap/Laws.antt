@@ -11,19 +11,19 @@ use borrow.Author.Tests.{ltb-true, ltb-false, leb-true, le-leb, lt-leb, eqb-true
 use Rattle.chars.specs.paper.Text.{Char, Text, from}
 use Rattle.chars.specs.computed.Runs.{afterRun}
 use Rattle.chars.specs.code.Runs.{AllIn, Within, NeitherOf, Neither}
-use Rattle.chars.proofs.Bools.{and_both}
+use Rattle.chars.proofs.Bools.{and-both}
 use Rattle.chars.proofs.theorems.Promises.{text-laws}
 use Rattle.token.proofs.Loops.{steps-keep}
 use Rattle.token.proofs.cursor.Wide.{byte-by-byte}
-use Rattle.token.specs.paper.Tests.{starts_with, begins, endsLine, endOfLine, opensLine, opensBlock, closesBlock}
+use Rattle.token.specs.paper.Tests.{startsWith, begins, endsLine, endOfLine, opensLine, opensBlock, closesBlock}
 use Rattle.token.specs.computed.Answer.{close}
 use Rattle.token.specs.code.Cursor.{cursorAt}
-use Rattle.token.specs.code.Gap.{closedOf, opens_at, fourOpen, nestAt, fourMore, fourPassed, openings}
+use Rattle.token.specs.code.Gap.{closedOf, opensAt, fourOpen, nestAt, fourMore, fourPassed, openings}
 use Rattle.token.specs.declared.gap.Closed.TheVariants as closed
 use Rattle.token.specs.declared.gap.Nest.{Nest}
-use Rattle.token.proofs.cursor.Bytes.{two_bytes, one_byte, inside}
-use Rattle.token.proofs.cursor.Laws.{run_past, run-here, run_none, all_past}
-open text-laws use {at-char, at_ascii, at-end, place-from}
+use Rattle.token.proofs.cursor.Bytes.{two-bytes, one-byte, inside}
+use Rattle.token.proofs.cursor.Laws.{run-past, run-here, run-none, all-past}
+open text-laws use {at-char, at-ascii, at-end, place-from}
 
 -- ---- two ASCII characters at a place
 
@@ -31,24 +31,24 @@ pub record Pair (s : List ℕ) (i x y : ℕ) : Type 0 where
   pub text : from s i ≡ record { code = x; at = i } ∷ record { code = y; at = i + 1 } ∷ from s (i + 2)
   pub within : i + 2 ≤ length s
 
-pub pair_of : (s : List ℕ) (i x y : ℕ) → 1 ≤ x → x < 0x80 → 1 ≤ y → y < 0x80 → get_or s i 0 ≡ x → get_or s (i + 1) 0 ≡ y → Pair s i x y
-pair_of s i x y a b c d p q =
+pub pair-of : (s : List ℕ) (i x y : ℕ) → 1 ≤ x → x < 0x80 → 1 ≤ y → y < 0x80 → get_or s i 0 ≡ x → get_or s (i + 1) 0 ≡ y → Pair s i x y
+pair-of s i x y a b c d p q =
     let g = inside s i (omega arith) in
     let h = inside s (i + 1) (omega arith) in
     let m : i + 1 + 1 ≡ i + 2 = omega arith in
     record {
       text =
-          at_ascii s i g (omega arith)
+          at-ascii s i g (omega arith)
           ∙ ap (λ z. record { code = z; at = i } ∷ from s (i + 1)) p
           ∙ ap (λ u. record { code = x; at = i } ∷ u)
-          (at_ascii s (i + 1) h (omega arith) ∙ ap (λ z. record { code = z; at = i + 1 } ∷ from s (i + 1 + 1)) q ∙ ap (λ j. record { code = y; at = i + 1 } ∷ from s j) m);
+          (at-ascii s (i + 1) h (omega arith) ∙ ap (λ z. record { code = z; at = i + 1 } ∷ from s (i + 1 + 1)) q ∙ ap (λ j. record { code = y; at = i + 1 } ∷ from s j) m);
       within = omega arith;
     }
 
 pub pair-at : (s : List ℕ) (i x y : ℕ) → 1 ≤ x → x < 0x80 → 1 ≤ y → y < 0x80 → eqb (get_or s i 0) x && eqb (get_or s (i + 1) 0) y ≡ true → Pair s i x y
 pair-at s i x y a b c d e =
-    let k = and_both (eqb (get_or s i 0) x) (eqb (get_or s (i + 1) 0) y) e in
-    pair_of s i x y a b c d (eqb-true (get_or s i 0) x k.0) (eqb-true (get_or s (i + 1) 0) y k.1)
+    let k = and-both (eqb (get_or s i 0) x) (eqb (get_or s (i + 1) 0) y) e in
+    pair-of s i x y a b c d (eqb-true (get_or s i 0) x k.0) (eqb-true (get_or s (i + 1) 0) y k.1)
 
 pub pair-past : {s : List ℕ} {i x y : ℕ} → Pair s i x y → from s (i + 2) ≡ drop 2 (from s i)
 pair-past h = sym (ap (drop 2) h.text)
@@ -56,15 +56,15 @@ pair-past h = sym (ap (drop 2) h.text)
 -- the three openings and closings
 pub opens-line : (s : List ℕ) (i : ℕ) → opensLine (from s i) ≡ eqb (get_or s i 0) 0x2F && eqb (get_or s (i + 1) 0) 0x2F
 unfolding begins
-opens-line s i = two_bytes 0x2F 0x2F (omega arith) (omega arith) (omega arith) (omega arith) s i
+opens-line s i = two-bytes 0x2F 0x2F (omega arith) (omega arith) (omega arith) (omega arith) s i
 
 pub opens-block : (s : List ℕ) (i : ℕ) → opensBlock (from s i) ≡ eqb (get_or s i 0) 0x2F && eqb (get_or s (i + 1) 0) 0x2A
 unfolding begins
-opens-block s i = two_bytes 0x2F 0x2A (omega arith) (omega arith) (omega arith) (omega arith) s i
+opens-block s i = two-bytes 0x2F 0x2A (omega arith) (omega arith) (omega arith) (omega arith) s i
 
 pub closes-block : (s : List ℕ) (i : ℕ) → closesBlock (from s i) ≡ eqb (get_or s i 0) 0x2A && eqb (get_or s (i + 1) 0) 0x2F
 unfolding begins
-closes-block s i = two_bytes 0x2A 0x2F (omega arith) (omega arith) (omega arith) (omega arith) s i
+closes-block s i = two-bytes 0x2A 0x2F (omega arith) (omega arith) (omega arith) (omega arith) s i
 
 -- the comment that begins at i
 pub line-opens : (s : List ℕ) (i : ℕ) → opensLine (from s i) ≡ true → Pair s i 0x2F 0x2F
@@ -77,8 +77,8 @@ block-opens s i e = pair-at s i 0x2F 0x2A (omega arith) (omega arith) (omega ari
 pub ends-line : (s : List ℕ) (i : ℕ) → endsLine (from s i) ≡ eqb (get_or s i 0) 0x0A || (eqb (get_or s i 0) 0x0D && eqb (get_or s (i + 1) 0) 0x0A)
 unfolding begins
 ends-line s i =
-    ap (λ b. b || starts_with (0x0D ∷ 0x0A ∷ []) (from s i)) (one_byte 0x0A (omega arith) (omega arith) s i)
-    ∙ ap (λ b. eqb (get_or s i 0) 0x0A || b) (two_bytes 0x0D 0x0A (omega arith) (omega arith) (omega arith) (omega arith) s i)
+    ap (λ b. b || startsWith (0x0D ∷ 0x0A ∷ []) (from s i)) (one-byte 0x0A (omega arith) (omega arith) s i)
+    ∙ ap (λ b. eqb (get_or s i 0) 0x0A || b) (two-bytes 0x0D 0x0A (omega arith) (omega arith) (omega arith) (omega arith) s i)
 
 -- ---- characters past ASCII open and close nothing
 
@@ -111,15 +111,15 @@ module _ (s : List ℕ) (i : ℕ) (f : Text) where
   pub line-stop : i < length s → endsLine (from s i) ≡ true → afterRun inLine (from s i) ≡ f → from s i ≡ f
   line-stop h e q = let t = at-char s i h in run-here inLine s i f _ _ t (ap inLine t ∙ ap not (sym (ap endsLine t) ∙ e)) q
 
-  pub line_on : i < length s → endsLine (from s i) ≡ false → afterRun inLine (from s i) ≡ f → afterRun inLine (from s (i + 1)) ≡ f
-  line_on h e q = go (ltb (get_or s i 0) 0x80) refl
+  pub line-on : i < length s → endsLine (from s i) ≡ false → afterRun inLine (from s i) ≡ f → afterRun inLine (from s (i + 1)) ≡ f
+  line-on h e q = go (ltb (get_or s i 0) 0x80) refl
     where
       go : (b : Bool) → ltb (get_or s i 0) 0x80 ≡ b → afterRun inLine (from s (i + 1)) ≡ f
-      go true l = let t = at_ascii s i h (ltb-true (get_or s i 0) 0x80 l) in run_past inLine s i f _ _ t (ap inLine t ∙ ap not (sym (ap endsLine t) ∙ e)) q
+      go true l = let t = at-ascii s i h (ltb-true (get_or s i 0) 0x80 l) in run-past inLine s i f _ _ t (ap inLine t ∙ ap not (sym (ap endsLine t) ∙ e)) q
       go false l = byte-by-byte s (afterRun inLine) wide-run i h (ltb-false (get_or s i 0) 0x80 l) ∙ q
 
   pub line-end : length s ≤ i → afterRun inLine (from s i) ≡ f → from s i ≡ f
-  line-end h q = run_none inLine s i f h q
+  line-end h q = run-none inLine s i f h q
 
 -- no byte above both line-end bytes begins a line end
 pub above-line : (s : List ℕ) (i : ℕ) → 0x0D < get_or s i 0 → endsLine (from s i) ≡ false
@@ -127,7 +127,7 @@ above-line s i h = ends-line s i ∙ simp (ne_eqb (get_or s i 0) 0x0A (λ e. ome
 
 -- such bytes that are passed together
 pub line-past : (s : List ℕ) (i r : ℕ) → i ≤ r → r ≤ length s → AllIn 0x0E 0xFF s i r → afterRun inLine (from s r) ≡ afterRun inLine (from s i)
-line-past s = all_past (afterRun inLine) s (Within 0x0E 0xFF) (λ k h a. line_on s k _ h (above-line s k (omega arith)) refl)
+line-past s = all-past (afterRun inLine) s (Within 0x0E 0xFF) (λ k h a. line-on s k _ h (above-line s k (omega arith)) refl)
 
 -- ---- block comments
 
@@ -148,9 +148,9 @@ module _ (s : List ℕ) (i : ℕ) (f : Option Text) where
   unfolding close begins
   block-less d h q = sym (ap (close (suc d) 0) h.text) ∙ q
 
-  pub block_more : (d : ℕ) → Pair s i 0x2F 0x2A → close d 0 (from s i) ≡ f → close (d + 1) 0 (from s (i + 2)) ≡ f
+  pub block-more : (d : ℕ) → Pair s i 0x2F 0x2A → close d 0 (from s i) ≡ f → close (d + 1) 0 (from s (i + 2)) ≡ f
   unfolding close begins
-  block_more d h q = let m : d + 1 ≡ suc d = omega arith in ap (λ e. close e 0 (from s (i + 2))) m ∙ sym (ap (close d 0) h.text) ∙ q
+  block-more d h q = let m : d + 1 ≡ suc d = omega arith in ap (λ e. close e 0 (from s (i + 2))) m ∙ sym (ap (close d 0) h.text) ∙ q
 
   not-both : (x y : ℕ) → (get_or s i 0 ≡ x → get_or s (i + 1) 0 ≡ y → ⊥) → eqb (get_or s i 0) x && eqb (get_or s (i + 1) 0) y ≡ false
   not-both x y n = go (eqb (get_or s i 0) x) refl
@@ -160,19 +160,19 @@ module _ (s : List ℕ) (i : ℕ) (f : Option Text) where
       go false e = refl
 
   -- one byte is passed where neither mark stands
-  block_on : (d : ℕ) → i < length s → (get_or s i 0 ≡ 0x2A → get_or s (i + 1) 0 ≡ 0x2F → ⊥) → (get_or s i 0 ≡ 0x2F → get_or s (i + 1) 0 ≡ 0x2A → ⊥)
+  block-on : (d : ℕ) → i < length s → (get_or s i 0 ≡ 0x2A → get_or s (i + 1) 0 ≡ 0x2F → ⊥) → (get_or s i 0 ≡ 0x2F → get_or s (i + 1) 0 ≡ 0x2A → ⊥)
       → close d 0 (from s i) ≡ f → close d 0 (from s (i + 1)) ≡ f
-  block_on d h m n q = go (ltb (get_or s i 0) 0x80) refl (closes-block s i ∙ not-both 0x2A 0x2F m) (opens-block s i ∙ not-both 0x2F 0x2A n)
+  block-on d h m n q = go (ltb (get_or s i 0) 0x80) refl (closes-block s i ∙ not-both 0x2A 0x2F m) (opens-block s i ∙ not-both 0x2F 0x2A n)
     where
       go : (b : Bool) → ltb (get_or s i 0) 0x80 ≡ b → closesBlock (from s i) ≡ false → opensBlock (from s i) ≡ false → close d 0 (from s (i + 1)) ≡ f
       go true l a b =
-          let t = at_ascii s i h (ltb-true (get_or s i 0) 0x80 l) in
+          let t = at-ascii s i h (ltb-true (get_or s i 0) 0x80 l) in
           sym (ap (close d 0) t ∙ pass d _ _ (sym (ap closesBlock t) ∙ a) (sym (ap opensBlock t) ∙ b)) ∙ q
       go false l a b = byte-by-byte s (close d 0) (λ c u w. pass d c u (wide-closes c u w) (wide-opens c u w)) i h (ltb-false (get_or s i 0) 0x80 l) ∙ q
 
-  block_none : (d : ℕ) → length s ≤ i → close d 0 (from s i) ≡ f → closed.Open ≡ closedOf (length s) f
+  block-none : (d : ℕ) → length s ≤ i → close d 0 (from s i) ≡ f → closed.Open ≡ closedOf (length s) f
   unfolding close closedOf
-  block_none d h q = ap (closedOf (length s)) (sym (ap (close d 0) (at-end s i h)) ∙ q)
+  block-none d h q = ap (closedOf (length s)) (sym (ap (close d 0) (at-end s i h)) ∙ q)
 
 -- where at most one byte is left, nothing closes
 pub block-end : (s : List ℕ) (i : ℕ) (f : Option Text) (d : ℕ) → length s ≤ i + 1 → close d 0 (from s i) ≡ f → closed.Open ≡ closedOf (length s) f
@@ -182,23 +182,23 @@ block-end s i f d h q = go (ltb i (length s)) refl
     z = get_or-eq_default s 0 h
 
     go : (b : Bool) → ltb i (length s) ≡ b → closed.Open ≡ closedOf (length s) f
-    go true e = block_none s (i + 1) f d h (block_on s i f d (ltb-true i (length s) e) (λ m n. absurd (omega (arith, z))) (λ m n. absurd (omega (arith, z))) q)
-    go false e = block_none s i f d (ltb-false i (length s) e) q
+    go true e = block-none s (i + 1) f d h (block-on s i f d (ltb-true i (length s) e) (λ m n. absurd (omega (arith, z))) (λ m n. absurd (omega (arith, z))) q)
+    go false e = block-none s i f d (ltb-false i (length s) e) q
 
 -- two bytes are known from the number that they make
 module _ (s : List ℕ) (i : ℕ) {p : ℕ} (l : get_or s i 0 < 256) (e : p ≡ get_or s i 0 + 256 * get_or s (i + 1) 0) where
   pub slash-star : p ≡ 0x2A2F → Pair s i 0x2F 0x2A
-  slash-star q = pair_of s i 0x2F 0x2A (omega arith) (omega arith) (omega arith) (omega arith) (omega arith) (omega arith)
+  slash-star q = pair-of s i 0x2F 0x2A (omega arith) (omega arith) (omega arith) (omega arith) (omega arith) (omega arith)
 
   pub star-slash : p ≡ 0x2F2A → Pair s i 0x2A 0x2F
-  star-slash q = pair_of s i 0x2A 0x2F (omega arith) (omega arith) (omega arith) (omega arith) (omega arith) (omega arith)
+  star-slash q = pair-of s i 0x2A 0x2F (omega arith) (omega arith) (omega arith) (omega arith) (omega arith) (omega arith)
 
   pub block-other : (f : Option Text) (d : ℕ) → i < length s → (p ≡ 0x2A2F → ⊥) → (p ≡ 0x2F2A → ⊥) → close d 0 (from s i) ≡ f → close d 0 (from s (i + 1)) ≡ f
-  block-other f d h m n = block_on s i f d h (λ x y. n (omega arith)) (λ x y. m (omega arith))
+  block-other f d h m n = block-on s i f d h (λ x y. n (omega arith)) (λ x y. m (omega arith))
 
 -- bytes that are passed together
 pub block-past : (s : List ℕ) (d i r : ℕ) → i ≤ r → r ≤ length s → NeitherOf 0x2A 0x2F s i r → close d 0 (from s r) ≡ close d 0 (from s i)
-block-past s d = all_past (close d 0) s (Neither 0x2A 0x2F) (λ k m o. block_on s k _ d m (λ e n. o.0 e) (λ e n. o.1 e) refl)
+block-past s d = all-past (close d 0) s (Neither 0x2A 0x2F) (λ k m o. block-on s k _ d m (λ e n. o.0 e) (λ e n. o.1 e) refl)
 
 -- the code's test for four more that open
 module _ (s : List ℕ) (i : ℕ) where
@@ -218,25 +218,25 @@ module _ (s : List ℕ) (i : ℕ) where
 
   pub open-within : fourOpen s i ≡ true → i + 8 ≤ length s
   unfolding fourOpen
-  open-within e = leb-true (i + 8) (length s) (and_both (leb (i + 8) (length s)) _ e).0
+  open-within e = leb-true (i + 8) (length s) (and-both (leb (i + 8) (length s)) _ e).0
 
 -- four more that open
 module _ (s : List ℕ) (small : (k : ℕ) → get_or s k 0 < 256) (i : ℕ) (e : fourOpen s i ≡ true) where
   open-four : (d : ℕ) (f : Option Text) → close d 0 (from s i) ≡ f → close (d + 4) 0 (from s (i + 8)) ≡ f
   unfolding fourOpen
   open-four d f q =
-      let o = and_both (opens_at s i) ((opens_at s (i + 2) && opens_at s (i + 4)) && opens_at s (i + 6)) (and_both (leb (i + 8) (length s)) _ e).1 in
-      let p = and_both (opens_at s (i + 2) && opens_at s (i + 4)) (opens_at s (i + 6)) o.1 in
-      let r = and_both (opens_at s (i + 2)) (opens_at s (i + 4)) p.0 in
+      let o = and-both (opensAt s i) ((opensAt s (i + 2) && opensAt s (i + 4)) && opensAt s (i + 6)) (and-both (leb (i + 8) (length s)) _ e).1 in
+      let p = and-both (opensAt s (i + 2) && opensAt s (i + 4)) (opensAt s (i + 6)) o.1 in
+      let r = and-both (opensAt s (i + 2)) (opensAt s (i + 4)) p.0 in
       let a = one i (i + 2) d (d + 1) o.0 (omega arith) (omega arith) q in
       let b = one (i + 2) (i + 4) (d + 1) (d + 2) r.0 (omega arith) (omega arith) a in
       let c = one (i + 4) (i + 6) (d + 2) (d + 3) r.1 (omega arith) (omega arith) b in
       one (i + 6) (i + 8) (d + 3) (d + 4) p.1 (omega arith) (omega arith) c
     where
-      one : (j k x y : ℕ) → opens_at s j ≡ true → k ≡ j + 2 → y ≡ x + 1 → close x 0 (from s j) ≡ f → close y 0 (from s k) ≡ f
+      one : (j k x y : ℕ) → opensAt s j ≡ true → k ≡ j + 2 → y ≡ x + 1 → close x 0 (from s j) ≡ f → close y 0 (from s k) ≡ f
       one j k x y z m n h =
           ap (λ v. close v 0 (from s k)) n ∙ ap (λ v. close (x + 1) 0 (from s v)) m
-          ∙ block_more s j f x (slash-star s j (small j) refl (eqb-true (get_or s j 0 + 256 * get_or s (j + 1) 0) 0x2A2F z)) h
+          ∙ block-more s j f x (slash-star s j (small j) refl (eqb-true (get_or s j 0 + 256 * get_or s (j + 1) 0) 0x2A2F z)) h
 
 -- where the openings are passed, so many are open that the outermost comment is closed as before
 pub opened : (s : List ℕ) (small : (k : ℕ) → get_or s k 0 < 256) (i : ℕ) (n : Nest) → n ≡ openings s i → i ≤ length s

@@ -18,10 +18,10 @@ use Rattle.token.specs.code.Cursor.{cursorAt}
 use Rattle.token.specs.code.Gap.{closedOf, lineEndAfter, placeOr, blockEnd}
 use Rattle.token.specs.declared.gap.Closed.TheVariants as closed
 use Rattle.token.specs.declared.cursor.Cursor.{Cursor}
-use Rattle.token.proofs.Base.{zero_one}
-use Rattle.token.proofs.cursor.Bytes.{one_byte, two_bytes, inside}
+use Rattle.token.proofs.Base.{zero-one}
+use Rattle.token.proofs.cursor.Bytes.{one-byte, two-bytes, inside}
 use Rattle.token.proofs.gap.Laws.{Pair, pair-at, opens-line, block-opens}
-use Rattle.token.proofs.lexer.Seeks.{gap-strict, left_at}
+use Rattle.token.proofs.lexer.Seeks.{gap-strict, left-at}
 use Rattle.token.proofs.lexer.Laws.{later-place, lf-scan, crlf-scan, line-scan, block-scan}
 open text-laws use {at-char, place-from}
 
@@ -38,17 +38,17 @@ module _ (s : List ℕ) (i : ℕ) where
       let t = at-char s i h in
       let y = gap-strict (length s) _ _ p r (ap (scan (length s)) (sym t) ∙ e) in
       let w = later-place s i r h (rw t y) in
-      record { found = e ∙ ap (Found.gap p) (sym (left_at s i r (rw t y.0))); on = w.0; within = w.1 }
+      record { found = e ∙ ap (Found.gap p) (sym (left-at s i r (rw t y.0))); on = w.0; within = w.1 }
 
   -- ---- line ends
 
   lf-byte : begins "\n" (from s i) ≡ eqb (get_or s i 0) 0x0A
   unfolding begins
-  lf-byte = one_byte 0x0A (omega arith) (omega arith) s i
+  lf-byte = one-byte 0x0A (omega arith) (omega arith) s i
 
   crlf-bytes : begins "\r\n" (from s i) ≡ eqb (get_or s i 0) 0x0D && eqb (get_or s (i + 1) 0) 0x0A
   unfolding begins
-  crlf-bytes = two_bytes 0x0D 0x0A (omega arith) (omega arith) (omega arith) (omega arith) s i
+  crlf-bytes = two-bytes 0x0D 0x0A (omega arith) (omega arith) (omega arith) (omega arith) s i
 
   crlf-pair : begins "\r\n" (from s i) ≡ true → Pair s i 0x0D 0x0A
   crlf-pair e = pair-at s i 0x0D 0x0A (omega arith) (omega arith) (omega arith) (omega arith) (sym crlf-bytes ∙ e)
@@ -94,7 +94,7 @@ module _ (s : List ℕ) (i : ℕ) where
   block-end-at e = go (close 0 0 (drop 2 (from s i)))
     where
       go : (x : Option Text) → closed.At e ≡ closedOf (length s) x → e.at ≡ placeOr (length s) i x
-      go none q = zero_one (cc)
+      go none q = zero-one (cc)
       go (some r) q = let z : e ≡ cursorAt (place (length s) r) = cc in ap (λ (c : Cursor). c.at) z
 
   pub block-end-open : closed.Open ≡ closedOf (length s) (close 0 0 (drop 2 (from s i))) → i ≡ blockEnd s i
@@ -103,7 +103,7 @@ module _ (s : List ℕ) (i : ℕ) where
     where
       go : (x : Option Text) → closed.Open ≡ closedOf (length s) x → i ≡ placeOr (length s) i x
       go none q = refl
-      go (some r) q = zero_one (cc)
+      go (some r) q = zero-one (cc)
 
   -- where it is closed, the scanner finds it
   pub block-end-found : opensBlock (from s i) ≡ true → (blockEnd s i ≡ i → ⊥) → GapTo s GapKind.blockComment i (blockEnd s i)

@@ -8,7 +8,7 @@ use lib.ListN.{length, drop, get_or, get_or-eq_default}
 use lib.Dec.{eqb, ltb}
 use native.Mathlib.Omega.{arith}
 use borrow.Author.Tests.{ltb-true, ltb-false, eqb-true, ne_eqb}
-use Rattle.chars.specs.paper.Quoted.{one_of}
+use Rattle.chars.specs.paper.Quoted.{oneOf}
 use Rattle.chars.specs.paper.Text.{Char, Text, from, place, headIs, idChar}
 use Rattle.chars.specs.code.Text.{charEnd}
 use Rattle.chars.specs.computed.Runs.{afterRun}
@@ -20,21 +20,21 @@ use Rattle.chars.proofs.theorems.Promises.{text-laws}
 use Rattle.token.proofs.Classes.{under-no-id, nul-no-sign, sign-byte}
 use Rattle.token.proofs.cursor.Wide.{byte-by-byte}
 use Rattle.token.specs.paper.Tests.{isAny, begins, quote, opSign, freeSign, opensComment, notBacktick}
-use Rattle.token.specs.paper.Kinds.{word_of, run_of}
+use Rattle.token.specs.paper.Kinds.{wordOf, runOf}
 use Rattle.token.specs.computed.Answer.{Found, afterIdent, orPrefixed, prefixedOf, closeString, codesTo, wordOr, scanIdent, runOr, scanOperator, backtickOr, scanBacktick}
 use Rattle.token.specs.code.Cursor.{cursorAt}
-use Rattle.token.specs.code.Piece.{piece_of}
+use Rattle.token.specs.code.Piece.{pieceOf}
 use Rattle.token.specs.declared.cursor.Cursor.{Cursor}
 use Rattle.token.specs.declared.kinds.Kw.{Kw}
 use Rattle.token.specs.declared.kinds.TokenKind.{TokenKind}
 use Rattle.token.specs.declared.kinds.TokenKind.TheVariants as tk
 use Rattle.token.specs.declared.piece.Piece.TheVariants as piece
-use Rattle.token.proofs.cursor.Bytes.{any-byte, inside, one_byte}
-use Rattle.token.proofs.theorems.Runs.{after_next, after_stop, run-after, run-suffix}
-use Rattle.token.proofs.cursor.Laws.{all_past}
+use Rattle.token.proofs.cursor.Bytes.{any-byte, inside, one-byte}
+use Rattle.token.proofs.theorems.Runs.{after-next, after-stop, run-after, run-suffix}
+use Rattle.token.proofs.cursor.Laws.{all-past}
 use Rattle.token.proofs.gap.Laws.{opens-line, opens-block}
 use Rattle.token.proofs.theorems.Idents.{ident-finds, start-rest, rest-suffix}
-open text-laws use {run-stays, run-done, run-place, suffix_trans, drop-suffix, at-char, at_ascii, at-end, next-on, place-from}
+open text-laws use {run-stays, run-done, run-place, suffix-trans, drop-suffix, at-char, at-ascii, at-end, next-on, place-from}
 
 -- ---- places
 
@@ -82,7 +82,7 @@ after-moves p (c ∷ t) z e = go (p (c ∷ t)) refl
     go : (b : Bool) → p (c ∷ t) ≡ b → b ≡ false
     go false h = refl
     go true h =
-        let q = sym (after_next p c t h) ∙ e in
+        let q = sym (after-next p c t h) ∙ e in
         let l = ap length q in
         let w = (run-suffix p (run-after p t)).within in
         absurd (omega arith)
@@ -95,18 +95,18 @@ module _ (p : ℕ → Bool) (s : List ℕ) (i : ℕ) where
   head-low z l = go (ltb i (length s)) refl
     where
       go : (b : Bool) → ltb i (length s) ≡ b → headIs p (from s i) ≡ p (get_or s i 0)
-      go true e = ap (headIs p) (at_ascii s i (ltb-true i (length s) e) l)
+      go true e = ap (headIs p) (at-ascii s i (ltb-true i (length s) e) l)
       go false e = let h = ltb-false i (length s) e in ap (headIs p) (at-end s i h) ∙ sym (ap p (get_or-eq_default s 0 h) ∙ z)
 
   pub past-on : (j : ℕ) → headIs p (from s i) ≡ true → j ≡ charEnd s i → j ≡ cond (headIs p (from s i)) (charEnd s i) i
   past-on j e q = rw e q
 
-  pub past_off : headIs p (from s i) ≡ false → i ≡ cond (headIs p (from s i)) (charEnd s i) i
-  past_off e = rw e
+  pub past-off : headIs p (from s i) ≡ false → i ≡ cond (headIs p (from s i)) (charEnd s i) i
+  past-off e = rw e
 
   -- the code's test, whether that is the place itself
-  pub past_same : i ≡ cond (headIs p (from s i)) (charEnd s i) i → headIs p (from s i) ≡ false
-  past_same e = go (headIs p (from s i)) refl e
+  pub past-same : i ≡ cond (headIs p (from s i)) (charEnd s i) i → headIs p (from s i) ≡ false
+  past-same e = go (headIs p (from s i)) refl e
     where
       go : (b : Bool) → headIs p (from s i) ≡ b → i ≡ cond b (charEnd s i) i → b ≡ false
       go false h e = refl
@@ -130,7 +130,7 @@ comment_bytes s i = ap₂ ◌||◌ (opens-line s i) (opens-block s i)
 
 pub quote-byte : (s : List ℕ) (i : ℕ) → quote (from s i) ≡ eqb (get_or s i 0) 0x22
 unfolding begins
-quote-byte s i = one_byte 0x22 (omega arith) (omega arith) s i
+quote-byte s i = one-byte 0x22 (omega arith) (omega arith) s i
 
 -- ---- an identifier's rest
 
@@ -138,9 +138,9 @@ pub rest-id : (u : Bool) (c : Char) (t : Text) → isIdChar c.code ≡ true → 
 unfolding afterIdent
 rest-id u c t e = rw (e, afterIdent)
 
-rest_under : (u : Bool) (c : Char) (t : Text) → isAny "_" (c ∷ t) ≡ true → afterIdent u (c ∷ t) ≡ afterIdent true t
+rest-under : (u : Bool) (c : Char) (t : Text) → isAny "_" (c ∷ t) ≡ true → afterIdent u (c ∷ t) ≡ afterIdent true t
 unfolding afterIdent
-rest_under u c t e = rw (under-no-id c.code e, e, afterIdent)
+rest-under u c t e = rw (under-no-id c.code e, e, afterIdent)
 
 -- where neither stands, signs follow underscores
 pub rest-none : (u : Bool) (t : Text) → idChar t ≡ false → isAny "_" t ≡ false → afterIdent u t ≡ cond u (afterRun opSign t) t
@@ -149,18 +149,18 @@ rest-none true [] e f = refl
 rest-none false [] e f = refl
 rest-none u (c ∷ t) e f = rw (e, f, afterIdent)
 
-rest_more : (t : Text) → afterIdent false t ≡ afterIdent false (afterRun idChar t)
+rest-more : (t : Text) → afterIdent false t ≡ afterIdent false (afterRun idChar t)
 unfolding afterRun
-rest_more [] = refl
-rest_more (c ∷ t) = go (isIdChar c.code) refl (rest_more t)
+rest-more [] = refl
+rest-more (c ∷ t) = go (isIdChar c.code) refl (rest-more t)
   where
     go : (b : Bool) → isIdChar c.code ≡ b → afterIdent false t ≡ afterIdent false (afterRun idChar t) → afterIdent false (c ∷ t) ≡ afterIdent false (afterRun idChar (c ∷ t))
-    go true e ih = rest-id false c t e ∙ ih ∙ ap (afterIdent false) (sym (after_next idChar c t e))
-    go false e ih = ap (afterIdent false) (sym (after_stop idChar c t e))
+    go true e ih = rest-id false c t e ∙ ih ∙ ap (afterIdent false) (sym (after-next idChar c t e))
+    go false e ih = ap (afterIdent false) (sym (after-stop idChar c t e))
 
 rest-ids : (u : Bool) (t : Text) → idChar t ≡ true → afterIdent u t ≡ afterIdent false (afterRun idChar t)
 rest-ids u [] e = clash e
-rest-ids u (c ∷ t) e = rest-id u c t e ∙ rest_more t ∙ ap (afterIdent false) (sym (after_next idChar c t e))
+rest-ids u (c ∷ t) e = rest-id u c t e ∙ rest-more t ∙ ap (afterIdent false) (sym (after-next idChar c t e))
 
 module _ (s : List ℕ) (i : ℕ) where
   pub under-inside : get_or s i 0 ≡ 0x5F → i < length s
@@ -169,8 +169,8 @@ module _ (s : List ℕ) (i : ℕ) where
   -- past one underscore
   pub pass-under : (u : Bool) → get_or s i 0 ≡ 0x5F → afterIdent true (from s (i + 1)) ≡ afterIdent u (from s i)
   pass-under u e =
-      let q = at_ascii s i (under-inside e) (omega arith) in
-      sym (ap (afterIdent u) q ∙ rest_under u _ (from s (i + 1)) (sym (ap (isAny "_") q) ∙ any-byte "_" refl s i ∙ rw e))
+      let q = at-ascii s i (under-inside e) (omega arith) in
+      sym (ap (afterIdent u) q ∙ rest-under u _ (from s (i + 1)) (sym (ap (isAny "_") q) ∙ any-byte "_" refl s i ∙ rw e))
 
   -- past a run of id characters that ends at j
   pub pass-ids : (u : Bool) (j : ℕ) → i ≤ length s → j ≡ place (length s) (afterRun idChar (from s i)) → (j ≡ i → ⊥)
@@ -196,12 +196,12 @@ module _ (s : List ℕ) (i : ℕ) where
   -- past a run of id characters that ends at j, be it empty
   pub pass-run : (j : ℕ) → i ≤ length s → j ≡ place (length s) (afterRun idChar (from s i))
       → (j ≤ length s) × (afterIdent false (from s j) ≡ afterIdent false (from s i))
-  pass-run j h e = let r = run-place idChar s i j h e in (r.1, ap (afterIdent false) r.2 ∙ sym (rest_more (from s i)))
+  pass-run j h e = let r = run-place idChar s i j h e in (r.1, ap (afterIdent false) r.2 ∙ sym (rest-more (from s i)))
 
   -- and past nothing more, where no underscore follows it
-  pub pass_all : (j : ℕ) → i ≤ length s → j ≡ place (length s) (afterRun idChar (from s i)) → (get_or s j 0 ≡ 0x5F → ⊥)
+  pub pass-all : (j : ℕ) → i ≤ length s → j ≡ place (length s) (afterRun idChar (from s i)) → (get_or s j 0 ≡ 0x5F → ⊥)
       → from s j ≡ afterIdent false (from s i)
-  pass_all j h e n =
+  pass-all j h e n =
       let f = ap idChar (run-place idChar s i j h e).2 ∙ run-done idChar refl (from s i) in
       sym (rest-none false (from s j) f (any-byte "_" refl s j ∙ rw (ne_eqb (get_or s j 0) 0x5F n))) ∙ (pass-run j h e).1
 
@@ -209,29 +209,29 @@ module _ (s : List ℕ) (i : ℕ) where
 pub pass-unders : (s : List ℕ) (i : ℕ) (u : Bool) → get_or s i 0 ≡ 0x5F → (r : ℕ) → i + 1 ≤ r → r ≤ length s → AllIn 0x5F 0x5F s (i + 1) r
     → afterIdent true (from s r) ≡ afterIdent u (from s i)
 pass-unders s i u e r l h a =
-    all_past (afterIdent true) s (Within 0x5F 0x5F) (λ k m x. pass-under s k true (omega arith)) (i + 1) r l h a ∙ pass-under s i u e
+    all-past (afterIdent true) s (Within 0x5F 0x5F) (λ k m x. pass-under s k true (omega arith)) (i + 1) r l h a ∙ pass-under s i u e
 
 -- ---- what is left of a text
 
 pub ident-left : (t : Text) → headIs isIdStart t ≡ true → Suffix (afterIdent false (drop 1 t)) t
-ident-left t e = suffix_trans (rest-suffix (drop 1 t) (afterIdent false (drop 1 t)) (start-rest t (afterIdent false (drop 1 t)) (ident-finds t e).0).1) (drop-suffix 1 t)
+ident-left t e = suffix-trans (rest-suffix (drop 1 t) (afterIdent false (drop 1 t)) (start-rest t (afterIdent false (drop 1 t)) (ident-finds t e).0).1) (drop-suffix 1 t)
 
 -- what is found, by the text that is left and the keyword
 
-pub scan-run : (s r : Text) (o : Option Kw) → r ≡ afterRun freeSign s → run_of (codesTo s r) ≡ o → scanOperator s ≡ runOr r o
+pub scan-run : (s r : Text) (o : Option Kw) → r ≡ afterRun freeSign s → runOf (codesTo s r) ≡ o → scanOperator s ≡ runOr r o
 unfolding scanOperator
-scan-run s r o e f = ap (λ t. runOr t (run_of (codesTo s t))) (sym e) ∙ ap (runOr r) f
+scan-run s r o e f = ap (λ t. runOr t (runOf (codesTo s t))) (sym e) ∙ ap (runOr r) f
 
 -- directly before a comment it is no keyword
 pub run-before : (r : Text) (k : Kw) → opensComment r ≡ true → runOr r (some k) ≡ Found.token tk.OpId r
 run-before r k e = rw e
 
-pub run_alone : (r : Text) (k : Kw) → opensComment r ≡ false → runOr r (some k) ≡ Found.token (tk.Kw k) r
-run_alone r k e = rw e
+pub run-alone : (r : Text) (k : Kw) → opensComment r ≡ false → runOr r (some k) ≡ Found.token (tk.Kw k) r
+run-alone r k e = rw e
 
-pub scan-word : (n : ℕ) (s r : Text) (o : Option Kw) → r ≡ afterIdent false (drop 1 s) → word_of (codesTo s r) ≡ o → scanIdent n s ≡ wordOr n s r o
+pub scan-word : (n : ℕ) (s r : Text) (o : Option Kw) → r ≡ afterIdent false (drop 1 s) → wordOf (codesTo s r) ≡ o → scanIdent n s ≡ wordOr n s r o
 unfolding scanIdent
-scan-word n s r o e f = ap (λ t. wordOr n s t (word_of (codesTo s t))) (sym e) ∙ ap (wordOr n s r) f
+scan-word n s r o e f = ap (λ t. wordOr n s t (wordOf (codesTo s t))) (sym e) ∙ ap (wordOr n s r) f
 
 -- ---- backticks
 
@@ -241,18 +241,18 @@ module _ (s : List ℕ) (i : ℕ) (h : i < length s) where
   tick-on n = go (ltb (get_or s i 0) 0x80) refl
     where
       wide : (c : Char) (u : Text) → 0x80 ≤ c.code → afterRun notBacktick (c ∷ u) ≡ afterRun notBacktick u
-      wide c u w = after_next notBacktick c u (rw (ne_eqb c.code 0x60 (λ q. absurd (omega arith))))
+      wide c u w = after-next notBacktick c u (rw (ne_eqb c.code 0x60 (λ q. absurd (omega arith))))
 
       go : (b : Bool) → ltb (get_or s i 0) 0x80 ≡ b → afterRun notBacktick (from s (i + 1)) ≡ afterRun notBacktick (from s i)
       go true e =
-          let q = at_ascii s i h (ltb-true (get_or s i 0) 0x80 e) in
-          sym (ap (afterRun notBacktick) q ∙ after_next notBacktick _ (from s (i + 1)) (rw (ne_eqb (get_or s i 0) 0x60 n)))
+          let q = at-ascii s i h (ltb-true (get_or s i 0) 0x80 e) in
+          sym (ap (afterRun notBacktick) q ∙ after-next notBacktick _ (from s (i + 1)) (rw (ne_eqb (get_or s i 0) 0x60 n)))
       go false e = byte-by-byte s (afterRun notBacktick) wide i h (ltb-false (get_or s i 0) 0x80 e)
 
   pub tick-off : get_or s i 0 ≡ 0x60 → afterRun notBacktick (from s i) ≡ record { code = get_or s i 0; at = i } ∷ from s (i + 1)
   tick-off e =
-      let q = at_ascii s i h (omega arith) in
-      ap (afterRun notBacktick) q ∙ after_stop notBacktick _ (from s (i + 1)) (rw e)
+      let q = at-ascii s i h (omega arith) in
+      ap (afterRun notBacktick) q ∙ after-stop notBacktick _ (from s (i + 1)) (rw e)
 
 pub tick-end : (s : List ℕ) (i : ℕ) → length s ≤ i → afterRun notBacktick (from s i) ≡ []
 unfolding afterRun
@@ -264,7 +264,7 @@ module _ (n : ℕ) (s : List ℕ) (i : ℕ) (e : isAny "`" (from s i) ≡ true) 
   tick-byte = eqb-true (get_or s i 0) 0x60 (sym (or-false (eqb (get_or s i 0) 0x60)) ∙ sym (any-byte "`" refl s i) ∙ e)
 
   tick-text : drop 1 (from s i) ≡ from s (i + 1)
-  tick-text = let b = tick-byte in ap (drop 1) (at_ascii s i (inside s i (omega arith)) (omega arith))
+  tick-text = let b = tick-byte in ap (drop 1) (at-ascii s i (inside s i (omega arith)) (omega arith))
 
   pub tick-empty : get_or s (i + 1) 0 ≡ 0x60 → scanBacktick n (from s i) ≡ Found.stuck 5 (from s i)
   unfolding scanBacktick
@@ -285,7 +285,7 @@ module _ (n : ℕ) (s : List ℕ) (i : ℕ) (e : isAny "`" (from s i) ≡ true) 
     tick-closed c r q = tick-name ∙ ap (backtickOr n (from s i)) q
 
 pub tick-inside : (s : List ℕ) (i : ℕ) → isAny "`" (from s i) ≡ true → i < length s
-tick-inside s i e = head-inside (one_of "`") s i e
+tick-inside s i e = head-inside (oneOf "`") s i e
 
 -- ---- the code's answers
 
@@ -297,10 +297,10 @@ pub not-prefixed : (n : ℕ) (k : TokenKind) (s r : Text) → quote r ≡ false 
 unfolding orPrefixed
 not-prefixed n k s r e = rw e
 
-pub token-at : (s : List ℕ) (k : TokenKind) (c : Cursor) (r : Text) → c.at ≤ length s → from s c.at ≡ r → piece.Token k c ≡ piece_of (length s) (Found.token k r)
-unfolding piece_of
+pub token-at : (s : List ℕ) (k : TokenKind) (c : Cursor) (r : Text) → c.at ≤ length s → from s c.at ≡ r → piece.Token k c ≡ pieceOf (length s) (Found.token k r)
+unfolding pieceOf
 token-at s k c r h e = ap (λ i. piece.Token k (cursorAt i)) (sym (place-from s c.at h) ∙ ap (place (length s)) e)
 
-pub refused-at : (s : List ℕ) (j i : ℕ) → i ≤ length s → piece.Refused j i ≡ piece_of (length s) (Found.stuck j (from s i))
-unfolding piece_of
+pub refused-at : (s : List ℕ) (j i : ℕ) → i ≤ length s → piece.Refused j i ≡ pieceOf (length s) (Found.stuck j (from s i))
+unfolding pieceOf
 refused-at s j i h = ap (piece.Refused j) (sym (place-from s i h))

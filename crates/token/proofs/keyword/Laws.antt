@@ -10,24 +10,24 @@ use native.Mathlib.Omega.{arith}
 use borrow.Author.Tests.{ltb-true, ltb-false, eqb-true, eqb-false, eq-eqb, ne_eqb}
 use Rattle.chars.specs.paper.Quoted.{codes, member}
 use Rattle.chars.specs.paper.Text.{Char, Text, from, place}
-use Rattle.chars.specs.code.Text.{charEnd, code_at}
-use Rattle.chars.proofs.Bools.{clash, and_both}
+use Rattle.chars.specs.code.Text.{charEnd, codeAt}
+use Rattle.chars.proofs.Bools.{clash, and-both}
 use Rattle.chars.specs.promises.Texts.{Suffix}
 use Rattle.chars.proofs.theorems.Promises.{text-laws}
 use Rattle.token.specs.paper.Tests.{same}
 use Rattle.words.specs.Words.{twoAt, fourAt}
 use Rattle.words.specs.Joins.{Bytes}
-use Rattle.token.specs.paper.Kinds.{Word, word, keyword, kwNumber, word_of, run_of, wordKeywords, symbolKeywords}
+use Rattle.token.specs.paper.Kinds.{Word, word, keyword, kwNumber, wordOf, runOf, wordKeywords, symbolKeywords}
 use Rattle.token.specs.computed.Answer.{codesTo}
 use Rattle.token.specs.code.Keyword.{standsAt, keywordAt, keywordOf, numberOr, keywordAmong, keywordBy}
 use Rattle.token.specs.declared.kinds.Kw.{Kw}
 use Rattle.token.specs.declared.kinds.Kw.TheVariants as kw
 use Rattle.token.specs.declared.kinds.Keyword.{Keyword}
 use Rattle.token.specs.declared.kinds.Keyword.TheVariants as key
-use Rattle.token.proofs.Base.{zero_one}
+use Rattle.token.proofs.Base.{zero-one}
 use Rattle.token.proofs.cursor.Bytes.{plain}
 use Rattle.token.proofs.theorems.Runs as runs
-open text-laws use {suffix_refl, suffix-same, at-char, place-from, ascii-code, ascii-next, wide-code}
+open text-laws use {suffix-refl, suffix-same, at-char, place-from, ascii-code, ascii-next, wide-code}
 
 -- ---- codes between two places
 
@@ -48,21 +48,21 @@ suffix-tail c r s h k =
 suffix-next : (s : List ℕ) (a b : ℕ) → a < b → b ≤ length s → Suffix (from s b) (from s a) → Suffix (from s b) (from s (charEnd s a))
 suffix-next s a b h k w =
     let e = at-char s a (omega arith) in
-    let v : Suffix (from s b) (record { code = code_at s a; at = a } ∷ from s (charEnd s a)) = rw e at w in
-    suffix-tail (record { code = code_at s a; at = a }) (from s b) (from s (charEnd s a)) v (go (ltb (length (from s b)) (suc (length (from s (charEnd s a))))) refl v)
+    let v : Suffix (from s b) (record { code = codeAt s a; at = a } ∷ from s (charEnd s a)) = rw e at w in
+    suffix-tail (record { code = codeAt s a; at = a }) (from s b) (from s (charEnd s a)) v (go (ltb (length (from s b)) (suc (length (from s (charEnd s a))))) refl v)
   where
     go : (t : Bool) → ltb (length (from s b)) (suc (length (from s (charEnd s a)))) ≡ t
-        → Suffix (from s b) (record { code = code_at s a; at = a } ∷ from s (charEnd s a)) → length (from s b) ≤ length (from s (charEnd s a))
+        → Suffix (from s b) (record { code = codeAt s a; at = a } ∷ from s (charEnd s a)) → length (from s b) ≤ length (from s (charEnd s a))
     go true e v = let l = ltb-true (length (from s b)) (suc (length (from s (charEnd s a)))) e in omega arith
     go false e v =
         let l = ltb-false (length (from s b)) (suc (length (from s (charEnd s a)))) e in
         let m = v.within in
-        let q = suffix-same v (suffix_refl _) (omega arith) in
+        let q = suffix-same v (suffix-refl _) (omega arith) in
         let z : b ≡ a = sym (place-from s b k) ∙ ap (place (length s)) q in
         absurd (omega arith)
 
 codes-next : (s : List ℕ) (a b : ℕ) → a < b → b ≤ length s → Suffix (from s b) (from s a)
-    → codesTo (from s a) (from s b) ≡ code_at s a ∷ codesTo (from s (charEnd s a)) (from s b)
+    → codesTo (from s a) (from s b) ≡ codeAt s a ∷ codesTo (from s (charEnd s a)) (from s b)
 codes-next s a b h k w =
     ap (λ t. codesTo t (from s b)) (at-char s a (omega arith)) ∙ codes-more _ (from s (charEnd s a)) (from s b) (suffix-next s a b h k w).within
 
@@ -100,10 +100,10 @@ same-stands [] p s a b h k v = go (ltb a b) refl
         let q : b ≡ a = omega arith in
         rw (q, codes-none (from s a), eq-eqb (a - a) 0 (omega arith))
 same-stands (x ∷ w) p s a b h k v =
-    go (ltb a b) refl (ltb (get_or s a 0) 0x80) refl (λ i l u. same-stands w (and_both (leb 1 x && ltb x 0x80) (plain w) p).1 s i b l k u)
+    go (ltb a b) refl (ltb (get_or s a 0) 0x80) refl (λ i l u. same-stands w (and-both (leb 1 x && ltb x 0x80) (plain w) p).1 s i b l k u)
   where
     less : x < 0x80
-    less = ltb-true x 0x80 (and_both (leb 1 x) (ltb x 0x80) (and_both (leb 1 x && ltb x 0x80) (plain w) p).0).1
+    less = ltb-true x 0x80 (and-both (leb 1 x) (ltb x 0x80) (and-both (leb 1 x && ltb x 0x80) (plain w) p).0).1
 
     go : (t : Bool) → ltb a b ≡ t → (n : Bool) → ltb (get_or s a 0) 0x80 ≡ n
         → ((i : ℕ) → i ≤ b → Suffix (from s b) (from s i) → same w (codesTo (from s i) (from s b)) ≡ eqb (b - i) (length w) && standsAt w s i)
@@ -131,7 +131,7 @@ same-stands (x ∷ w) p s a b h k v =
         let c = wide-code s a m in
         let d = less in
         ap (same (x ∷ w)) (codes-next s a b l k v)
-        ∙ ap (λ z. z && same w (codesTo (from s (charEnd s a)) (from s b))) (ne_eqb x (code_at s a) (λ q. absurd (omega arith)))
+        ∙ ap (λ z. z && same w (codesTo (from s (charEnd s a)) (from s b))) (ne_eqb x (codeAt s a) (λ q. absurd (omega arith)))
         ∙ sym (ap (λ z. eqb (b - a) (suc (length w)) && (z && standsAt w s (a + 1))) (ne_eqb (get_or s a 0) x (λ q. absurd (omega arith))) ∙ and-false (eqb (b - a) (suc (length w))))
 
 -- ---- keywords
@@ -145,30 +145,30 @@ pub keyword-at : (ws : List Word) → plainWords ws ≡ true → (s : List ℕ) 
 unfolding keywordAt
 keyword-at [] p s a b h k v = refl
 keyword-at (word w j ∷ ws) p s a b h k v =
-    let q = and_both (plain (codes w)) (plainWords ws) p in
+    let q = and-both (plain (codes w)) (plainWords ws) p in
     ap (λ z. cond z (some j) (keyword ws (codesTo (from s a) (from s b)))) (same-stands (codes w) q.0 s a b h k v)
     ∙ ap (λ z. cond (eqb (b - a) (length (codes w)) && standsAt (codes w) s a) (some j) z) (keyword-at ws q.1 s a b h k v)
 
 module _ (s : List ℕ) (a b : ℕ) (h : a ≤ b) (k : b ≤ length s) (l : Suffix (from s b) (from s a)) where
-  pub word_at : word_of (codesTo (from s a) (from s b)) ≡ keywordAt wordKeywords (b - a) s a
-  unfolding word_of
-  word_at = keyword-at wordKeywords refl s a b h k l
+  pub word-at : wordOf (codesTo (from s a) (from s b)) ≡ keywordAt wordKeywords (b - a) s a
+  unfolding wordOf
+  word-at = keyword-at wordKeywords refl s a b h k l
 
-  pub run_at : run_of (codesTo (from s a) (from s b)) ≡ keywordAt symbolKeywords (b - a) s a
-  unfolding run_of
-  run_at = keyword-at symbolKeywords refl s a b h k l
+  pub run-at : runOf (codesTo (from s a) (from s b)) ≡ keywordAt symbolKeywords (b - a) s a
+  unfolding runOf
+  run-at = keyword-at symbolKeywords refl s a b h k l
 
 -- ---- bytes, compared as one number
 
 -- the number of bytes, the lowest first
-abbrev number_of : List ℕ → ℕ
-number_of [] = 0
-number_of (x ∷ w) = x + number_of w * 256
+abbrev numberOf : List ℕ → ℕ
+numberOf [] = 0
+numberOf (x ∷ w) = x + numberOf w * 256
 
 -- the number of as many bytes as w has, from the place i on
-abbrev number_at : List ℕ → List ℕ → ℕ → ℕ
-number_at [] s i = 0
-number_at (x ∷ w) s i = get_or s i 0 + number_at w s (i + 1) * 256
+abbrev numberAt : List ℕ → List ℕ → ℕ → ℕ
+numberAt [] s i = 0
+numberAt (x ∷ w) s i = get_or s i 0 + numberAt w s (i + 1) * 256
 
 -- two numbers are equal if their lowest bytes are, and what is left of both
 lowest-and-rest : (a b x y : ℕ) → a < 256 → x < 256 → eqb (a + b * 256) (x + y * 256) ≡ eqb a x && eqb b y
@@ -180,28 +180,28 @@ lowest-and-rest a b x y h k = go (eqb a x) refl (eqb b y) refl
     go false e q f = ne_eqb (a + b * 256) (x + y * 256) (λ z. eqb-false a x e (omega arith))
 
 -- Bytes that stand at a place, as one number, equal the number of a text exactly if they are the text.
-number-stands : (s : List ℕ) → Bytes s → (w : List ℕ) → plain w ≡ true → (i : ℕ) → eqb (number_at w s i) (number_of w) ≡ standsAt w s i
+number-stands : (s : List ℕ) → Bytes s → (w : List ℕ) → plain w ≡ true → (i : ℕ) → eqb (numberAt w s i) (numberOf w) ≡ standsAt w s i
 unfolding standsAt
 number-stands s b [] p i = refl
 number-stands s b (x ∷ w) p i =
-    let k = and_both (leb 1 x && ltb x 0x80) (plain w) p in
-    let m = ltb-true x 0x80 (and_both (leb 1 x) (ltb x 0x80) k.0).1 in
-    lowest-and-rest (get_or s i 0) (number_at w s (i + 1)) x (number_of w) (b i) (omega arith)
+    let k = and-both (leb 1 x && ltb x 0x80) (plain w) p in
+    let m = ltb-true x 0x80 (and-both (leb 1 x) (ltb x 0x80) k.0).1 in
+    lowest-and-rest (get_or s i 0) (numberAt w s (i + 1)) x (numberOf w) (b i) (omega arith)
     ∙ ap (λ z. eqb (get_or s i 0) x && z) (number-stands s b w k.1 (i + 1))
 
 -- a text of two ASCII characters, and one of four, by the number that the code reads
 two-stands : (s : List ℕ) → Bytes s → (x y : ℕ) → plain (x ∷ y ∷ []) ≡ true → (i v : ℕ) → twoAt s i ≡ v
-    → standsAt (x ∷ y ∷ []) s i ≡ eqb v (number_of (x ∷ y ∷ []))
+    → standsAt (x ∷ y ∷ []) s i ≡ eqb v (numberOf (x ∷ y ∷ []))
 unfolding twoAt
-two-stands s b x y p i v e = sym (number-stands s b (x ∷ y ∷ []) p i) ∙ ap (λ n. eqb n (number_of (x ∷ y ∷ []))) (omega arith)
+two-stands s b x y p i v e = sym (number-stands s b (x ∷ y ∷ []) p i) ∙ ap (λ n. eqb n (numberOf (x ∷ y ∷ []))) (omega arith)
 
 four-stands : (s : List ℕ) → Bytes s → (x y z t : ℕ) → plain (x ∷ y ∷ z ∷ t ∷ []) ≡ true → (i v : ℕ) → fourAt s i ≡ v
-    → standsAt (x ∷ y ∷ z ∷ t ∷ []) s i ≡ eqb v (number_of (x ∷ y ∷ z ∷ t ∷ []))
+    → standsAt (x ∷ y ∷ z ∷ t ∷ []) s i ≡ eqb v (numberOf (x ∷ y ∷ z ∷ t ∷ []))
 unfolding fourAt twoAt
 four-stands s b x y z t p i v e =
     let c : get_or s (i + 1 + 1) 0 ≡ get_or s (i + 2) 0 = ap (λ j. get_or s j 0) (omega arith) in
     let d : get_or s (i + 1 + 1 + 1) 0 ≡ get_or s (i + 2 + 1) 0 = ap (λ j. get_or s j 0) (omega arith) in
-    sym (number-stands s b (x ∷ y ∷ z ∷ t ∷ []) p i) ∙ ap (λ n. eqb n (number_of (x ∷ y ∷ z ∷ t ∷ []))) (omega arith)
+    sym (number-stands s b (x ∷ y ∷ z ∷ t ∷ []) p i) ∙ ap (λ n. eqb n (numberOf (x ∷ y ∷ z ∷ t ∷ []))) (omega arith)
 
 -- a text stands where its parts do
 stands-append : (v w : List ℕ) (s : List ℕ) (i j : ℕ) → i + length v ≡ j → standsAt (v ++ w) s i ≡ standsAt v s i && standsAt w s j
@@ -221,13 +221,13 @@ none-at : (g : List ℕ → Bool) (ws : List Word) (n : ℕ) (s : List ℕ) (i :
 unfolding keywordAt
 none-at g [] n s i h f = refl
 none-at g (word w k ∷ ws) n s i h f =
-    let q = and_both (g (codes w)) (allWords g ws) h in
+    let q = and-both (g (codes w)) (allWords g ws) h in
     ap (λ z. cond z (some k) (keywordAt ws n s i)) (f (codes w) q.0) ∙ none-at g ws n s i q.1 f
 
 -- no keyword has such a length
-pub length_none : (ks : List ℕ) (ws : List Word) (n : ℕ) (s : List ℕ) (i : ℕ) → allWords (λ w. member ks (length w)) ws ≡ true → member ks n ≡ false
+pub length-none : (ks : List ℕ) (ws : List Word) (n : ℕ) (s : List ℕ) (i : ℕ) → allWords (λ w. member ks (length w)) ws ≡ true → member ks n ≡ false
     → keywordAt ws n s i ≡ none
-length_none ks ws n s i h e = none-at (λ w. member ks (length w)) ws n s i h go
+length-none ks ws n s i h e = none-at (λ w. member ks (length w)) ws n s i h go
   where
     go : (w : List ℕ) → member ks (length w) ≡ true → eqb n (length w) && standsAt w s i ≡ false
     go w m = ap (λ z. z && standsAt w s i) (ne_eqb n (length w) (λ q. clash (sym e ∙ ap (member ks) q ∙ m)))
@@ -302,8 +302,8 @@ module _ (s : List ℕ) (b : Bytes s) (i : ℕ) where
   two_run = rw (two-stands s b 0x3D 0x3E refl i _ refl) (number_cond 2 _ _ _)
 
 -- a run of one sign
-pub one_run : (s : List ℕ) (i : ℕ) → keywordAt symbolKeywords 1 s i ≡ run_of (get_or s i 0 ∷ [])
-unfolding keywordAt standsAt run_of
+pub one_run : (s : List ℕ) (i : ℕ) → keywordAt symbolKeywords 1 s i ≡ runOf (get_or s i 0 ∷ [])
+unfolding keywordAt standsAt runOf
 one_run s i =
     let x = get_or s i 0 in
     rw (eqb-flip x 0x3A, eqb-flip x 0x3D, eqb-flip x 0x23, eqb-flip x 0x40, and-false (eqb 0x3D x))
@@ -313,33 +313,33 @@ pub length_else : (n : ℕ) (s : List ℕ) (i : ℕ) → (n ≡ 2 → ⊥) → (
     → numberOr 1 (keywordAt wordKeywords n s i) ≡ 1
 unfolding numberOr
 length_else n s i a b c d e =
-    ap (numberOr 1) (length_none (2 ∷ 4 ∷ 5 ∷ 6 ∷ 8 ∷ []) wordKeywords n s i refl (rw (ne_eqb n 2 a, ne_eqb n 4 b, ne_eqb n 5 c, ne_eqb n 6 d, ne_eqb n 8 e)))
+    ap (numberOr 1) (length-none (2 ∷ 4 ∷ 5 ∷ 6 ∷ 8 ∷ []) wordKeywords n s i refl (rw (ne_eqb n 2 a, ne_eqb n 4 b, ne_eqb n 5 c, ne_eqb n 6 d, ne_eqb n 8 e)))
 
 pub run_else : (n : ℕ) (s : List ℕ) (i : ℕ) → (n ≡ 1 → ⊥) → (n ≡ 2 → ⊥) → numberOr 2 (keywordAt symbolKeywords n s i) ≡ 2
 unfolding numberOr
-run_else n s i a b = ap (numberOr 2) (length_none (1 ∷ 2 ∷ []) symbolKeywords n s i refl (rw (ne_eqb n 1 a, ne_eqb n 2 b)))
+run_else n s i a b = ap (numberOr 2) (length-none (1 ∷ 2 ∷ []) symbolKeywords n s i refl (rw (ne_eqb n 1 a, ne_eqb n 2 b)))
 
-pub ruleset keywords = (word_at, two_word, four_word, five_word, six_word, eight_word, length_else, run_at, one_run, two_run, run_else)
+pub ruleset keywords = (word-at, two_word, four_word, five_word, six_word, eight_word, length_else, run-at, one_run, two_run, run_else)
 
 -- ---- keywords by their numbers
 
 -- a keyword by the number of its kind is the keyword
-pub by_number : (k : Kw) → keywordBy (kwNumber k) ≡ key.Is k
+pub by-number : (k : Kw) → keywordBy (kwNumber k) ≡ key.Is k
 unfolding keywordBy keywordAmong
-by_number kw.Case = refl
-by_number kw.Else = refl
-by_number kw.False = refl
-by_number kw.Function = refl
-by_number kw.If = refl
-by_number kw.Match = refl
-by_number kw.Return = refl
-by_number kw.Then = refl
-by_number kw.True = refl
-by_number kw.Colon = refl
-by_number kw.FatArrow = refl
-by_number kw.Assign = refl
-by_number kw.Hash = refl
-by_number kw.At = refl
+by-number kw.Case = refl
+by-number kw.Else = refl
+by-number kw.False = refl
+by-number kw.Function = refl
+by-number kw.If = refl
+by-number kw.Match = refl
+by-number kw.Return = refl
+by-number kw.Then = refl
+by-number kw.True = refl
+by-number kw.Colon = refl
+by-number kw.FatArrow = refl
+by-number kw.Assign = refl
+by-number kw.Hash = refl
+by-number kw.At = refl
 
 -- the numbers of an identifier and of an operator are no keyword's
 pub by-ident : keywordBy 1 ≡ key.Not
@@ -354,7 +354,7 @@ by-op = refl
 by-told : (n : ℕ) → keywordBy n ≡ key.Not → (o : Option Kw) → keywordBy (numberOr n o) ≡ keywordOf o
 unfolding numberOr keywordOf
 by-told n e none = e
-by-told n e (some k) = by_number k
+by-told n e (some k) = by-number k
 
 -- what `keyword_of` gives, where its number is that of a keyword or else n
 pub told-by : (n : ℕ) → keywordBy n ≡ key.Not → (o : Option Kw) (v : ℕ) (u : Keyword) → v ≡ numberOr n o → u ≡ keywordBy v → u ≡ keywordOf o
@@ -362,10 +362,10 @@ told-by n e o v u p q = q ∙ ap keywordBy p ∙ by-told n e o
 
 pub key-is : (o : Option Kw) (k : Kw) → key.Is k ≡ keywordOf o → o ≡ some k
 unfolding keywordOf
-key-is none k e = zero_one (cc)
+key-is none k e = zero-one (cc)
 key-is (some j) k e = cc
 
 pub key-not : (o : Option Kw) → key.Not ≡ keywordOf o → o ≡ none
 unfolding keywordOf
 key-not none e = refl
-key-not (some j) e = zero_one (cc)
+key-not (some j) e = zero-one (cc)

@@ -8,21 +8,21 @@ use lib.ListN.{length, drop, get_or}
 use lib.Dec.{eqb, leb, ltb}
 use native.Mathlib.Omega.{arith}
 use borrow.Author.Tests.{ltb-true, ltb-false, lt-ltb, ne_eqb, lt-leb}
-use Rattle.chars.specs.paper.Quoted.{between, codes, one_of}
+use Rattle.chars.specs.paper.Quoted.{between, codes, oneOf}
 use Rattle.chars.specs.paper.Classes.{isIdStart}
 use Rattle.chars.specs.paper.Text.{Char, Text, from, place, headIs}
 use Rattle.chars.specs.code.Text.{charEnd}
 use Rattle.chars.specs.computed.Runs.{afterRun}
-use Rattle.chars.proofs.Bools.{clash, and_both}
+use Rattle.chars.proofs.Bools.{clash, and-both}
 use Rattle.chars.specs.promises.Codes.{every}
 use Rattle.chars.specs.promises.Texts.{AsciiClass}
 use Rattle.chars.proofs.theorems.Promises.{code_laws, text-laws}
 use Rattle.token.specs.paper.Tests.{isAny, begins, digit, isDigit, quote, apostrophe, opSign, opensLine, opensBlock, opensComment, isHexDigit, hexAhead, letterL, notBacktick, freeSign, backslash, plainChar, endOfLine}
-use Rattle.token.specs.code.Lexer.{wordless, seek, next_of, passedOf}
-use Rattle.token.specs.computed.Flags.{GapKind, push, cut_of}
-use Rattle.token.specs.computed.Answer.{Found, Start, start_of, sign_of, scan, scanAs, scanReturn, scanLine, scanBlock, blockOr, close, Numeral, numeral, readDigits, number_of, scanNumber, Closing, closed, wrong, closeString, prefixedOf, plain_of, orPrefixed, afterIdent, codesTo, wordOr, scanIdent, runOr, scanOperator, backtickOr, scanBacktick, scanString, Esc, unbroken, broken, afterSlash, escapedOf, scanCharSym}
+use Rattle.token.specs.code.Lexer.{wordless, seek, nextOf, passedOf}
+use Rattle.token.specs.computed.Flags.{GapKind, push, cutOf}
+use Rattle.token.specs.computed.Answer.{Found, Start, startOf, signOf, scan, scanAs, scanReturn, scanLine, scanBlock, blockOr, close, Numeral, numeral, readDigits, numberOf, scanNumber, Closing, closed, wrong, closeString, prefixedOf, plainOf, orPrefixed, afterIdent, codesTo, wordOr, scanIdent, runOr, scanOperator, backtickOr, scanBacktick, scanString, Esc, unbroken, broken, afterSlash, escapedOf, scanCharSym}
 use Rattle.token.specs.code.Cursor.{cursorAt}
-use Rattle.token.specs.code.Piece.{piece_of}
+use Rattle.token.specs.code.Piece.{pieceOf}
 use Rattle.token.specs.code.Gap.{closedOf}
 use Rattle.token.specs.declared.gap.Gap.{Gap}
 use Rattle.token.specs.declared.gap.Closed.TheVariants as shut
@@ -32,18 +32,18 @@ use Rattle.token.specs.declared.lexer.Next.TheVariants as next
 use Rattle.token.specs.declared.lexer.Passed.TheVariants as passed
 use mathlib.Core.Logic.{◌⊎◌, inl, inr}
 use mathlib.Core.Option.{Option, none, some}
-use Rattle.token.specs.paper.Kinds.{word_of, run_of}
+use Rattle.token.specs.paper.Kinds.{wordOf, runOf}
 use Rattle.token.specs.declared.kinds.Kw.{Kw}
 use Rattle.token.specs.declared.kinds.TokenKind.TheVariants as tk
 use Rattle.token.specs.declared.cursor.Cursor.{Cursor}
-use Rattle.token.proofs.Base.{zero_one}
+use Rattle.token.proofs.Base.{zero-one}
 use Rattle.token.proofs.gap.Laws.{Pair}
 use Rattle.token.proofs.theorems.Dispatch.{Fact, start-fact, clear, clear-head, scan-by, digit-one, quote-any, starts-lf, starts-cr, starts-sign, starts-number, starts-word, starts-operator, starts-backtick, starts-string, starts-tick, starts-line, starts-block}
 use Rattle.token.proofs.cursor.Bytes.{any-byte}
-use Rattle.token.proofs.lexer.Seeks.{gap-strict, seek-line, seek-block, seek-end, seek-token, seek-stuck, left_at}
+use Rattle.token.proofs.lexer.Seeks.{gap-strict, seek-line, seek-block, seek-end, seek-token, seek-stuck, left-at}
 use Rattle.token.proofs.theorems.Shorter.{Strict}
-open code_laws use {carry, no_member, between_in, between-out}
-open text-laws use {head_byte, at-char, at-end, at_ascii, place-from, next-on}
+open code_laws use {carry, no-member, between-in, between-out}
+open text-laws use {head-byte, at-char, at-end, at-ascii, place-from, next-on}
 
 -- ---- digits
 
@@ -56,7 +56,7 @@ ascii-digit = record { nul = refl; wide = λ c h. rw (lt-leb c 0x39 (omega arith
     last false = refl
 
 pub digit-byte : (s : List ℕ) (i : ℕ) → digit (from s i) ≡ isDigit (get_or s i 0)
-digit-byte s i = head_byte isDigit ascii-digit s i
+digit-byte s i = head-byte isDigit ascii-digit s i
 
 -- ---- what a first byte says of the scanner's answer
 
@@ -68,17 +68,17 @@ module _ (s : List ℕ) (i : ℕ) (h : i < length s) where
   t = from s i
 
   -- a single sign
-  pub sign_at : (x : ℕ) (k : TokenKind) → get_or s i 0 ≡ x → x < 0x80 → one_of "()[]{},;." x ≡ true → sign_of (record { code = x; at = i } ∷ from s (i + 1)) ≡ k
-      → piece.Token k (cursorAt (i + 1)) ≡ piece_of n (scan n t)
-  unfolding piece_of
-  sign_at x k e l o q =
+  pub sign-at : (x : ℕ) (k : TokenKind) → get_or s i 0 ≡ x → x < 0x80 → oneOf "()[]{},;." x ≡ true → signOf (record { code = x; at = i } ∷ from s (i + 1)) ≡ k
+      → piece.Token k (cursorAt (i + 1)) ≡ pieceOf n (scan n t)
+  unfolding pieceOf
+  sign-at x k e l o q =
       let a : from s i ≡ record { code = x; at = i } ∷ from s (i + 1) =
-      at_ascii s i h (rw e l) ∙ ap (λ z. record { code = z; at = i } ∷ from s (i + 1)) e in
+      at-ascii s i h (rw e l) ∙ ap (λ z. record { code = z; at = i } ∷ from s (i + 1)) e in
       let b : isAny "()[]{},;." t ≡ true = ap (isAny "()[]{},;.") a ∙ o in
-      let z = clear-head (one_of "()[]{},;.") refl t b in
+      let z = clear-head (oneOf "()[]{},;.") refl t b in
       let f : scan n t ≡ Found.token k (from s (i + 1)) =
-      scan-by n t Start.sign (starts-sign t z b) ∙ ap (λ u. Found.token (sign_of u) (drop 1 u)) a ∙ ap (λ y. Found.token y (from s (i + 1))) q in
-      sym (ap (piece_of n) f ∙ ap (λ j. piece.Token k (cursorAt j)) (place-from s (i + 1) (omega arith)))
+      scan-by n t Start.sign (starts-sign t z b) ∙ ap (λ u. Found.token (signOf u) (drop 1 u)) a ∙ ap (λ y. Found.token y (from s (i + 1))) q in
+      sym (ap (pieceOf n) f ∙ ap (λ j. piece.Token k (cursorAt j)) (place-from s (i + 1) (omega arith)))
 
   -- another kind of start
   pub number_at : isDigit (get_or s i 0) ≡ true → scan n t ≡ scanAs n Start.number t
@@ -86,16 +86,16 @@ module _ (s : List ℕ) (i : ℕ) (h : i < length s) where
   number_at e = let d = digit-byte s i ∙ e in scan-by n t Start.number (starts-number t (clear-head isDigit refl t d) d)
 
   pub backtick-at : isAny "`" t ≡ true → scan n t ≡ scanAs n Start.backtick t
-  backtick-at e = scan-by n t Start.backtick (starts-backtick t (clear-head (one_of "`") refl t e) e)
+  backtick-at e = scan-by n t Start.backtick (starts-backtick t (clear-head (oneOf "`") refl t e) e)
 
   pub string-at : quote t ≡ true → scan n t ≡ scanAs n Start.string t
-  string-at e = scan-by n t Start.string (starts-string t (clear-head (one_of "\"") refl t (sym (quote-any t) ∙ e)) e)
+  string-at e = scan-by n t Start.string (starts-string t (clear-head (oneOf "\"") refl t (sym (quote-any t) ∙ e)) e)
 
   pub charsym-at : apostrophe t ≡ true → scan n t ≡ scanAs n Start.charSym t
-  charsym-at e = scan-by n t Start.charSym (starts-tick t (clear-head (one_of "'") refl t e) e)
+  charsym-at e = scan-by n t Start.charSym (starts-tick t (clear-head (oneOf "'") refl t e) e)
 
-  pub word_at : opensComment t ≡ false → headIs isIdStart t ≡ true → scan n t ≡ scanAs n Start.word t
-  word_at z e = scan-by n t Start.word (starts-word t (clear t z) e)
+  pub word-at : opensComment t ≡ false → headIs isIdStart t ≡ true → scan n t ≡ scanAs n Start.word t
+  word-at z e = scan-by n t Start.word (starts-word t (clear t z) e)
 
   pub operator-at : opensComment t ≡ false → opSign t ≡ true → scan n t ≡ scanAs n Start.operator t
   operator-at z e = scan-by n t Start.operator (starts-operator t (clear t z) e)
@@ -104,53 +104,53 @@ module _ (s : List ℕ) (i : ℕ) (h : i < length s) where
 
 module _ (s : List ℕ) (i : ℕ) (h : i < length s) where
   pub ascii-head : (p : ℕ → Bool) → get_or s i 0 < 0x80 → headIs p (from s i) ≡ p (get_or s i 0)
-  ascii-head p l = ap (headIs p) (at_ascii s i h l)
+  ascii-head p l = ap (headIs p) (at-ascii s i h l)
 
   -- an identifier's first character, and the text behind it
   pub ascii-start : ltb (get_or s i 0) 0x80 && isIdStart (get_or s i 0) ≡ true
       → (headIs isIdStart (from s i) ≡ true) × (i + 1 ≤ length s) × (from s (i + 1) ≡ drop 1 (from s i))
   ascii-start e =
-      let k = and_both (ltb (get_or s i 0) 0x80) (isIdStart (get_or s i 0)) e in
-      let t = at_ascii s i h (ltb-true (get_or s i 0) 0x80 k.0) in
+      let k = and-both (ltb (get_or s i 0) 0x80) (isIdStart (get_or s i 0)) e in
+      let t = at-ascii s i h (ltb-true (get_or s i 0) 0x80 k.0) in
       (ap (headIs isIdStart) t ∙ k.1, omega arith, sym (ap (drop 1) t))
 
   pub ascii-no-start : get_or s i 0 < 0x80 → ltb (get_or s i 0) 0x80 && isIdStart (get_or s i 0) ≡ false → headIs isIdStart (from s i) ≡ false
   ascii-no-start l e = ascii-head isIdStart l ∙ (rw (lt-ltb (get_or s i 0) 0x80 l) at e)
 
 -- a sub-list of codes of which none stands there
-none_of : (a b : String) → every (one_of a) (codes b) ≡ true → (s : Text) → isAny a s ≡ false → isAny b s ≡ false
-none_of a b h [] e = refl
-none_of a b h (c ∷ s) e = go (one_of b c.code) refl
+none-of : (a b : String) → every (oneOf a) (codes b) ≡ true → (s : Text) → isAny a s ≡ false → isAny b s ≡ false
+none-of a b h [] e = refl
+none-of a b h (c ∷ s) e = go (oneOf b c.code) refl
   where
-    go : (x : Bool) → one_of b c.code ≡ x → x ≡ false
+    go : (x : Bool) → oneOf b c.code ≡ x → x ≡ false
     go false q = refl
-    go true q = clash (sym e ∙ carry (one_of a) (codes b) c.code h q)
+    go true q = clash (sym e ∙ carry (oneOf a) (codes b) c.code h q)
 
-no_digit : (s : Text) → isAny wordless s ≡ false → digit s ≡ false
-no_digit [] e = refl
-no_digit (c ∷ s) e = go (isDigit c.code) refl
+no-digit : (s : Text) → isAny wordless s ≡ false → digit s ≡ false
+no-digit [] e = refl
+no-digit (c ∷ s) e = go (isDigit c.code) refl
   where
     go : (x : Bool) → isDigit c.code ≡ x → x ≡ false
     go false q = refl
-    go true q = clash (sym e ∙ carry (one_of wordless) (codes "0123456789") c.code refl (digit-one c.code q))
+    go true q = clash (sym e ∙ carry (oneOf wordless) (codes "0123456789") c.code refl (digit-one c.code q))
 
 -- nothing starts there
-pub other_at : (n : ℕ) (s : Text) → opensComment s ≡ false → isAny wordless s ≡ false → headIs isIdStart s ≡ false → opSign s ≡ false → scan n s ≡ Found.stuck 3 s
-unfolding start_of
-other_at n s z e a b =
+pub other-at : (n : ℕ) (s : Text) → opensComment s ≡ false → isAny wordless s ≡ false → headIs isIdStart s ≡ false → opSign s ≡ false → scan n s ≡ Found.stuck 3 s
+unfolding startOf
+other-at n s z e a b =
     let k = clear s z in
     scan-by n s Start.other
-    (rw (k.line, k.block, none_of wordless " \t" refl s e, none_of wordless "\n" refl s e, none_of wordless "\r" refl s e, none_of wordless "()[]{},;." refl s e, no_digit s e, a, b, none_of wordless "`" refl s e, quote-any s ∙ none_of wordless "\"" refl s e, none_of wordless "'" refl s e))
+    (rw (k.line, k.block, none-of wordless " \t" refl s e, none-of wordless "\n" refl s e, none-of wordless "\r" refl s e, none-of wordless "()[]{},;." refl s e, no-digit s e, a, b, none-of wordless "`" refl s e, quote-any s ∙ none-of wordless "\"" refl s e, none-of wordless "'" refl s e))
 
 -- the same at a place, as a piece
 pub refused_at : (s : List ℕ) (i : ℕ) → i < length s → opensComment (from s i) ≡ false → isAny wordless (from s i) ≡ false → headIs isIdStart (from s i) ≡ false
-    → opSign (from s i) ≡ false → piece.Refused 3 i ≡ piece_of (length s) (scan (length s) (from s i))
-unfolding piece_of
-refused_at s i h z e a b = sym (ap (piece_of (length s)) (other_at (length s) (from s i) z e a b) ∙ ap (piece.Refused 3) (place-from s i (omega arith)))
+    → opSign (from s i) ≡ false → piece.Refused 3 i ≡ pieceOf (length s) (scan (length s) (from s i))
+unfolding pieceOf
+refused_at s i h z e a b = sym (ap (pieceOf (length s)) (other-at (length s) (from s i) z e a b) ∙ ap (piece.Refused 3) (place-from s i (omega arith)))
 
 -- no byte of another start: what the arms of the match leave
 abbrev pub keyed : ℕ → Bool
-keyed b = one_of "()[]{},;.`\"'" b
+keyed b = oneOf "()[]{},;.`\"'" b
 
 pub no-digit-byte : (b : ℕ) → (0x30 ≤ b → 0x39 < b) → isDigit b ≡ false
 unfolding isDigit
@@ -158,13 +158,13 @@ no-digit-byte b h = between-out 0x30 0x39 b h
 
 pub is-digit-byte : (b : ℕ) → 0x30 ≤ b → b ≤ 0x39 → isDigit b ≡ true
 unfolding isDigit
-is-digit-byte b h k = between_in 0x30 0x39 b h k
+is-digit-byte b h k = between-in 0x30 0x39 b h k
 
 pub wordless-none : (s : List ℕ) (i : ℕ) → keyed (get_or s i 0) ≡ false → isDigit (get_or s i 0) ≡ false → isAny " \t\n\r" (from s i) ≡ false → isAny wordless (from s i) ≡ false
 unfolding isDigit
 wordless-none s i a b c =
     any-byte wordless refl s i
-    ∙ no_member (λ x. not (keyed x) && not (between 0x30 0x39 x) && not (one_of " \t\n\r" x)) (codes wordless) (get_or s i 0) refl
+    ∙ no-member (λ x. not (keyed x) && not (between 0x30 0x39 x) && not (oneOf " \t\n\r" x)) (codes wordless) (get_or s i 0) refl
     (rw (a, b, sym (any-byte " \t\n\r" refl s i) ∙ c))
 
 -- ---- no token's scan gives a gap piece
@@ -182,7 +182,7 @@ number-gapless : (s : Text) → gapless (scanNumber s) ≡ true
 unfolding scanNumber
 number-gapless s = go (cond (hexAhead s) (readDigits isHexDigit 16 0 (drop 2 s)) (readDigits isDigit 10 0 s))
   where
-    go : (x : Numeral) → gapless (number_of s x) ≡ true
+    go : (x : Numeral) → gapless (numberOf s x) ≡ true
     go (numeral v r) = pick-gapless (letterL r) _ _ (pick-gapless (leb v 9223372036854775807) _ _ refl refl) (pick-gapless (leb v 2147483647) _ _ refl refl)
 
 prefixed-gapless : (n : ℕ) (s : Text) (x : Closing) → gapless (prefixedOf n s x) ≡ true
@@ -195,7 +195,7 @@ or-gapless n k s r = pick-gapless (quote r) _ _ (prefixed-gapless n s (closeStri
 
 word-gapless : (n : ℕ) (s : Text) → gapless (scanIdent n s) ≡ true
 unfolding scanIdent
-word-gapless n s = go (word_of (codesTo s (afterIdent false (drop 1 s))))
+word-gapless n s = go (wordOf (codesTo s (afterIdent false (drop 1 s))))
   where
     go : (x : Option Kw) → gapless (wordOr n s (afterIdent false (drop 1 s)) x) ≡ true
     go none = or-gapless n tk.Ident s (afterIdent false (drop 1 s))
@@ -203,7 +203,7 @@ word-gapless n s = go (word_of (codesTo s (afterIdent false (drop 1 s))))
 
 operator-gapless : (s : Text) → gapless (scanOperator s) ≡ true
 unfolding scanOperator
-operator-gapless s = go (afterRun freeSign s) (run_of (codesTo s (afterRun freeSign s)))
+operator-gapless s = go (afterRun freeSign s) (runOf (codesTo s (afterRun freeSign s)))
   where
     go : (r : Text) (x : Option Kw) → gapless (runOr r x) ≡ true
     go r none = refl
@@ -221,7 +221,7 @@ string-gapless : (n : ℕ) (s : Text) → gapless (scanString n s) ≡ true
 unfolding scanString
 string-gapless n s = go (closeString false s)
   where
-    go : (x : Closing) → gapless (plain_of n s x) ≡ true
+    go : (x : Closing) → gapless (plainOf n s x) ≡ true
     go (closed r) = refl
     go (wrong j q) = refl
 
@@ -265,22 +265,22 @@ comment-kind n s k r o e = go (opened n s o)
     go : Opened n s (scan n s) → (k ≡ GapKind.lineComment) ⊎ (k ≡ GapKind.blockComment)
     go (Opened.line q f) = inl (cc)
     go (Opened.block q f) = inr (cc)
-    go (Opened.unclosed f) = zero_one (cc)
+    go (Opened.unclosed f) = zero-one (cc)
 
 pub comment-token : (n : ℕ) (s : Text) (k : TokenKind) (r : Text) → opensComment s ≡ true → scan n s ≡ Found.token k r → ⊥
 comment-token n s k r o e = go (opened n s o)
   where
     go : Opened n s (scan n s) → ⊥
-    go (Opened.line q f) = zero_one (cc)
-    go (Opened.block q f) = zero_one (cc)
-    go (Opened.unclosed f) = zero_one (cc)
+    go (Opened.line q f) = zero-one (cc)
+    go (Opened.block q f) = zero-one (cc)
+    go (Opened.unclosed f) = zero-one (cc)
 
 pub comment-stuck : (n : ℕ) (s : Text) (j : ℕ) (r : Text) → opensComment s ≡ true → scan n s ≡ Found.stuck j r → (j ≡ 2) × (r ≡ s)
 comment-stuck n s j r o e = go (opened n s o)
   where
     go : Opened n s (scan n s) → (j ≡ 2) × (r ≡ s)
-    go (Opened.line q f) = zero_one (cc)
-    go (Opened.block q f) = zero_one (cc)
+    go (Opened.line q f) = zero-one (cc)
+    go (Opened.block q f) = zero-one (cc)
     go (Opened.unclosed f) = (cc, cc)
 
 comment-on : (n : ℕ) (g : Gap) (c : Char) (s r : Text) (k : GapKind) → (k ≡ GapKind.lineComment) ⊎ (k ≡ GapKind.blockComment) → scan n (c ∷ s) ≡ Found.gap k r → seek n 0 g (c ∷ s) ≡ seek n 0 (push k g) r
@@ -314,18 +314,18 @@ later-place s i r h (f, l) =
     (omega arith, omega arith)
 
 -- where no comment, blank or line end stands, no gap piece is found
-pub no_gap : (n : ℕ) (c : Char) (s : Text) (k : GapKind) (r : Text) → opensComment (c ∷ s) ≡ false → isAny " \t\n\r" (c ∷ s) ≡ false → scan n (c ∷ s) ≡ Found.gap k r → ⊥
-no_gap n c s k r z w e = go (start_of (c ∷ s)) refl (start-fact (c ∷ s))
+pub no-gap : (n : ℕ) (c : Char) (s : Text) (k : GapKind) (r : Text) → opensComment (c ∷ s) ≡ false → isAny " \t\n\r" (c ∷ s) ≡ false → scan n (c ∷ s) ≡ Found.gap k r → ⊥
+no-gap n c s k r z w e = go (startOf (c ∷ s)) refl (start-fact (c ∷ s))
   where
-    off : (b : String) → every (one_of " \t\n\r") (codes b) ≡ true → isAny b (c ∷ s) ≡ true → ⊥
-    off b h q = clash (sym (none_of " \t\n\r" b h (c ∷ s) w) ∙ q)
+    off : (b : String) → every (oneOf " \t\n\r") (codes b) ≡ true → isAny b (c ∷ s) ≡ true → ⊥
+    off b h q = clash (sym (none-of " \t\n\r" b h (c ∷ s) w) ∙ q)
 
     found : (x : Found) → scan n (c ∷ s) ≡ x → gapless x ≡ true → ⊥
     found (Found.gap j q) p y = clash y
-    found (Found.token j q) p y = zero_one (cc)
-    found (Found.stuck j q) p y = zero_one (cc)
+    found (Found.token j q) p y = zero-one (cc)
+    found (Found.stuck j q) p y = zero-one (cc)
 
-    go : (x : Start) → start_of (c ∷ s) ≡ x → Fact (c ∷ s) x → ⊥
+    go : (x : Start) → startOf (c ∷ s) ≡ x → Fact (c ∷ s) x → ⊥
     go Start.line p (Fact.line q) = clash (sym (clear (c ∷ s) z).line ∙ q)
     go Start.block p (Fact.block q) = clash (sym (clear (c ∷ s) z).block ∙ q)
     go Start.blank p (Fact.blank y q) = off " \t" refl q
@@ -344,7 +344,7 @@ no_gap n c s k r z w e = go (start_of (c ∷ s)) refl (start-fact (c ∷ s))
 pub no-line-end : (s : List ℕ) (i : ℕ) → isAny " \t" (from s i) ≡ false → (get_or s i 0 ≡ 0x0A → ⊥) → (get_or s i 0 ≡ 0x0D → ⊥) → isAny " \t\n\r" (from s i) ≡ false
 no-line-end s i a b c =
     any-byte " \t\n\r" refl s i
-    ∙ no_member (λ x. not (one_of " \t" x) && not (eqb x 0x0A) && not (eqb x 0x0D)) (codes " \t\n\r") (get_or s i 0) refl
+    ∙ no-member (λ x. not (oneOf " \t" x) && not (eqb x 0x0A) && not (eqb x 0x0D)) (codes " \t\n\r") (get_or s i 0) refl
     (rw (sym (any-byte " \t" refl s i) ∙ a, ne_eqb (get_or s i 0) 0x0A b, ne_eqb (get_or s i 0) 0x0D c))
 
 -- a comment that is no line comment
@@ -360,12 +360,12 @@ block-opens s o e = go (opensLine s) (opensBlock s) e o
 module _ (s : List ℕ) (i : ℕ) where
   pub lf-scan : i < length s → get_or s i 0 ≡ 0x0A → scan (length s) (from s i) ≡ Found.gap GapKind.lineEnd (from s (i + 1))
   lf-scan h e =
-      let t : from s i ≡ record { code = 0x0A; at = i } ∷ from s (i + 1) = at_ascii s i h (rw e (omega arith)) ∙ ap (λ z. record { code = z; at = i } ∷ from s (i + 1)) e in
+      let t : from s i ≡ record { code = 0x0A; at = i } ∷ from s (i + 1) = at-ascii s i h (rw e (omega arith)) ∙ ap (λ z. record { code = z; at = i } ∷ from s (i + 1)) e in
       let b : isAny "\n" (from s i) ≡ true = ap (isAny "\n") t in
-      scan-by (length s) (from s i) Start.lf (starts-lf (from s i) (clear-head (one_of "\n") refl (from s i) b) b) ∙ ap (λ u. Found.gap GapKind.lineEnd (drop 1 u)) t
+      scan-by (length s) (from s i) Start.lf (starts-lf (from s i) (clear-head (oneOf "\n") refl (from s i) b) b) ∙ ap (λ u. Found.gap GapKind.lineEnd (drop 1 u)) t
 
   return-scan : isAny "\r" (from s i) ≡ true → scan (length s) (from s i) ≡ scanReturn (from s i)
-  return-scan b = scan-by (length s) (from s i) Start.cr (starts-cr (from s i) (clear-head (one_of "\r") refl (from s i) b) b)
+  return-scan b = scan-by (length s) (from s i) Start.cr (starts-cr (from s i) (clear-head (oneOf "\r") refl (from s i) b) b)
 
   pub crlf-scan : Pair s i 0x0D 0x0A → scan (length s) (from s i) ≡ Found.gap GapKind.lineEnd (from s (i + 2))
   unfolding scanReturn begins
@@ -387,59 +387,59 @@ module _ (s : List ℕ) (i : ℕ) (g : Gap) (h : i < length s) where
   m = length s
 
   -- a token: from its piece to the step
-  pub next-token : (k : TokenKind) (e : Cursor) (cut : Bool) → cut ≡ cut_of g → piece.Token k e ≡ piece_of m (scan m (from s i)) → next.Token k i e cut ≡ next_of m (seek m 0 g (from s i))
-  unfolding piece_of next_of
+  pub next-token : (k : TokenKind) (e : Cursor) (cut : Bool) → cut ≡ cutOf g → piece.Token k e ≡ pieceOf m (scan m (from s i)) → next.Token k i e cut ≡ nextOf m (seek m 0 g (from s i))
+  unfolding pieceOf nextOf
   next-token k e cut y q = ap (next.Token k i e) y ∙ go (scan m (from s i)) refl q
     where
-      go : (f : Found) → scan m (from s i) ≡ f → piece.Token k e ≡ piece_of m f → next.Token k i e (cut_of g) ≡ next_of m (seek m 0 g (from s i))
+      go : (f : Found) → scan m (from s i) ≡ f → piece.Token k e ≡ pieceOf m f → next.Token k i e (cutOf g) ≡ nextOf m (seek m 0 g (from s i))
       go (Found.token x r) p q =
           let t = at-char s i h in
           let a : x ≡ k = cc in
           let b : cursorAt (place m r) ≡ e = cc in
           let w = seek-token m g _ _ r x (ap (scan m) (sym t) ∙ p) in
-          sym (ap (λ u. next_of m (seek m 0 g u)) t ∙ ap (next_of m) w ∙ ap (λ z. next.Token z i (cursorAt (place m r)) (cut_of g)) a ∙ ap (λ z. next.Token k i z (cut_of g)) b)
-      go (Found.stuck j r) p q = zero_one (cc)
-      go (Found.gap j r) p q = zero_one (cc)
+          sym (ap (λ u. nextOf m (seek m 0 g u)) t ∙ ap (nextOf m) w ∙ ap (λ z. next.Token z i (cursorAt (place m r)) (cutOf g)) a ∙ ap (λ z. next.Token k i z (cutOf g)) b)
+      go (Found.stuck j r) p q = zero-one (cc)
+      go (Found.gap j r) p q = zero-one (cc)
 
   -- a refusal
-  pub next-refused : (j a : ℕ) → opensComment (from s i) ≡ false → isAny " \t\n\r" (from s i) ≡ false → piece.Refused j a ≡ piece_of m (scan m (from s i))
-      → next.Refused j a ≡ next_of m (seek m 0 g (from s i))
-  unfolding piece_of next_of
+  pub next-refused : (j a : ℕ) → opensComment (from s i) ≡ false → isAny " \t\n\r" (from s i) ≡ false → piece.Refused j a ≡ pieceOf m (scan m (from s i))
+      → next.Refused j a ≡ nextOf m (seek m 0 g (from s i))
+  unfolding pieceOf nextOf
   next-refused j a z w q = go (scan m (from s i)) refl q
     where
-      go : (f : Found) → scan m (from s i) ≡ f → piece.Refused j a ≡ piece_of m f → next.Refused j a ≡ next_of m (seek m 0 g (from s i))
+      go : (f : Found) → scan m (from s i) ≡ f → piece.Refused j a ≡ pieceOf m f → next.Refused j a ≡ nextOf m (seek m 0 g (from s i))
       go (Found.stuck x r) p q =
           let t = at-char s i h in
           let b : x ≡ j = cc in
           let d : place m r ≡ a = cc in
           let w = seek-stuck m g _ _ r x (ap (scan m) (sym t) ∙ p) in
-          sym (ap (λ u. next_of m (seek m 0 g u)) t ∙ ap (next_of m) w ∙ ap (λ z. next.Refused z (place m r)) b ∙ ap (next.Refused j) d)
-      go (Found.token x r) p q = zero_one (cc)
+          sym (ap (λ u. nextOf m (seek m 0 g u)) t ∙ ap (nextOf m) w ∙ ap (λ z. next.Refused z (place m r)) b ∙ ap (next.Refused j) d)
+      go (Found.token x r) p q = zero-one (cc)
       go (Found.gap x r) p q =
           let t = at-char s i h in
-          absurd (no_gap m _ _ x r (sym (ap opensComment t) ∙ z) (sym (ap (isAny " \t\n\r") t) ∙ w) (ap (scan m) (sym t) ∙ p))
+          absurd (no-gap m _ _ x r (sym (ap opensComment t) ∙ z) (sym (ap (isAny " \t\n\r") t) ∙ w) (ap (scan m) (sym t) ∙ p))
 
   -- a line end of one byte or two
-  pub next-lf : get_or s i 0 ≡ 0x0A → next.LineEnd i (cursorAt (i + 1)) g.comment (push GapKind.lineEnd g) ≡ next_of m (seek m 0 g (from s i))
-  unfolding next_of
+  pub next-lf : get_or s i 0 ≡ 0x0A → next.LineEnd i (cursorAt (i + 1)) g.comment (push GapKind.lineEnd g) ≡ nextOf m (seek m 0 g (from s i))
+  unfolding nextOf
   next-lf e =
       let t = at-char s i h in
       let w = seek-end m g _ _ (from s (i + 1)) (ap (scan m) (sym t) ∙ lf-scan s i h e) in
-      sym (ap (λ u. next_of m (seek m 0 g u)) t ∙ ap (next_of m) w ∙ ap (λ j. next.LineEnd i (cursorAt j) g.comment (push GapKind.lineEnd g)) (place-from s (i + 1) (omega arith)))
+      sym (ap (λ u. nextOf m (seek m 0 g u)) t ∙ ap (nextOf m) w ∙ ap (λ j. next.LineEnd i (cursorAt j) g.comment (push GapKind.lineEnd g)) (place-from s (i + 1) (omega arith)))
 
-  pub next-crlf : Pair s i 0x0D 0x0A → next.LineEnd i (cursorAt (i + 2)) g.comment (push GapKind.lineEnd g) ≡ next_of m (seek m 0 g (from s i))
-  unfolding next_of
+  pub next-crlf : Pair s i 0x0D 0x0A → next.LineEnd i (cursorAt (i + 2)) g.comment (push GapKind.lineEnd g) ≡ nextOf m (seek m 0 g (from s i))
+  unfolding nextOf
   next-crlf p =
       let w = seek-end m g _ _ (from s (i + 2)) (ap (scan m) (sym p.text) ∙ crlf-scan s i p) in
-      sym (ap (λ u. next_of m (seek m 0 g u)) p.text ∙ ap (next_of m) w ∙ ap (λ j. next.LineEnd i (cursorAt j) g.comment (push GapKind.lineEnd g)) (place-from s (i + 2) p.within))
+      sym (ap (λ u. nextOf m (seek m 0 g u)) p.text ∙ ap (nextOf m) w ∙ ap (λ j. next.LineEnd i (cursorAt j) g.comment (push GapKind.lineEnd g)) (place-from s (i + 2) p.within))
 
-  pub next-cr : isAny "\r" (from s i) ≡ true → begins "\r\n" (from s i) ≡ false → next.Refused 1 i ≡ next_of m (seek m 0 g (from s i))
-  unfolding next_of scanReturn
+  pub next-cr : isAny "\r" (from s i) ≡ true → begins "\r\n" (from s i) ≡ false → next.Refused 1 i ≡ nextOf m (seek m 0 g (from s i))
+  unfolding nextOf scanReturn
   next-cr b e =
       let t = at-char s i h in
       let f : scan m (from s i) ≡ Found.stuck 1 (from s i) = return-scan s i b ∙ rw e in
       let w = seek-stuck m g _ _ (from s i) 1 (ap (scan m) (sym t) ∙ f) in
-      sym (ap (λ u. next_of m (seek m 0 g u)) t ∙ ap (next_of m) w ∙ ap (next.Refused 1) (place-from s i (omega arith)))
+      sym (ap (λ u. nextOf m (seek m 0 g u)) t ∙ ap (nextOf m) w ∙ ap (next.Refused 1) (place-from s i (omega arith)))
 
   -- ---- comments
 
@@ -455,7 +455,7 @@ module _ (s : List ℕ) (i : ℕ) (g : Gap) (h : i < length s) where
   pass-block e f y o q = ap (passed.To e) y ∙ go (close 0 0 (drop 2 (from s i))) refl q
     where
       go : (x : Option Text) → close 0 0 (drop 2 (from s i)) ≡ x → shut.At e ≡ closedOf m x → passed.To e (push GapKind.blockComment g) ≡ passedOf m g (scan m (from s i))
-      go none p q = zero_one (cc)
+      go none p q = zero-one (cc)
       go (some r) p q =
           let b : cursorAt (place m r) ≡ e = cc in
           sym (ap (passedOf m g) (block-scan s i o ∙ ap (blockOr (from s i)) p) ∙ ap (λ z. passed.To z (push GapKind.blockComment g)) b)
@@ -466,35 +466,35 @@ module _ (s : List ℕ) (i : ℕ) (g : Gap) (h : i < length s) where
     where
       go : (x : Option Text) → close 0 0 (drop 2 (from s i)) ≡ x → shut.Open ≡ closedOf m x → passed.Open ≡ passedOf m g (scan m (from s i))
       go none p q = sym (ap (passedOf m g) (block-scan s i o ∙ ap (blockOr (from s i)) p))
-      go (some r) p q = zero_one (cc)
+      go (some r) p q = zero-one (cc)
 
   -- past a comment the search goes on from its end
-  pub pass_on : (e : Cursor) (f : Gap) → opensComment (from s i) ≡ true → passed.To e f ≡ passedOf m g (scan m (from s i))
+  pub pass-on : (e : Cursor) (f : Gap) → opensComment (from s i) ≡ true → passed.To e f ≡ passedOf m g (scan m (from s i))
       → (i < e.at) × (e.at ≤ length s) × (seek m 0 f (from s e.at) ≡ seek m 0 g (from s i))
-  pass_on e f o q = go (scan m (from s i)) refl q
+  pass-on e f o q = go (scan m (from s i)) refl q
     where
       go : (x : Found) → scan m (from s i) ≡ x → passed.To e f ≡ passedOf m g x → (i < e.at) × (e.at ≤ length s) × (seek m 0 f (from s e.at) ≡ seek m 0 g (from s i))
-      go (Found.token k r) p q = zero_one (cc)
-      go (Found.stuck j r) p q = zero_one (cc)
+      go (Found.token k r) p q = zero-one (cc)
+      go (Found.stuck j r) p q = zero-one (cc)
       go (Found.gap k r) p q =
           let t = at-char s i h in
           let a : cursorAt (place m r) ≡ e = cc in
           let b : push k g ≡ f = cc in
           let d : place m r ≡ e.at = ap (λ (c : Cursor). c.at) a in
           let y = gap-strict m _ _ k r (ap (scan m) (sym t) ∙ p) in
-          let u : from s e.at ≡ r = ap (from s) (sym d) ∙ left_at s i r (rw t y.0) in
+          let u : from s e.at ≡ r = ap (from s) (sym d) ∙ left-at s i r (rw t y.0) in
           let w = later-place s i r h (rw t y) in
           (omega arith, omega arith, ap (seek m 0 f) u ∙ sym (ap (seek m 0 g) t ∙ comment-on m g _ _ r k (comment-kind m (from s i) k r o p) (ap (scan m) (sym t) ∙ p) ∙ ap (λ z. seek m 0 z r) b))
 
-  pub pass-none : opensComment (from s i) ≡ true → passed.Open ≡ passedOf m g (scan m (from s i)) → next.Refused 2 i ≡ next_of m (seek m 0 g (from s i))
-  unfolding next_of
+  pub pass-none : opensComment (from s i) ≡ true → passed.Open ≡ passedOf m g (scan m (from s i)) → next.Refused 2 i ≡ nextOf m (seek m 0 g (from s i))
+  unfolding nextOf
   pass-none o q = go (scan m (from s i)) refl q
     where
-      go : (x : Found) → scan m (from s i) ≡ x → passed.Open ≡ passedOf m g x → next.Refused 2 i ≡ next_of m (seek m 0 g (from s i))
-      go (Found.gap k r) p q = zero_one (cc)
+      go : (x : Found) → scan m (from s i) ≡ x → passed.Open ≡ passedOf m g x → next.Refused 2 i ≡ nextOf m (seek m 0 g (from s i))
+      go (Found.gap k r) p q = zero-one (cc)
       go (Found.token k r) p q = absurd (comment-token m (from s i) k r o p)
       go (Found.stuck j r) p q =
           let t = at-char s i h in
           let y = comment-stuck m (from s i) j r o p in
           let w = seek-stuck m g _ _ r j (ap (scan m) (sym t) ∙ p) in
-          sym (ap (λ u. next_of m (seek m 0 g u)) t ∙ ap (next_of m) w ∙ ap (λ z. next.Refused z (place m r)) y.0 ∙ ap (λ u. next.Refused 2 (place m u)) y.1 ∙ ap (next.Refused 2) (place-from s i (omega arith)))
+          sym (ap (λ u. nextOf m (seek m 0 g u)) t ∙ ap (nextOf m) w ∙ ap (λ z. next.Refused z (place m r)) y.0 ∙ ap (λ u. next.Refused 2 (place m u)) y.1 ∙ ap (next.Refused 2) (place-from s i (omega arith)))

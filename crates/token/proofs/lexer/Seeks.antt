@@ -5,19 +5,19 @@ use mathlib.Core.Bool.{Bool, true, false, cond}
 use mathlib.Core.List.{List, [], ◌∷◌}
 use lib.ListN.{length, drop}
 use native.Mathlib.Omega.{arith}
-use Rattle.chars.specs.paper.Quoted.{one_of}
+use Rattle.chars.specs.paper.Quoted.{oneOf}
 use Rattle.chars.specs.paper.Text.{Char, Text, from, place}
 use Rattle.chars.specs.computed.Runs.{afterRun}
 use Rattle.chars.specs.promises.Texts.{Suffix}
 use Rattle.chars.proofs.theorems.Promises.{text-laws}
 use Rattle.token.specs.paper.Tests.{isAny}
-use Rattle.token.specs.computed.Flags.{GapKind, push, cut_of}
+use Rattle.token.specs.computed.Flags.{GapKind, push, cutOf}
 use Rattle.token.specs.computed.Answer.{Found, Start, scan}
-use Rattle.token.specs.code.Lexer.{Sought, seek, next_of}
+use Rattle.token.specs.code.Lexer.{Sought, seek, nextOf}
 use Rattle.token.specs.declared.lexer.Next.TheVariants as next
 use Rattle.token.specs.declared.gap.Gap.{Gap}
 use Rattle.token.specs.declared.kinds.TokenKind.{TokenKind}
-use Rattle.token.proofs.Base.{zero_one}
+use Rattle.token.proofs.Base.{zero-one}
 use Rattle.token.proofs.theorems.Dispatch.{Hit, Scanned, scan-stands, scan-by, starts-blank, clear-head}
 use Rattle.token.proofs.theorems.Shorter.{Strict, stands-strict}
 open text-laws use {text-suffix, text-place, at-end}
@@ -36,8 +36,8 @@ module _ (n : ℕ) (c : Char) (s : Text) where
       go (Scanned.hit {k} {r = q} h (Hit.lineEnd f)) = rw (sym (same _ q f)) (stands-strict k (c ∷ s) q h)
       go (Scanned.hit {k} {r = q} h (Hit.lineComment f)) = rw (sym (same _ q f)) (stands-strict k (c ∷ s) q h)
       go (Scanned.hit {k} {r = q} h (Hit.blockComment f)) = rw (sym (same _ q f)) (stands-strict k (c ∷ s) q h)
-      go (Scanned.hit {k} {r = q} h (Hit.token f v)) = zero_one (cc)
-      go (Scanned.fell h) = let f = h.found in zero_one (cc)
+      go (Scanned.hit {k} {r = q} h (Hit.token f v)) = zero-one (cc)
+      go (Scanned.fell h) = let f = h.found in zero-one (cc)
 
   pub token-strict : (k : TokenKind) (r : Text) → scan n (c ∷ s) ≡ Found.token k r → Strict r (c ∷ s)
   token-strict k r e = go (scan-stands n c s)
@@ -46,12 +46,12 @@ module _ (n : ℕ) (c : Char) (s : Text) where
       same x q f = cc
 
       go : Scanned n (c ∷ s) (scan n (c ∷ s)) → Strict r (c ∷ s)
-      go (Scanned.hit {k} {r = q} h (Hit.blank f)) = zero_one (cc)
-      go (Scanned.hit {k} {r = q} h (Hit.lineEnd f)) = zero_one (cc)
-      go (Scanned.hit {k} {r = q} h (Hit.lineComment f)) = zero_one (cc)
-      go (Scanned.hit {k} {r = q} h (Hit.blockComment f)) = zero_one (cc)
+      go (Scanned.hit {k} {r = q} h (Hit.blank f)) = zero-one (cc)
+      go (Scanned.hit {k} {r = q} h (Hit.lineEnd f)) = zero-one (cc)
+      go (Scanned.hit {k} {r = q} h (Hit.lineComment f)) = zero-one (cc)
+      go (Scanned.hit {k} {r = q} h (Hit.blockComment f)) = zero-one (cc)
       go (Scanned.hit {k} {r = q} h (Hit.token f v)) = rw (sym (same _ q f)) (stands-strict k (c ∷ s) q h)
-      go (Scanned.fell h) = let f = h.found in zero_one (cc)
+      go (Scanned.fell h) = let f = h.found in zero-one (cc)
 
 -- ---- one step
 
@@ -84,7 +84,7 @@ module _ (n : ℕ) (g : Gap) (c : Char) (s r : Text) where
   unfolding seek
   seek-end e = rw (e, seek)
 
-  pub seek-token : (k : TokenKind) → scan n (c ∷ s) ≡ Found.token k r → seek n 0 g (c ∷ s) ≡ Sought.token k (c ∷ s) r (cut_of g)
+  pub seek-token : (k : TokenKind) → scan n (c ∷ s) ≡ Found.token k r → seek n 0 g (c ∷ s) ≡ Sought.token k (c ∷ s) r (cutOf g)
   unfolding seek
   seek-token k e = rw (e, seek)
 
@@ -95,7 +95,7 @@ module _ (n : ℕ) (g : Gap) (c : Char) (s r : Text) where
 -- ---- blanks
 
 pub blank-scan : (n : ℕ) (c : Char) (s : Text) → isAny " \t" (c ∷ s) ≡ true → scan n (c ∷ s) ≡ Found.gap GapKind.blank s
-blank-scan n c s e = scan-by n (c ∷ s) Start.blank (starts-blank (c ∷ s) (clear-head (one_of " \t") refl (c ∷ s) e) e)
+blank-scan n c s e = scan-by n (c ∷ s) Start.blank (starts-blank (c ∷ s) (clear-head (oneOf " \t") refl (c ∷ s) e) e)
 
 pub seek-blanks : (n : ℕ) (g : Gap) (s : Text) → seek n 0 g (afterRun (isAny " \t") s) ≡ seek n 0 g s
 unfolding afterRun
@@ -118,10 +118,10 @@ blanks-done (c ∷ s) = go (isAny " \t" (c ∷ s)) refl (blanks-done s)
 
 -- ---- a text that is left is the script's text from its place on
 
-pub left_at : (script : List ℕ) (i : ℕ) (r : Text) → Suffix r (from script i) → from script (place (length script) r) ≡ r
-left_at script i r h = text-place script r (text-suffix script r (from script i) h (i, refl))
+pub left-at : (script : List ℕ) (i : ℕ) (r : Text) → Suffix r (from script i) → from script (place (length script) r) ≡ r
+left-at script i r h = text-place script r (text-suffix script r (from script i) h (i, refl))
 
 -- nothing is left
-pub seek-none : (s : List ℕ) (i : ℕ) (g : Gap) → length s ≤ i → next.End (cut_of g) ≡ next_of (length s) (seek (length s) 0 g (from s i))
-unfolding next_of seek
-seek-none s i g h = sym (ap (λ u. next_of (length s) (seek (length s) 0 g u)) (at-end s i h))
+pub seek-none : (s : List ℕ) (i : ℕ) (g : Gap) → length s ≤ i → next.End (cutOf g) ≡ nextOf (length s) (seek (length s) 0 g (from s i))
+unfolding nextOf seek
+seek-none s i g h = sym (ap (λ u. nextOf (length s) (seek (length s) 0 g u)) (at-end s i h))

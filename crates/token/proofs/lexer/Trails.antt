@@ -11,12 +11,12 @@ use Rattle.chars.specs.computed.Runs.{afterRun}
 use Rattle.token.specs.paper.Tests.{isAny}
 use Rattle.token.specs.paper.Kinds.{Token}
 use Rattle.token.specs.paper.Records.{recordLength, recordOf, records, recordBytes}
-use Rattle.token.specs.computed.Flags.{GapKind, fresh, push, cut_of}
+use Rattle.token.specs.computed.Flags.{GapKind, fresh, push, cutOf}
 use Rattle.token.specs.computed.Answer.{Found, scan, Answer, tokenized, refused, prepend, gapBefore, walk}
-use Rattle.token.specs.code.Records.{Trail, gapGoes, trail, answer_of, tokensOn, stores, storedIf, eofAt}
+use Rattle.token.specs.code.Records.{Trail, gapGoes, trail, answerOf, tokensOn, stores, storedIf, eofAt}
 use Rattle.token.specs.declared.gap.Gap.{Gap}
 use Rattle.token.specs.declared.kinds.TokenKind.{TokenKind}
-use Rattle.token.proofs.Base.{zero_one}
+use Rattle.token.proofs.Base.{zero-one}
 use Rattle.token.proofs.theorems.Shorter.{Strict}
 use Rattle.token.proofs.lexer.Seeks.{blank-scan, gap-strict}
 use Rattle.token.proofs.form.Stores.{length-record, stored-in}
@@ -42,16 +42,16 @@ unfolding trail
 trail-gap n f c s r g e h = rw (e, trail) (ap (gapGoes g c.at (place n r) f.comment) (trail-rest n (push g f) c s r h))
 
 pub trail-token : (n : ℕ) (f : Gap) (c : Char) (s r : Text) (t : TokenKind) → scan n (c ∷ s) ≡ Found.token t r → Strict r (c ∷ s)
-    → trail n 0 f (c ∷ s) ≡ Trail.goes (record { kind = t; start = c.at; end = place n r; cut = cut_of f }) (trail n 0 fresh r)
+    → trail n 0 f (c ∷ s) ≡ Trail.goes (record { kind = t; start = c.at; end = place n r; cut = cutOf f }) (trail n 0 fresh r)
 unfolding trail
 trail-token n f c s r t e h =
-    rw (e, trail) (ap (Trail.goes (record { kind = t; start = c.at; end = place n r; cut = cut_of f })) (trail-rest n fresh c s r h))
+    rw (e, trail) (ap (Trail.goes (record { kind = t; start = c.at; end = place n r; cut = cutOf f })) (trail-rest n fresh c s r h))
 
 pub trail-stuck : (n : ℕ) (f : Gap) (c : Char) (s q : Text) (j : ℕ) → scan n (c ∷ s) ≡ Found.stuck j q → trail n 0 f (c ∷ s) ≡ Trail.stops j (place n q)
 unfolding trail
 trail-stuck n f c s q j e = rw (e, trail)
 
-pub trail-end : (n : ℕ) (f : Gap) → trail n 0 f [] ≡ Trail.ends (eofAt n (cut_of f))
+pub trail-end : (n : ℕ) (f : Gap) → trail n 0 f [] ≡ Trail.ends (eofAt n (cutOf f))
 unfolding trail
 trail-end n f = refl
 
@@ -67,34 +67,34 @@ trail-blanks n g (c ∷ s) = go (isAny " \t" (c ∷ s)) refl (trail-blanks n g s
 
 -- ---- what it comes to
 
-gap-answer : (p : GapKind) (a e : ℕ) (mark : Bool) (w : Trail) → answer_of (gapGoes p a e mark w) ≡ gapBefore p a e mark (answer_of w)
+gap-answer : (p : GapKind) (a e : ℕ) (mark : Bool) (w : Trail) → answerOf (gapGoes p a e mark w) ≡ gapBefore p a e mark (answerOf w)
 gap-answer GapKind.blank a e mark w = refl
 gap-answer GapKind.lineEnd a e mark w = refl
 gap-answer GapKind.lineComment a e mark w = refl
 gap-answer GapKind.blockComment a e mark w = refl
 
-pub trail-answer : (n k : ℕ) (g : Gap) (s : Text) → answer_of (trail n k g s) ≡ walk n k g s
+pub trail-answer : (n k : ℕ) (g : Gap) (s : Text) → answerOf (trail n k g s) ≡ walk n k g s
 unfolding trail walk
 trail-answer n zero g [] = refl
 trail-answer n (suc k) g [] = refl
 trail-answer n (suc k) g (c ∷ s) = trail-answer n k g s
 trail-answer n zero g (c ∷ s) = go (scan n (c ∷ s)) refl (λ k h. trail-answer n k h s)
   where
-    go : (f : Found) → scan n (c ∷ s) ≡ f → ((k : ℕ) (h : Gap) → answer_of (trail n k h s) ≡ walk n k h s) → answer_of (trail n 0 g (c ∷ s)) ≡ walk n 0 g (c ∷ s)
+    go : (f : Found) → scan n (c ∷ s) ≡ f → ((k : ℕ) (h : Gap) → answerOf (trail n k h s) ≡ walk n k h s) → answerOf (trail n 0 g (c ∷ s)) ≡ walk n 0 g (c ∷ s)
     go (Found.gap p r) e i =
         rw (e, trail, walk) (gap-answer p c.at (place n r) g.comment _ ∙ ap (gapBefore p c.at (place n r) g.comment) (i (length s - length r) (push p g)))
-    go (Found.token t r) e i = rw (e, trail, walk) (ap (prepend (record { kind = t; start = c.at; end = place n r; cut = cut_of g })) (i (length s - length r) fresh))
+    go (Found.token t r) e i = rw (e, trail, walk) (ap (prepend (record { kind = t; start = c.at; end = place n r; cut = cutOf g })) (i (length s - length r) fresh))
     go (Found.stuck j q) e i = rw (e, trail, walk)
 
 -- where it comes to tokens, it came over these
-pub tokens-on : (v : Trail) (ts : List Token) → answer_of v ≡ tokenized ts → tokensOn v ≡ ts
-tokens-on (Trail.goes t w) ts e = go (answer_of w) refl e (tokens-on w)
+pub tokens-on : (v : Trail) (ts : List Token) → answerOf v ≡ tokenized ts → tokensOn v ≡ ts
+tokens-on (Trail.goes t w) ts e = go (answerOf w) refl e (tokens-on w)
   where
-    go : (x : Answer) → answer_of w ≡ x → prepend t x ≡ tokenized ts → ((us : List Token) → answer_of w ≡ tokenized us → tokensOn w ≡ us) → t ∷ tokensOn w ≡ ts
+    go : (x : Answer) → answerOf w ≡ x → prepend t x ≡ tokenized ts → ((us : List Token) → answerOf w ≡ tokenized us → tokensOn w ≡ us) → t ∷ tokensOn w ≡ ts
     go (tokenized us) f q i = let b : t ∷ us ≡ ts = cc in ap (λ z. t ∷ z) (i us f) ∙ b
-    go (refused j a) f q i = zero_one (cc)
+    go (refused j a) f q i = zero-one (cc)
 tokens-on (Trail.ends t) ts e = cc
-tokens-on (Trail.stops j a) ts e = zero_one (cc)
+tokens-on (Trail.stops j a) ts e = zero-one (cc)
 
 -- ---- records that are stored one after another
 

@@ -15,18 +15,18 @@ use Rattle.token.specs.computed.Flags.{GapKind, fresh, push}
 use Rattle.token.specs.computed.Answer.{Found, scan}
 use Rattle.token.specs.code.Records.{Trail, trail, eofAt}
 use Rattle.token.specs.code.Cursor.{cursorAt}
-use Rattle.token.specs.code.Lexer.{Sought, seek, next_of}
+use Rattle.token.specs.code.Lexer.{Sought, seek, nextOf}
 use Rattle.token.specs.declared.gap.Gap.{Gap}
 use Rattle.token.specs.declared.cursor.Cursor.{Cursor}
 use Rattle.token.specs.declared.kinds.TokenKind.{TokenKind}
 use Rattle.token.specs.declared.kinds.TokenKind.TheVariants as tk
 use Rattle.token.specs.declared.lexer.Next.TheVariants as next
-use Rattle.token.proofs.Base.{zero_one}
+use Rattle.token.proofs.Base.{zero-one}
 use Rattle.token.proofs.theorems.Shorter.{Strict}
-use Rattle.token.proofs.lexer.Seeks.{gap-strict, token-strict, seek-blank, seek-line, seek-block, seek-end, seek-token, seek-stuck, left_at}
+use Rattle.token.proofs.lexer.Seeks.{gap-strict, token-strict, seek-blank, seek-line, seek-block, seek-end, seek-token, seek-stuck, left-at}
 use Rattle.token.proofs.lexer.Laws.{later-place}
 use Rattle.token.proofs.lexer.Trails.{trail-gap, trail-token, trail-stuck, trail-end}
-open text-laws use {suffix_refl, suffix_trans, at-end}
+open text-laws use {suffix-refl, suffix-trans, at-end}
 
 -- ---- on texts
 
@@ -41,8 +41,8 @@ pub data Meets (n : ℕ) (g : Gap) (s : Text) : Sought → Type 0 where
 
 -- past a gap piece without a token
 further : {n : ℕ} {g h : Gap} {s r : Text} {x : Sought} → Strict r s → trail n 0 g s ≡ trail n 0 h r → Meets n h r x → Meets n g s x
-further (f, l) e (Meets.token a (b, m) w) = Meets.token (suffix_trans a f) (suffix_trans b f, omega arith) (e ∙ w)
-further (f, l) e (Meets.lineEnd a (b, m) w) = Meets.lineEnd (suffix_trans a f) (suffix_trans b f, omega arith) (e ∙ w)
+further (f, l) e (Meets.token a (b, m) w) = Meets.token (suffix-trans a f) (suffix-trans b f, omega arith) (e ∙ w)
+further (f, l) e (Meets.lineEnd a (b, m) w) = Meets.lineEnd (suffix-trans a f) (suffix-trans b f, omega arith) (e ∙ w)
 further (f, l) e (Meets.ends w) = Meets.ends (e ∙ w)
 further (f, l) e (Meets.stuck w) = Meets.stuck (e ∙ w)
 
@@ -64,10 +64,10 @@ meets-one n fuel c s g l go (Found.gap GapKind.blockComment r) e =
     rw (seek-block n g c s r e) (further h (trail-gap n g c s r GapKind.blockComment e h) (go r (push GapKind.blockComment g) (omega arith)))
 meets-one n fuel c s g l go (Found.gap GapKind.lineEnd r) e =
     let h = gap-strict n c s GapKind.lineEnd r e in
-    rw (seek-end n g c s r e) (Meets.lineEnd (suffix_refl (c ∷ s)) h (trail-gap n g c s r GapKind.lineEnd e h))
+    rw (seek-end n g c s r e) (Meets.lineEnd (suffix-refl (c ∷ s)) h (trail-gap n g c s r GapKind.lineEnd e h))
 meets-one n fuel c s g l go (Found.token k r) e =
     let h = token-strict n c s k r e in
-    rw (seek-token n g c s r k e) (Meets.token (suffix_refl (c ∷ s)) h (trail-token n g c s r k e h))
+    rw (seek-token n g c s r k e) (Meets.token (suffix-refl (c ∷ s)) h (trail-token n g c s r k e h))
 meets-one n fuel c s g l go (Found.stuck j q) e = rw (seek-stuck n g c s q j e) (Meets.stuck (trail-stuck n g c s q j e))
 
 meets : (n fuel : ℕ) → Goes n fuel
@@ -85,8 +85,8 @@ pub record Turn (s : List ℕ) (i : ℕ) (g : Gap) (t : Token) (e : ℕ) (h : Ga
   pub within : e ≤ length s
 
 -- where something is left there is a character
-some_left : (s : List ℕ) (i : ℕ) (r : Text) → Strict r (from s i) → i < length s
-some_left s i r (f, l) = go (ltb i (length s)) refl
+some-left : (s : List ℕ) (i : ℕ) (r : Text) → Strict r (from s i) → i < length s
+some-left s i r (f, l) = go (ltb i (length s)) refl
   where
     go : (b : Bool) → ltb i (length s) ≡ b → i < length s
     go true e = ltb-true i (length s) e
@@ -99,76 +99,76 @@ module _ (s : List ℕ) (i : ℕ) (g : Gap) where
   found : Meets n g (from s i) (seek n 0 g (from s i))
   found = meets n (length (from s i)) (from s i) g (omega arith)
 
-  pub turn-token : (k : TokenKind) (a : ℕ) (e : Cursor) (cut : Bool) → next.Token k a e cut ≡ next_of n (seek n 0 g (from s i))
+  pub turn-token : (k : TokenKind) (a : ℕ) (e : Cursor) (cut : Bool) → next.Token k a e cut ≡ nextOf n (seek n 0 g (from s i))
       → Turn s i g (record { kind = k; start = a; end = e.at; cut = cut }) e.at fresh
-  unfolding next_of
+  unfolding nextOf
   turn-token k a e cut q = go (seek n 0 g (from s i)) found q
     where
-      go : (x : Sought) → Meets n g (from s i) x → next.Token k a e cut ≡ next_of n x → Turn s i g (record { kind = k; start = a; end = e.at; cut = cut }) e.at fresh
+      go : (x : Sought) → Meets n g (from s i) x → next.Token k a e cut ≡ nextOf n x → Turn s i g (record { kind = k; start = a; end = e.at; cut = cut }) e.at fresh
       go (Sought.token y p r d) (Meets.token f h w) q =
           let b1 : y ≡ k = cc in
           let b2 : place n p ≡ a = cc in
           let b3 : cursorAt (place n r) ≡ e = cc in
           let b4 : d ≡ cut = cc in
           let b5 : place n r ≡ e.at = ap (λ (c : Cursor). c.at) b3 in
-          let o = later-place s i r (some_left s i r h) h in
+          let o = later-place s i r (some-left s i r h) h in
           record {
             walked =
                 w ∙ ap (λ z. Trail.goes (record { kind = z; start = place n p; end = place n r; cut = d }) (trail n 0 fresh r)) b1
                 ∙ ap (λ z. Trail.goes (record { kind = k; start = z; end = place n r; cut = d }) (trail n 0 fresh r)) b2
                 ∙ ap (λ z. Trail.goes (record { kind = k; start = a; end = z; cut = d }) (trail n 0 fresh r)) b5
                 ∙ ap (λ z. Trail.goes (record { kind = k; start = a; end = e.at; cut = z }) (trail n 0 fresh r)) b4
-                ∙ ap (λ z. Trail.goes (record { kind = k; start = a; end = e.at; cut = cut }) (trail n 0 fresh z)) (sym (left_at s i r h.0) ∙ ap (from s) b5);
+                ∙ ap (λ z. Trail.goes (record { kind = k; start = a; end = e.at; cut = cut }) (trail n 0 fresh z)) (sym (left-at s i r h.0) ∙ ap (from s) b5);
             on = omega arith;
             within = omega arith;
           }
-      go (Sought.lineEnd p r m h) w q = zero_one (cc)
-      go (Sought.ends d) w q = zero_one (cc)
-      go (Sought.stuck j p) w q = zero_one (cc)
+      go (Sought.lineEnd p r m h) w q = zero-one (cc)
+      go (Sought.ends d) w q = zero-one (cc)
+      go (Sought.stuck j p) w q = zero-one (cc)
 
-  pub turn-line : (a : ℕ) (e : Cursor) (mark : Bool) (h : Gap) → next.LineEnd a e mark h ≡ next_of n (seek n 0 g (from s i))
+  pub turn-line : (a : ℕ) (e : Cursor) (mark : Bool) (h : Gap) → next.LineEnd a e mark h ≡ nextOf n (seek n 0 g (from s i))
       → Turn s i g (record { kind = tk.Newline mark; start = a; end = e.at; cut = false }) e.at h
-  unfolding next_of
+  unfolding nextOf
   turn-line a e mark h q = go (seek n 0 g (from s i)) found q
     where
-      go : (x : Sought) → Meets n g (from s i) x → next.LineEnd a e mark h ≡ next_of n x → Turn s i g (record { kind = tk.Newline mark; start = a; end = e.at; cut = false }) e.at h
+      go : (x : Sought) → Meets n g (from s i) x → next.LineEnd a e mark h ≡ nextOf n x → Turn s i g (record { kind = tk.Newline mark; start = a; end = e.at; cut = false }) e.at h
       go (Sought.lineEnd p r m v) (Meets.lineEnd f y w) q =
           let b2 : place n p ≡ a = cc in
           let b3 : cursorAt (place n r) ≡ e = cc in
           let b4 : m ≡ mark = cc in
           let b6 : v ≡ h = cc in
           let b5 : place n r ≡ e.at = ap (λ (c : Cursor). c.at) b3 in
-          let o = later-place s i r (some_left s i r y) y in
+          let o = later-place s i r (some-left s i r y) y in
           record {
             walked =
                 w ∙ ap (λ z. Trail.goes (record { kind = tk.Newline z; start = place n p; end = place n r; cut = false }) (trail n 0 v r)) b4
                 ∙ ap (λ z. Trail.goes (record { kind = tk.Newline mark; start = z; end = place n r; cut = false }) (trail n 0 v r)) b2
                 ∙ ap (λ z. Trail.goes (record { kind = tk.Newline mark; start = a; end = z; cut = false }) (trail n 0 v r)) b5
                 ∙ ap (λ z. Trail.goes (record { kind = tk.Newline mark; start = a; end = e.at; cut = false }) (trail n 0 z r)) b6
-                ∙ ap (λ z. Trail.goes (record { kind = tk.Newline mark; start = a; end = e.at; cut = false }) (trail n 0 h z)) (sym (left_at s i r y.0) ∙ ap (from s) b5);
+                ∙ ap (λ z. Trail.goes (record { kind = tk.Newline mark; start = a; end = e.at; cut = false }) (trail n 0 h z)) (sym (left-at s i r y.0) ∙ ap (from s) b5);
             on = omega arith;
             within = omega arith;
           }
-      go (Sought.token y p r d) w q = zero_one (cc)
-      go (Sought.ends d) w q = zero_one (cc)
-      go (Sought.stuck j p) w q = zero_one (cc)
+      go (Sought.token y p r d) w q = zero-one (cc)
+      go (Sought.ends d) w q = zero-one (cc)
+      go (Sought.stuck j p) w q = zero-one (cc)
 
-  pub turn_end : (cut : Bool) → next.End cut ≡ next_of n (seek n 0 g (from s i)) → trail n 0 g (from s i) ≡ Trail.ends (eofAt n cut)
-  unfolding next_of
-  turn_end cut q = go (seek n 0 g (from s i)) found q
+  pub turn-end : (cut : Bool) → next.End cut ≡ nextOf n (seek n 0 g (from s i)) → trail n 0 g (from s i) ≡ Trail.ends (eofAt n cut)
+  unfolding nextOf
+  turn-end cut q = go (seek n 0 g (from s i)) found q
     where
-      go : (x : Sought) → Meets n g (from s i) x → next.End cut ≡ next_of n x → trail n 0 g (from s i) ≡ Trail.ends (eofAt n cut)
+      go : (x : Sought) → Meets n g (from s i) x → next.End cut ≡ nextOf n x → trail n 0 g (from s i) ≡ Trail.ends (eofAt n cut)
       go (Sought.ends d) (Meets.ends w) q = let b : d ≡ cut = cc in w ∙ ap (λ z. Trail.ends (eofAt n z)) b
-      go (Sought.token y p r d) w q = zero_one (cc)
-      go (Sought.lineEnd p r m h) w q = zero_one (cc)
-      go (Sought.stuck j p) w q = zero_one (cc)
+      go (Sought.token y p r d) w q = zero-one (cc)
+      go (Sought.lineEnd p r m h) w q = zero-one (cc)
+      go (Sought.stuck j p) w q = zero-one (cc)
 
-  pub turn-stop : (j a : ℕ) → next.Refused j a ≡ next_of n (seek n 0 g (from s i)) → trail n 0 g (from s i) ≡ Trail.stops j a
-  unfolding next_of
+  pub turn-stop : (j a : ℕ) → next.Refused j a ≡ nextOf n (seek n 0 g (from s i)) → trail n 0 g (from s i) ≡ Trail.stops j a
+  unfolding nextOf
   turn-stop j a q = go (seek n 0 g (from s i)) found q
     where
-      go : (x : Sought) → Meets n g (from s i) x → next.Refused j a ≡ next_of n x → trail n 0 g (from s i) ≡ Trail.stops j a
+      go : (x : Sought) → Meets n g (from s i) x → next.Refused j a ≡ nextOf n x → trail n 0 g (from s i) ≡ Trail.stops j a
       go (Sought.stuck y p) (Meets.stuck w) q = let b : y ≡ j = cc in let d : place n p ≡ a = cc in w ∙ ap (λ z. Trail.stops z (place n p)) b ∙ ap (Trail.stops j) d
-      go (Sought.token y p r d) w q = zero_one (cc)
-      go (Sought.lineEnd p r m h) w q = zero_one (cc)
-      go (Sought.ends d) w q = zero_one (cc)
+      go (Sought.token y p r d) w q = zero-one (cc)
+      go (Sought.lineEnd p r m h) w q = zero-one (cc)
+      go (Sought.ends d) w q = zero-one (cc)

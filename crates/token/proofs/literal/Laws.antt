@@ -9,18 +9,18 @@ use lib.Dec.{eqb, leb, ltb}
 use native.Mathlib.Nat.{add-mul, mul-le-mul_right, pow-suc, pow-le-pow_right}
 use native.Mathlib.Omega.{arith}
 use borrow.Author.Tests.{ltb-true, ltb-false, leb-true, le-leb, lt-leb, eq-eqb, eqb-true}
-use Rattle.chars.specs.paper.Quoted.{between, codes, one_of}
+use Rattle.chars.specs.paper.Quoted.{between, codes, oneOf}
 use Rattle.chars.specs.paper.Text.{from, place, headIs}
 use Rattle.chars.specs.computed.Runs.{afterRun}
-use Rattle.chars.proofs.Bools.{clash, and_both, or-neither}
+use Rattle.chars.proofs.Bools.{clash, and-both, or-neither}
 use Rattle.chars.specs.promises.Codes.{every, span}
 use Rattle.chars.proofs.theorems.Promises.{code_laws, text-laws}
 use Rattle.token.specs.paper.Tests.{isDigit, digitValue, hexAhead, letterL}
-use Rattle.token.specs.computed.Answer.{Found, Numeral, numeral, readDigits, number_of, scan, sign_of}
+use Rattle.token.specs.computed.Answer.{Found, Numeral, numeral, readDigits, numberOf, scan, signOf}
 use Rattle.token.specs.code.Ascii.{signNumber}
-use Rattle.token.specs.code.ByteClass.{class_of, class_at, digitClass, in_word}
+use Rattle.token.specs.code.ByteClass.{classOf, classAt, digitClass, inWord}
 use Rattle.token.specs.code.Cursor.{cursorAt}
-use Rattle.token.specs.code.Piece.{piece_of}
+use Rattle.token.specs.code.Piece.{pieceOf}
 use Rattle.token.specs.code.Digits.{digitIn, digitOf, intOr}
 use Rattle.token.specs.code.Literal.{lesser, numberLit, literalEnd, goesOn, endingBy, literalIn, fullEnd, literalOf}
 use Rattle.token.specs.declared.kinds.TokenKind.{TokenKind}
@@ -29,10 +29,10 @@ use Rattle.token.specs.declared.piece.Piece.TheVariants as piece
 use Rattle.token.specs.declared.literal.NumberLit.{NumberLit}
 use Rattle.token.proofs.byte_class.Laws.{class-digit}
 use Rattle.token.proofs.cursor.Bytes.{any-byte, ascii-list}
-use Rattle.token.proofs.digits.Laws.{digits-ascii, class-at, digit_value, digit_under, digit-stops, base-some, read_next, read-stop, hex_bytes, hex-number, dec-number, long-piece, int-piece}
+use Rattle.token.proofs.digits.Laws.{digits-ascii, class-at, digit-value, digit_under, digit-stops, base-some, read-next, read-stop, hex_bytes, hex-number, dec-number, long-piece, int-piece}
 use Rattle.token.proofs.lexer.Laws.{number_at}
-use Rattle.token.proofs.theorems.Numbers.{valueAfter, digitsOf, read_is}
-open code_laws use {carry-not, carry-span, no_member, in_between, between_in, between-out}
+use Rattle.token.proofs.theorems.Numbers.{valueAfter, digitsOf, read-is}
+open code_laws use {carry-not, carry-span, no-member, in-between, between-in, between-out}
 open text-laws use {place-from, run-place}
 
 -- ---- the lesser of two
@@ -63,7 +63,7 @@ pub record Taken (base : ℕ) (s : List ℕ) (i d : ℕ) : Type 0 where
 -- a digit's value lies below the base
 value-under : (base b : ℕ) → (base ≡ 10) ⊎ (base ≡ 16) → digitIn base b ≡ true → digitValue b < base
 value-under base b h e =
-    let q = digit_value b base e in
+    let q = digit-value b base e in
     let l = ltb-true (digitOf b) base (digit_under base b h ∙ e) in
     omega arith
 
@@ -79,14 +79,14 @@ pub hex-stops : (s : List ℕ) (i d : ℕ) → d ≡ digitOf (get_or s i 0) → 
 hex-stops s i d e q = digit-stops 16 (get_or s i 0) (inr refl) (omega arith)
 
 -- of a digit of base 10 the value is the byte's low half
-digits_low : every (λ b. eqb (b % 16) (digitValue b)) (span 0x30 10) ≡ true
-digits_low = refl
+digits-low : every (λ b. eqb (b % 16) (digitValue b)) (span 0x30 10) ≡ true
+digits-low = refl
 
-pub low_value : (b : ℕ) → isDigit b ≡ true → b % 16 ≡ digitValue b
+pub low-value : (b : ℕ) → isDigit b ≡ true → b % 16 ≡ digitValue b
 unfolding isDigit
-low_value b e =
-    let k = in_between 0x30 0x39 b e in
-    eqb-true (b % 16) (digitValue b) (carry-span (λ b. eqb (b % 16) (digitValue b)) 0x30 10 b digits_low k.0 (omega arith))
+low-value b e =
+    let k = in-between 0x30 0x39 b e in
+    eqb-true (b % 16) (digitValue b) (carry-span (λ b. eqb (b % 16) (digitValue b)) 0x30 10 b digits-low k.0 (omega arith))
 
 module _ (s : List ℕ) (i b : ℕ) (e : b ≡ get_or s i 0) where
   pub dec-taken : ltb b 0x30 || ltb 0x39 b ≡ false → Taken 10 s i (b % 16)
@@ -95,8 +95,8 @@ module _ (s : List ℕ) (i b : ℕ) (e : b ≡ get_or s i 0) where
       let n = or-neither (ltb b 0x30) (ltb 0x39 b) q in
       let k = ltb-false b 0x30 n.0 in
       let l = ltb-false 0x39 b n.1 in
-      let d = between_in 0x30 0x39 (get_or s i 0) (omega arith) (omega arith) in
-      record { digit = d; value = ap (λ x. x % 16) e ∙ low_value (get_or s i 0) d }
+      let d = between-in 0x30 0x39 (get_or s i 0) (omega arith) (omega arith) in
+      record { digit = d; value = ap (λ x. x % 16) e ∙ low-value (get_or s i 0) d }
 
   pub dec-stops : ltb b 0x30 || ltb 0x39 b ≡ true → digitIn 10 (get_or s i 0) ≡ false
   unfolding digitIn isDigit
@@ -130,7 +130,7 @@ ends base s i v h =
     let rest = afterRun (headIs p) (from s i) in
     let w = valueAfter base v (digitsOf p (from s i)) in
     let l = run-place (headIs p) s i (place (length s) rest) h refl in
-    record { value = w; end = place (length s) rest; on = l.0; within = l.1; same = ap (numeral w) l.2 ∙ sym (read_is p base v (from s i)) }
+    record { value = w; end = place (length s) rest; on = l.0; within = l.1; same = ap (numeral w) l.2 ∙ sym (read-is p base v (from s i)) }
 
 ends-past : (base : ℕ) (s : List ℕ) (i v : ℕ) → digitIn base (get_or s i 0) ≡ true → Ends (readDigits (digitIn base) base v (from s i)) s (i + 1)
 ends-past base s i v e = go (ends base s (i + 1) (v * base + digitValue (get_or s i 0)) (omega (arith, (class-at (digitIn base) (digits-ascii base) s i e).0)))
@@ -143,7 +143,7 @@ ends-past base s i v e = go (ends base s (i + 1) (v * base + digitValue (get_or 
           end = x.end;
           on = x.on;
           within = x.within;
-          same = x.same ∙ read_next (digitIn base) (digits-ascii base) s i base v e;
+          same = x.same ∙ read-next (digitIn base) (digits-ascii base) s i base v e;
         }
 
 -- ---- digits that have been read
@@ -187,7 +187,7 @@ module _ (base most : ℕ) (h : (base ≡ 10) ⊎ (base ≡ 16)) (s : List ℕ) 
           within = omega (arith, (class-at p (digits-ascii base) s i t.digit).0);
           few = omega arith;
           small = rw (← z) grown;
-          same = ap (λ x. readDigits p base (v * base + x) (from s (i + 1))) t.value ∙ read_next p (digits-ascii base) s i base v t.digit ∙ r.same;
+          same = ap (λ x. readDigits p base (v * base + x) (from s (i + 1))) t.value ∙ read-next p (digits-ascii base) s i base v t.digit ∙ r.same;
         }
 
   -- where no digit stands the number ends
@@ -252,11 +252,11 @@ module _ (s : List ℕ) (start i v stop m : ℕ) where
 -- ---- the number's end
 
 module _ (s : List ℕ) (v e : ℕ) (h : e ≤ length s) where
-  pub end-long : one_of "Ll" (get_or s e 0) ≡ true → numberLit (e + 1) v true ≡ literalEnd (length s) v (from s e)
+  pub end-long : oneOf "Ll" (get_or s e 0) ≡ true → numberLit (e + 1) v true ≡ literalEnd (length s) v (from s e)
   unfolding literalEnd
   end-long q = let l : letterL (from s e) ≡ true = any-byte "Ll" refl s e ∙ q in rw (l, place-from s e h)
 
-  pub end-int : one_of "Ll" (get_or s e 0) ≡ false → numberLit e v false ≡ literalEnd (length s) v (from s e)
+  pub end-int : oneOf "Ll" (get_or s e 0) ≡ false → numberLit e v false ≡ literalEnd (length s) v (from s e)
   unfolding literalEnd
   end-int q = let l : letterL (from s e) ≡ false = any-byte "Ll" refl s e ∙ q in rw (l, place-from s e h)
 
@@ -279,51 +279,51 @@ module _ (s : List ℕ) (at : ℕ) where
       go false y = refl
 
   -- where a digit follows the first byte no `0x` stands
-  pub digit-behind : class_at s (at + 1) ≡ digitClass → hexAhead (from s at) ≡ false
+  pub digit-behind : classAt s (at + 1) ≡ digitClass → hexAhead (from s at) ≡ false
   digit-behind e =
       let b = get_or s (at + 1) 0 in
-      let o = sym (class-digit b) ∙ eq-eqb (class_of b) digitClass e in
+      let o = sym (class-digit b) ∙ eq-eqb (classOf b) digitClass e in
       no-hex (carry-not (λ x. eqb x 0x78) (codes "0123456789") b refl o)
 
 -- ---- what is found
 
 -- it ends past its start and within the script, and is this token
 abbrev pub Stands : List ℕ → ℕ → Found → NumberLit → TokenKind → Type 0
-Stands s at f r k = (at < r.end) × (r.end ≤ length s) × (piece.Token k (cursorAt r.end) ≡ piece_of (length s) f)
+Stands s at f r k = (at < r.end) × (r.end ≤ length s) × (piece.Token k (cursorAt r.end) ≡ pieceOf (length s) f)
 
 module _ (s : List ℕ) (at v e stop : ℕ) (a : at < e) (b : e ≤ length s) (r : NumberLit) (q : r ≡ endingBy (length s) stop (numeral v (from s e))) where
   abbrev number : Found
-  number = number_of (from s at) (numeral v (from s e))
+  number = numberOf (from s at) (numeral v (from s e))
 
   ended : endingBy (length s) stop (numeral v (from s e)) ≡ cond (leb e stop) (literalEnd (length s) v (from s e)) (goesOn stop)
   ended = rw (place-from s e b)
 
-  int_is : r ≡ numberLit e v false → r.value ≤ 2147483647 → one_of "Ll" (get_or s e 0) ≡ false → Stands s at number r (tk.IntLit r.value)
+  int-is : r ≡ numberLit e v false → r.value ≤ 2147483647 → oneOf "Ll" (get_or s e 0) ≡ false → Stands s at number r (tk.IntLit r.value)
   unfolding intOr
-  int_is k l o =
+  int-is k l o =
       let w : r.value ≡ v = ap (λ (x : NumberLit). x.value) k in
       let m = le-leb v 2147483647 (omega arith) in
       let i : piece.Token (tk.IntLit v) (cursorAt e) ≡ intOr at v (cursorAt e) = sym (rw m) in
       rw k (a, b, i ∙ int-piece s at e v (omega arith) b o)
 
-  long-is : r ≡ numberLit (e + 1) v true → r.value ≤ 9223372036854775807 → one_of "Ll" (get_or s e 0) ≡ true → Stands s at number r (tk.LongLit r.value)
+  long-is : r ≡ numberLit (e + 1) v true → r.value ≤ 9223372036854775807 → oneOf "Ll" (get_or s e 0) ≡ true → Stands s at number r (tk.LongLit r.value)
   long-is k l o =
       let w : r.value ≡ v = ap (λ (x : NumberLit). x.value) k in
-      let c = (class-at (one_of "Ll") (ascii-list (codes "Ll") refl) s e o).0 in
+      let c = (class-at (oneOf "Ll") (ascii-list (codes "Ll") refl) s e o).0 in
       rw k (omega arith, omega arith, long-piece s at e v (omega arith) (omega arith) o)
 
   int-ends : r.long ≡ false → r.value ≤ 2147483647 → Stands s at number r (tk.IntLit r.value)
-  int-ends f l = go (leb e stop) (one_of "Ll" (get_or s e 0)) refl (q ∙ ended)
+  int-ends f l = go (leb e stop) (oneOf "Ll" (get_or s e 0)) refl (q ∙ ended)
     where
-      go : (t u : Bool) → one_of "Ll" (get_or s e 0) ≡ u → r ≡ cond t (literalEnd (length s) v (from s e)) (goesOn stop) → Stands s at number r (tk.IntLit r.value)
-      go true false o k = int_is (k ∙ sym (end-int s v e b o)) l o
+      go : (t u : Bool) → oneOf "Ll" (get_or s e 0) ≡ u → r ≡ cond t (literalEnd (length s) v (from s e)) (goesOn stop) → Stands s at number r (tk.IntLit r.value)
+      go true false o k = int-is (k ∙ sym (end-int s v e b o)) l o
       go true true o k = clash (sym f ∙ ap (λ (x : NumberLit). x.long) (k ∙ sym (end-long s v e b o)))
       go false u o k = let w : r.value ≡ 18446744073709551615 = ap (λ (x : NumberLit). x.value) k in absurd (omega arith)
 
   long-ends : r.long ≡ true → r.value ≤ 9223372036854775807 → Stands s at number r (tk.LongLit r.value)
-  long-ends f l = go (leb e stop) (one_of "Ll" (get_or s e 0)) refl (q ∙ ended)
+  long-ends f l = go (leb e stop) (oneOf "Ll" (get_or s e 0)) refl (q ∙ ended)
     where
-      go : (t u : Bool) → one_of "Ll" (get_or s e 0) ≡ u → r ≡ cond t (literalEnd (length s) v (from s e)) (goesOn stop) → Stands s at number r (tk.LongLit r.value)
+      go : (t u : Bool) → oneOf "Ll" (get_or s e 0) ≡ u → r ≡ cond t (literalEnd (length s) v (from s e)) (goesOn stop) → Stands s at number r (tk.LongLit r.value)
       go true true o k = long-is (k ∙ sym (end-long s v e b o)) l o
       go true false o k = clash (sym (ap (λ (x : NumberLit). x.long) (k ∙ sym (end-int s v e b o))) ∙ f)
       go false u o k = let w : r.value ≡ 18446744073709551615 = ap (λ (x : NumberLit). x.value) k in absurd (omega arith)
@@ -336,12 +336,12 @@ record Reads (s : List ℕ) (at : ℕ) : Type 0 where
   pub on : at < end
   pub within : end ≤ length s
   pub literal : literalOf s at ≡ endingBy (length s) stop (numeral value (from s end))
-  pub scanned : number_of (from s at) (numeral value (from s end)) ≡ scan (length s) (from s at)
+  pub scanned : numberOf (from s at) (numeral value (from s end)) ≡ scan (length s) (from s at)
 
-reads_in : (base most : ℕ) (s : List ℕ) (at start : ℕ) → at ≤ start → digitIn base (get_or s start 0) ≡ true → literalIn base most s start ≡ literalOf s at
-    → number_of (from s at) (readDigits (digitIn base) base 0 (from s start)) ≡ scan (length s) (from s at) → Reads s at
+reads-in : (base most : ℕ) (s : List ℕ) (at start : ℕ) → at ≤ start → digitIn base (get_or s start 0) ≡ true → literalIn base most s start ≡ literalOf s at
+    → numberOf (from s at) (readDigits (digitIn base) base 0 (from s start)) ≡ scan (length s) (from s at) → Reads s at
 unfolding literalIn
-reads_in base most s at start a d l f = go (ends-past base s start 0 d)
+reads-in base most s at start a d l f = go (ends-past base s start 0 d)
   where
     go : Ends (readDigits (digitIn base) base 0 (from s start)) s (start + 1) → Reads s at
     go x =
@@ -352,65 +352,65 @@ reads_in base most s at start a d l f = go (ends-past base s start 0 d)
           on = omega (arith, x.on);
           within = x.within;
           literal = sym (ap (endingBy (length s) (start + most)) x.same ∙ l);
-          scanned = ap (number_of (from s at)) x.same ∙ f;
+          scanned = ap (numberOf (from s at)) x.same ∙ f;
         }
 
-reads_at : (s : List ℕ) (at : ℕ) → at < length s → isDigit (get_or s at 0) ≡ true → Reads s at
+reads-at : (s : List ℕ) (at : ℕ) → at < length s → isDigit (get_or s at 0) ≡ true → Reads s at
 unfolding digitIn
-reads_at s at h d = go (hexAhead (from s at)) refl
+reads-at s at h d = go (hexAhead (from s at)) refl
   where
     go : (b : Bool) → hexAhead (from s at) ≡ b → Reads s at
     go true e =
-        let z = and_both (eqb (get_or s at 0) 0x30 && eqb (get_or s (at + 1) 0) 0x78) (digitIn 16 (get_or s (at + 2) 0)) (sym (hex_bytes s at) ∙ e) in
-        reads_in 16 16 s at (at + 2) (omega arith) z.1 (hex-of s at e) (hex-number s at e ∙ sym (number_at s at h d))
-    go false e = reads_in 10 19 s at at (omega arith) d (dec-of s at e) (dec-number s at e ∙ sym (number_at s at h d))
+        let z = and-both (eqb (get_or s at 0) 0x30 && eqb (get_or s (at + 1) 0) 0x78) (digitIn 16 (get_or s (at + 2) 0)) (sym (hex_bytes s at) ∙ e) in
+        reads-in 16 16 s at (at + 2) (omega arith) z.1 (hex-of s at e) (hex-number s at e ∙ sym (number_at s at h d))
+    go false e = reads-in 10 19 s at at (omega arith) d (dec-of s at e) (dec-number s at e ∙ sym (number_at s at h d))
 
 module _ (s : List ℕ) (at : ℕ) (h : at < length s) (d : isDigit (get_or s at 0) ≡ true) (r : NumberLit) (q : r ≡ literalOf s at) where
   pub int-found : r.long ≡ false → r.value ≤ 2147483647 → Stands s at (scan (length s) (from s at)) r (tk.IntLit r.value)
-  int-found f l = go (reads_at s at h d)
+  int-found f l = go (reads-at s at h d)
     where
       go : Reads s at → Stands s at (scan (length s) (from s at)) r (tk.IntLit r.value)
       go x =
           let t = int-ends s at x.value x.end x.stop x.on x.within r (q ∙ x.literal) f l in
-          (t.0, t.1, t.2 ∙ ap (piece_of (length s)) x.scanned)
+          (t.0, t.1, t.2 ∙ ap (pieceOf (length s)) x.scanned)
 
   pub long-found : r.long ≡ true → r.value ≤ 9223372036854775807 → Stands s at (scan (length s) (from s at)) r (tk.LongLit r.value)
-  long-found f l = go (reads_at s at h d)
+  long-found f l = go (reads-at s at h d)
     where
       go : Reads s at → Stands s at (scan (length s) (from s at)) r (tk.LongLit r.value)
       go x =
           let t = long-ends s at x.value x.end x.stop x.on x.within r (q ∙ x.literal) f l in
-          (t.0, t.1, t.2 ∙ ap (piece_of (length s)) x.scanned)
+          (t.0, t.1, t.2 ∙ ap (pieceOf (length s)) x.scanned)
 
 -- ---- a digit alone
 
 -- what goes on with no word is neither `x` nor `L` or `l`, nor a digit
-words : every (λ b. not (not (in_word (class_of b)))) (codes "xLl") ≡ true
-unfolding class_of signNumber sign_of
+words : every (λ b. not (not (inWord (classOf b)))) (codes "xLl") ≡ true
+unfolding classOf signNumber signOf
 words = refl
 
-digit-words : every (λ b. in_word (class_of b)) (span 0x30 10) ≡ true
-unfolding class_of signNumber sign_of
+digit-words : every (λ b. inWord (classOf b)) (span 0x30 10) ≡ true
+unfolding classOf signNumber signOf
 digit-words = refl
 
-module _ (b : ℕ) (e : in_word (class_of b) ≡ false) where
-  no-letter : (eqb b 0x78 ≡ false) × (one_of "Ll" b ≡ false)
-  no-letter = or-neither (eqb b 0x78) (one_of "Ll" b) (no_member (λ x. not (in_word (class_of x))) (codes "xLl") b words (rw e))
+module _ (b : ℕ) (e : inWord (classOf b) ≡ false) where
+  no-letter : (eqb b 0x78 ≡ false) × (oneOf "Ll" b ≡ false)
+  no-letter = or-neither (eqb b 0x78) (oneOf "Ll" b) (no-member (λ x. not (inWord (classOf x))) (codes "xLl") b words (rw e))
 
   digitless : isDigit b ≡ false
   unfolding isDigit
   digitless = go (between 0x30 0x39 b) refl
     where
       go : (t : Bool) → between 0x30 0x39 b ≡ t → t ≡ false
-      go true q = let k = in_between 0x30 0x39 b q in clash (sym e ∙ carry-span (λ x. in_word (class_of x)) 0x30 10 b digit-words k.0 (omega arith))
+      go true q = let k = in-between 0x30 0x39 b q in clash (sym e ∙ carry-span (λ x. inWord (classOf x)) 0x30 10 b digit-words k.0 (omega arith))
       go false q = refl
 
-pub digit-alone : (s : List ℕ) (at : ℕ) → at < length s → isDigit (get_or s at 0) ≡ true → in_word (class_at s (at + 1)) ≡ false
-    → piece.Token (tk.IntLit (digitValue (get_or s at 0))) (cursorAt (at + 1)) ≡ piece_of (length s) (scan (length s) (from s at))
+pub digit-alone : (s : List ℕ) (at : ℕ) → at < length s → isDigit (get_or s at 0) ≡ true → inWord (classAt s (at + 1)) ≡ false
+    → piece.Token (tk.IntLit (digitValue (get_or s at 0))) (cursorAt (at + 1)) ≡ pieceOf (length s) (scan (length s) (from s at))
 unfolding digitIn intOr
 digit-alone s at h d w = go (digitValue (get_or s at 0)) refl
   where
-    go : (v : ℕ) → v ≡ digitValue (get_or s at 0) → piece.Token (tk.IntLit v) (cursorAt (at + 1)) ≡ piece_of (length s) (scan (length s) (from s at))
+    go : (v : ℕ) → v ≡ digitValue (get_or s at 0) → piece.Token (tk.IntLit v) (cursorAt (at + 1)) ≡ pieceOf (length s) (scan (length s) (from s at))
     go v e =
         let p = digitIn 10 in
         let n = no-letter (get_or s (at + 1) 0) w in
@@ -419,7 +419,7 @@ digit-alone s at h d w = go (digitValue (get_or s at 0)) refl
         let z : v ≡ 0 * 10 + digitValue (get_or s at 0) = omega arith in
         let q : numeral v (from s (at + 1)) ≡ readDigits p 10 0 (from s at) =
         read-stop p (digits-ascii 10) s (at + 1) 10 v (digitless (get_or s (at + 1) 0) w) ∙ ap (λ x. readDigits p 10 x (from s (at + 1))) z
-        ∙ read_next p (digits-ascii 10) s at 10 0 d in
+        ∙ read-next p (digits-ascii 10) s at 10 0 d in
         let i : piece.Token (tk.IntLit v) (cursorAt (at + 1)) ≡ intOr at v (cursorAt (at + 1)) = sym (rw m) in
         i ∙ int-piece s at (at + 1) v (omega arith) (omega arith) n.1
-        ∙ ap (piece_of (length s)) (ap (number_of (from s at)) q ∙ dec-number s at (no-hex s at n.0) ∙ sym (number_at s at h d))
+        ∙ ap (pieceOf (length s)) (ap (numberOf (from s at)) q ∙ dec-number s at (no-hex s at n.0) ∙ sym (number_at s at h d))

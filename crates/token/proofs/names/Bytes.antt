@@ -7,15 +7,15 @@ use native.Mathlib.Omega.{arith}
 use lib.ListN.{length, get_or, get_or-eq_default}
 use lib.Dec.{eqb, ltb}
 use borrow.Author.Tests.{ltb-true, ltb-false, ne_eqb}
-use Rattle.chars.specs.paper.Quoted.{one_of}
+use Rattle.chars.specs.paper.Quoted.{oneOf}
 use Rattle.chars.proofs.Bools.{clash}
-use Rattle.token.specs.computed.Answer.{sign_of}
+use Rattle.token.specs.computed.Answer.{signOf}
 use Rattle.token.specs.code.Ascii.{signNumber}
 use Rattle.token.specs.code.Loops.{stepsWhile}
-use Rattle.token.specs.code.ByteClass.{class_of, class_at, otherClass, wideClass, slashClass, in_word, inRun}
-use Rattle.token.specs.code.Names.{here_of, declined, bytesTo, runTo, freeAt, nameTo, nameEnd, operatorTo, operatorFrom}
+use Rattle.token.specs.code.ByteClass.{classOf, classAt, otherClass, wideClass, slashClass, inWord, inRun}
+use Rattle.token.specs.code.Names.{hereOf, declined, bytesTo, runTo, freeAt, nameTo, nameEnd, operatorTo, operatorFrom}
 use Rattle.token.specs.declared.names.Here.{Here}
-use Rattle.token.proofs.Loops.{Going, going_on, going-stop, steps-keep}
+use Rattle.token.proofs.Loops.{Going, going-on, going-stop, steps-keep}
 
 -- a loop from the start on stands at i: within the script, and from there the end is the same
 pub record Passing (test : ℕ → Bool) (s : List ℕ) (start i : ℕ) : Type 0 where
@@ -29,7 +29,7 @@ module _ (test : ℕ → Bool) (s : List ℕ) (start : ℕ) where
 
   -- one more byte
   pub pass-more : (i : ℕ) → i < length s → test i ≡ true → Passing test s start i → Passing test s start (i + 1)
-  pass-more i h e p = record { within = omega arith; going = going_on test (λ j. j + 1) _ i _ _ e (omega arith) p.going }
+  pass-more i h e p = record { within = omega arith; going = going-on test (λ j. j + 1) _ i _ _ e (omega arith) p.going }
 
   -- no more
   pub pass-stop : (i : ℕ) → test i ≡ false → Passing test s start i → i ≡ bytesTo test s start
@@ -79,8 +79,8 @@ module _ (test : ℕ → Bool) (s : List ℕ) (within : (j : ℕ) → test j ≡
 
 -- ---- past the end stands no byte of a class
 
-nul-class : class_of 0 ≡ otherClass
-unfolding class_of signNumber sign_of
+nul-class : classOf 0 ≡ otherClass
+unfolding classOf signNumber signOf
 nul-class = refl
 
 -- in the script, or past its end
@@ -92,32 +92,32 @@ inside-or s i b z e = go (ltb i (length s)) refl
     go false q = clash (sym (z (ltb-false i (length s) q)) ∙ e)
 
 module _ (s : List ℕ) (i : ℕ) where
-  class-end : length s ≤ i → class_at s i ≡ otherClass
-  class-end h = ap class_of (get_or-eq_default s 0 h) ∙ nul-class
+  class-end : length s ≤ i → classAt s i ≡ otherClass
+  class-end h = ap classOf (get_or-eq_default s 0 h) ∙ nul-class
 
-  pub class-off : (p : ℕ → Bool) → p otherClass ≡ false → length s ≤ i → p (class_at s i) ≡ false
+  pub class-off : (p : ℕ → Bool) → p otherClass ≡ false → length s ≤ i → p (classAt s i) ≡ false
   class-off p z h = ap p (class-end h) ∙ z
 
-  pub class-inside : (p : ℕ → Bool) → p otherClass ≡ false → p (class_at s i) ≡ true → i < length s
-  class-inside p z e = inside-or s i (p (class_at s i)) (class-off p z) e
+  pub class-inside : (p : ℕ → Bool) → p otherClass ≡ false → p (classAt s i) ≡ true → i < length s
+  class-inside p z e = inside-or s i (p (classAt s i)) (class-off p z) e
 
-  pub free_off : length s ≤ i → freeAt s i ≡ false
-  free_off h = class-off (λ e. inRun e || (eqb e slashClass && not (one_of "*/" (get_or s (i + 1) 0)))) refl h
+  pub free-off : length s ≤ i → freeAt s i ≡ false
+  free-off h = class-off (λ e. inRun e || (eqb e slashClass && not (oneOf "*/" (get_or s (i + 1) 0)))) refl h
 
   pub free-inside : freeAt s i ≡ true → i < length s
-  free-inside e = inside-or s i (freeAt s i) free_off e
+  free-inside e = inside-or s i (freeAt s i) free-off e
 
   -- any other byte than a `/` goes on by its class
-  pub free_other : (class_at s i ≡ slashClass → ⊥) → freeAt s i ≡ inRun (class_at s i)
-  free_other h = ap (λ z. inRun (class_at s i) || (z && not (one_of "*/" (get_or s (i + 1) 0)))) (ne_eqb (class_at s i) slashClass h) ∙ or-false (inRun (class_at s i))
+  pub free-other : (classAt s i ≡ slashClass → ⊥) → freeAt s i ≡ inRun (classAt s i)
+  free-other h = ap (λ z. inRun (classAt s i) || (z && not (oneOf "*/" (get_or s (i + 1) 0)))) (ne_eqb (classAt s i) slashClass h) ∙ or-false (inRun (classAt s i))
 
 -- ---- the word of an identifier ends within the script
 
-module _ (s : List ℕ) (start : ℕ) (end : Here) (q : end ≡ here_of s (runTo in_word s (start + 1))) where
+module _ (s : List ℕ) (start : ℕ) (end : Here) (q : end ≡ hereOf s (runTo inWord s (start + 1))) where
   pub word-bounds : start < length s → (start < end.at) × (end.at ≤ length s)
   word-bounds h =
-      let w = pass-within (λ j. in_word (class_at s j)) s (λ i e. class-inside s i in_word refl e) (start + 1) (omega arith) in
-      let z : end.at ≡ runTo in_word s (start + 1) = ap (λ (x : Here). x.at) q in
+      let w = pass-within (λ j. inWord (classAt s j)) s (λ i e. class-inside s i inWord refl e) (start + 1) (omega arith) in
+      let z : end.at ≡ runTo inWord s (start + 1) = ap (λ (x : Here). x.at) q in
       (omega arith, omega arith)
 
 -- ---- what an answer says
@@ -125,8 +125,8 @@ module _ (s : List ℕ) (start : ℕ) (end : Here) (q : end ≡ here_of s (runTo
 -- r is the end e with its class, and no character past ASCII stands there
 pub record Stops (s : List ℕ) (e : ℕ) (r : Here) : Type 0 where
   pub place : r.at ≡ e
-  pub class-is : r.class ≡ class_at s r.at
-  pub narrow : eqb (class_at s r.at) wideClass ≡ false
+  pub class-is : r.class ≡ classAt s r.at
+  pub narrow : eqb (classAt s r.at) wideClass ≡ false
 
 -- an answer that does not decline: at another place than the start, or of another class
 pub moved : (start : ℕ) (r : Here) → (r.at ≡ start → ⊥) → r ≡ declined start → ⊥
@@ -135,15 +135,15 @@ moved start r n q = n (ap (λ (x : Here). x.at) q)
 pub classed : (start : ℕ) (r : Here) → (r.class ≡ wideClass → ⊥) → r ≡ declined start → ⊥
 classed start r n q = n (ap (λ (x : Here). x.class) q)
 
-stops : (s : List ℕ) (start e : ℕ) (r : Here) (b : Bool) → eqb (class_at s e) wideClass ≡ b → r ≡ cond b (declined start) (here_of s e) → (r ≡ declined start → ⊥)
+stops : (s : List ℕ) (start e : ℕ) (r : Here) (b : Bool) → eqb (classAt s e) wideClass ≡ b → r ≡ cond b (declined start) (hereOf s e) → (r ≡ declined start → ⊥)
     → Stops s e r
 stops s start e r true w q n = absurd (n q)
 stops s start e r false w q n =
     let p : r.at ≡ e = ap (λ (x : Here). x.at) q in
     record {
       place = p;
-      class-is = ap (λ (x : Here). x.class) q ∙ ap (class_at s) (sym p);
-      narrow = ap (λ x. eqb (class_at s x) wideClass) p ∙ w;
+      class-is = ap (λ (x : Here). x.class) q ∙ ap (classAt s) (sym p);
+      narrow = ap (λ x. eqb (classAt s x) wideClass) p ∙ w;
     }
 
 module _ (s : List ℕ) (start : ℕ) (r : Here) where

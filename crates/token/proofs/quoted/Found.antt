@@ -8,39 +8,39 @@ use lib.ListN.{length, drop, get_or, get_or-eq_default}
 use lib.Dec.{eqb, ltb}
 use native.Mathlib.Omega.{arith}
 use borrow.Author.Tests.{eq-eqb, ne_eqb, eqb-true, eqb-false, ltb-true, ltb-false}
-use Rattle.chars.specs.paper.Quoted.{one_of}
+use Rattle.chars.specs.paper.Quoted.{oneOf}
 use Rattle.chars.specs.paper.Text.{Text, from, place}
 use Rattle.chars.specs.computed.Runs.{afterRun}
 use Rattle.chars.specs.code.Runs.{Neither, NeitherOf}
-use Rattle.chars.proofs.Bools.{and_both}
+use Rattle.chars.proofs.Bools.{and-both}
 use Rattle.chars.specs.promises.Texts.{Suffix}
 use Rattle.chars.proofs.theorems.Promises.{text-laws}
 use Rattle.token.specs.paper.Tests.{isAny, quote, threeQuotes, backslash, dollarBrace, notBacktick}
 use Rattle.token.specs.computed.Answer.{Closing, closed, wrong, closeTriple, closeString, plainContent, scanBacktick, orPrefixed, scan}
 use Rattle.token.specs.code.Cursor.{cursorAt}
-use Rattle.token.specs.code.Piece.{piece_of}
-use Rattle.token.specs.code.String.{ended_of, closeSingle}
+use Rattle.token.specs.code.Piece.{pieceOf}
+use Rattle.token.specs.code.String.{endedOf, closeSingle}
 use Rattle.token.specs.code.Quoted.{closedTo, stringOf, tickedTo, backtickEnd}
 use Rattle.token.specs.declared.quoted.Quoted.{Quoted}
 use Rattle.token.specs.declared.kinds.TokenKind.{TokenKind}
 use Rattle.token.specs.declared.kinds.TokenKind.TheVariants as tk
 use Rattle.token.specs.declared.piece.Piece.TheVariants as piece
 use Rattle.token.specs.declared.piece.Ended.TheVariants as ended
-use Rattle.token.proofs.Base.{zero_one}
+use Rattle.token.proofs.Base.{zero-one}
 use Rattle.token.proofs.cursor.Bytes.{inside, any-byte, past}
-use Rattle.token.proofs.cursor.Laws.{all_past}
+use Rattle.token.proofs.cursor.Laws.{all-past}
 use Rattle.token.proofs.theorems.Runs.{run-suffix}
 use Rattle.token.proofs.theorems.Shorter.{single-suffix}
 use Rattle.token.proofs.theorems.Strings as strings
-use Rattle.token.proofs.string.Escapes.{same_place}
+use Rattle.token.proofs.string.Escapes.{same-place}
 use Rattle.token.proofs.string.Laws.{reach, reached, quote-byte, three-byte, no-quote, quote-in, three-in, quotes-next, single-same, plain-ended}
-use Rattle.token.proofs.string.Strips.{Left, left-all, left_end, left-stop, string-tail, Quotes, Ends, left-many}
+use Rattle.token.proofs.string.Strips.{Left, left-all, left-end, left-stop, string-tail, Quotes, Ends, left-many}
 use Rattle.token.proofs.ident.Laws.{tick-on, tick-off, tick-end, tick-closed}
 use Rattle.token.proofs.lexer.Laws.{string-at, backtick-at}
 open text-laws use {place-from, run-stays}
 
 no-wrong : {A : Type 0} (j : ℕ) (t q : Text) → wrong j t ≡ closed q → A
-no-wrong j t q e = zero_one (cc)
+no-wrong j t q e = zero-one (cc)
 
 suffix-reached : (s : List ℕ) (b : ℕ) → b ≤ length s → (m : Text) → Suffix m (from s b)
     → (b ≤ place (length s) m) × (place (length s) m ≤ length s) × (from s (place (length s) m) ≡ m)
@@ -115,11 +115,11 @@ quotes-to s n i h k = go n i h k
       where
         first : (j : ℕ) → i ≤ j → j < r.end → (x : Bool) → eqb j i ≡ x → get_or s j 0 ≡ 0x22
         first j u v true e = ap (λ k. get_or s k 0) (eqb-true j i e) ∙ b
-        first j u v false e = r.quotes j (past_first (ltb i j) refl) v
+        first j u v false e = r.quotes j (past-first (ltb i j) refl) v
           where
-            past_first : (y : Bool) → ltb i j ≡ y → i + 1 ≤ j
-            past_first true l = let w = ltb-true i j l in omega arith
-            past_first false l = absurd (eqb-false j i e (let w = ltb-false i j l in omega arith))
+            past-first : (y : Bool) → ltb i j ≡ y → i + 1 ≤ j
+            past-first true l = let w = ltb-true i j l in omega arith
+            past-first false l = absurd (eqb-false j i e (let w = ltb-false i j l in omega arith))
 
     go : (n i : ℕ) → i ≤ length s → length s ≤ i + n → QuotesTo s i
     go zero i h k = stays i h (λ e. let z = get_or-eq_default s 0 (let l : length s ≤ i = omega arith in l) in absurd (omega (arith, e, z)))
@@ -135,8 +135,8 @@ quotes-to s n i h k = go n i h k
 -- three quotes at a place, one by one
 three-each : (s : List ℕ) (i : ℕ) → threeQuotes (from s i) ≡ true → (get_or s i 0 ≡ 0x22) × (get_or s (i + 1) 0 ≡ 0x22) × (get_or s (i + 2) 0 ≡ 0x22)
 three-each s i e =
-    let a = and_both (eqb (get_or s i 0) 0x22) (eqb (get_or s (i + 1) 0) 0x22 && eqb (get_or s (i + 2) 0) 0x22) (sym (three-byte s i) ∙ e) in
-    let b = and_both (eqb (get_or s (i + 1) 0) 0x22) (eqb (get_or s (i + 2) 0) 0x22) a.1 in
+    let a = and-both (eqb (get_or s i 0) 0x22) (eqb (get_or s (i + 1) 0) 0x22 && eqb (get_or s (i + 2) 0) 0x22) (sym (three-byte s i) ∙ e) in
+    let b = and-both (eqb (get_or s (i + 1) 0) 0x22) (eqb (get_or s (i + 2) 0) 0x22) a.1 in
     (eqb-true (get_or s i 0) 0x22 a.0, eqb-true (get_or s (i + 1) 0) 0x22 b.0, eqb-true (get_or s (i + 2) 0) 0x22 b.1)
 
 three-quotes : (s : List ℕ) (i : ℕ) → threeQuotes (from s i) ≡ true → Quotes s i (i + 3)
@@ -211,10 +211,10 @@ triple-plain (c ∷ t) r e = go (threeQuotes (c ∷ t)) (backslash (c ∷ t)) (d
 -- ---- the string whose first quote stands at a place
 
 module _ (s : List ℕ) (at : ℕ) where
-  closed_some : (w : Closing) → (closedTo s at w ≡ at → ⊥) → (q : Text) × (w ≡ closed q) × (closedTo s at w ≡ place (length s) q)
+  closed-some : (w : Closing) → (closedTo s at w ≡ at → ⊥) → (q : Text) × (w ≡ closed q) × (closedTo s at w ≡ place (length s) q)
   unfolding closedTo
-  closed_some (closed q) n = (q, refl, refl)
-  closed_some (wrong j q) n = absurd (n refl)
+  closed-some (closed q) n = (q, refl, refl)
+  closed-some (wrong j q) n = absurd (n refl)
 
   -- a string that ends past b has this end, and one that does not is refused
   moved : (b : ℕ) (w : Closing) (e : ℕ) → e ≡ closedTo s b w → (e ≡ b → ⊥) → e ≡ closedTo s at w
@@ -292,14 +292,14 @@ recognised p s i b r z n = go (threeQuotes (from s i)) (eqb (get_or s (i + 3) 0)
     go true false t f =
         let m = eqb-false (get_or s (i + 3) 0) 0x22 f in
         let y = is-triple s i p t m ∙ sym z in
-        let c = closed_some s i _ (off 3 _ y) in
+        let c = closed-some s i _ (off 3 _ y) in
         let h = (three-in s i t).0 in
         let k = triple-closed true s (i + 3) (omega arith) c.0 c.1 in
         let e = c.2 ∙ ap (place (length s)) (sym k.is) ∙ place-from s k.end k.within in
         rw (sym y ∙ ap (λ j. record { end = j; quotes = 3 }) e) (Recognised.triple t m c.0 k c.1)
     go false y t f =
         let y = is-single s i p t ∙ sym z in
-        let c = closed_some s i _ (off 1 _ y) in
+        let c = closed-some s i _ (off 1 _ y) in
         let h = inside s i (omega arith) in
         let k = single-closed p s (i + 1) (omega arith) c.0 c.1 in
         let w = k.within in
@@ -346,21 +346,21 @@ content s i e n b c ends last = go (ltb (i + n) (e - n)) refl
 
     go : (x : Bool) → ltb (i + n) (e - n) ≡ x → tk.Str (i + n) (e - n) ≡ plainContent (length s) (from s i) (from s e)
     go true f = let l = ltb-true (i + n) (e - n) f in left-stop s i e (i + n) (e - n) left l (λ q. let m = last q in absurd (omega arith))
-    go false f = left_end s i e (i + n) (e - n) left (ltb-false (i + n) (e - n) f)
+    go false f = left-end s i e (i + n) (e - n) left (ltb-false (i + n) (e - n) f)
 
 piece-found : (s : List ℕ) (i e : ℕ) (k : TokenKind) → get_or s i 0 ≡ 0x22 → ClosedAt false s i e → k ≡ plainContent (length s) (from s i) (from s e)
-    → piece.Token k (cursorAt e) ≡ piece_of (length s) (scan (length s) (from s i))
-unfolding ended_of
+    → piece.Token k (cursorAt e) ≡ pieceOf (length s) (scan (length s) (from s i))
+unfolding endedOf
 piece-found s i e k b c z =
     let q = quote-byte s i ∙ eq-eqb (get_or s i 0) 0x22 b in
-    plain-ended (length s) (from s i) (cursorAt e) k (from s e) (sym (ap (ended_of (length s)) c.is ∙ ap (λ j. ended.At (cursorAt j)) (place-from s e c.within))) c.is z
-    ∙ ap (piece_of (length s)) (sym (string-at s i (inside s i (omega arith)) q))
+    plain-ended (length s) (from s i) (cursorAt e) k (from s e) (sym (ap (endedOf (length s)) c.is ∙ ap (λ j. ended.At (cursorAt j)) (place-from s e c.within))) c.is z
+    ∙ ap (pieceOf (length s)) (sym (string-at s i (inside s i (omega arith)) q))
 
 -- the scanner finds the plain string that is recognised at a place
 abbrev pub StringFound : List ℕ → ℕ → Quoted → Type 0
 StringFound s i r =
     (i < r.end) × (r.end ≤ length s)
-    × (piece.Token (tk.Str (i + r.quotes) (r.end - r.quotes)) (cursorAt r.end) ≡ piece_of (length s) (scan (length s) (from s i)))
+    × (piece.Token (tk.Str (i + r.quotes) (r.end - r.quotes)) (cursorAt r.end) ≡ pieceOf (length s) (scan (length s) (from s i)))
 
 pub string-found : (s : List ℕ) (i : ℕ) → get_or s i 0 ≡ 0x22 → (r : Quoted) → r ≡ stringOf false s i → (r.end ≡ i → ⊥) → StringFound s i r
 string-found s i b r z n = go r (recognised false s i b r z n)
@@ -368,7 +368,7 @@ string-found s i b r z n = go r (recognised false s i b r z n)
     go : (r : Quoted) → Recognised false s i r → StringFound s i r
     go _ (Recognised.single t q k c) =
         let x = single-at false s i b q t k c in
-        (x.on, x.within, piece-found s i (k.at + 1) _ b x (content s i (k.at + 1) 1 b x ends at_once))
+        (x.on, x.within, piece-found s i (k.at + 1) _ b x (content s i (k.at + 1) 1 b x ends at-once))
       where
         ends : Ends s 1 i (k.at + 1)
         ends =
@@ -379,14 +379,14 @@ string-found s i b r z n = go r (recognised false s i b r z n)
               last = λ j u v. let y : j ≡ k.at = omega arith in ap (λ m. get_or s m 0) y ∙ k.byte;
             }
 
-        at_once : get_or s (i + 1) 0 ≡ 0x22 → k.at + 1 - 1 ≤ i + 1
-        at_once f =
+        at-once : get_or s (i + 1) 0 ≡ 0x22 → k.at + 1 - 1 ≤ i + 1
+        at-once f =
             let h = inside s (i + 1) (omega arith) in
             let e : closed (drop 1 (from s (i + 1))) ≡ closed q =
             sym (strings.single-close false (from s (i + 1)) (quote-byte s (i + 1) ∙ eq-eqb (get_or s (i + 1) 0) 0x22 f)) ∙ sym (single-same false (from s (i + 1))) ∙ c in
             let d : drop 1 (from s (i + 1)) ≡ q = cc in
             let w = k.within in
-            let y = same_place s (i + 1 + 1) (k.at + 1) (omega arith) (omega arith) (k.is ∙ sym d ∙ past s (i + 1) h (omega arith)) in
+            let y = same-place s (i + 1 + 1) (k.at + 1) (omega arith) (omega arith) (k.is ∙ sym d ∙ past s (i + 1) h (omega arith)) in
             omega arith
     go _ (Recognised.triple t m q k c) =
         let x = triple-at false s i b q t k (triple-plain (from s (i + 3)) q c) in
@@ -430,7 +430,7 @@ quotes-few p s i b r z n = go r (recognised p s i b r z n)
 
 module _ (s : List ℕ) (at : ℕ) where
   pub ticks-past : (i r : ℕ) → i ≤ r → r ≤ length s → NeitherOf 0x60 0x60 s i r → afterRun notBacktick (from s r) ≡ afterRun notBacktick (from s i)
-  ticks-past = all_past (afterRun notBacktick) s (Neither 0x60 0x60) (λ k h o. tick-on s k h o.0)
+  ticks-past = all-past (afterRun notBacktick) s (Neither 0x60 0x60) (λ k h o. tick-on s k h o.0)
 
   pub tick-empty : get_or s (at + 1) 0 ≡ 0x60 → at ≡ backtickEnd s at
   unfolding backtickEnd
@@ -486,9 +486,9 @@ tick-run s (suc n) i h = go (ltb i (length s)) (eqb (get_or s i 0) 0x60) refl re
         let q = tick-on s i l (eqb-false (get_or s i 0) 0x60 f) in
         ⊎_elim (λ z. inl (sym q ∙ z)) (λ (k : TickAt s (i + 1)). inr (record { at = k.at; on = let o = k.on in omega arith; within = k.within; is = sym q ∙ k.is })) (below (omega arith))
 
-tick_is : (s : List ℕ) (i : ℕ) (t : Text) → eqb (get_or s (i + 1) 0) 0x60 ≡ false → afterRun notBacktick (from s (i + 1)) ≡ t → backtickEnd s i ≡ tickedTo i t
+tick-is : (s : List ℕ) (i : ℕ) (t : Text) → eqb (get_or s (i + 1) 0) 0x60 ≡ false → afterRun notBacktick (from s (i + 1)) ≡ t → backtickEnd s i ≡ tickedTo i t
 unfolding backtickEnd
-tick_is s i t f q = rw (f, q)
+tick-is s i t f q = rw (f, q)
 
 -- the scanner finds the backtick that is recognised at a place, alone or as the prefix of a string
 abbrev pub BacktickFound : List ℕ → ℕ → ℕ → Type 0
@@ -500,7 +500,7 @@ pub backtick-found : (s : List ℕ) (i : ℕ) → get_or s i 0 ≡ 0x60 → (e :
 backtick-found s i b e z n = go (eqb (get_or s (i + 1) 0) 0x60) refl
   where
     any : isAny "`" (from s i) ≡ true
-    any = any-byte "`" refl s i ∙ ap (one_of "`") b
+    any = any-byte "`" refl s i ∙ ap (oneOf "`") b
 
     h : i < length s
     h = inside s i (omega arith)
@@ -510,11 +510,11 @@ backtick-found s i b e z n = go (eqb (get_or s (i + 1) 0) 0x60) refl
     go false f = ⊎_elim none some (tick-run s (length s) (i + 1) (omega arith))
       where
         none : afterRun notBacktick (from s (i + 1)) ≡ [] → BacktickFound s i e
-        none q = absurd (n (z ∙ tick_is s i [] f q))
+        none q = absurd (n (z ∙ tick-is s i [] f q))
 
         some : TickAt s (i + 1) → BacktickFound s i e
         some k =
-            let y = z ∙ tick_is s i _ f k.is in
+            let y = z ∙ tick-is s i _ f k.is in
             let o = k.on in
             let w = k.within in (
               omega arith,

@@ -7,7 +7,7 @@ use lib.ListN.{length, drop, get_or, get_or-eq_default}
 use lib.Dec.{eqb}
 use native.Mathlib.Omega.{arith}
 use borrow.Author.Tests.{eq-eqb, ne_eqb, eqb-true, eqb-false}
-use Rattle.chars.specs.paper.Quoted.{codes, one_of}
+use Rattle.chars.specs.paper.Quoted.{codes, oneOf}
 use Rattle.chars.specs.paper.Text.{Char, Text, from, place}
 use Rattle.chars.specs.code.Runs.{NoneOf}
 use Rattle.chars.proofs.Bools.{clash}
@@ -17,23 +17,23 @@ use Rattle.token.specs.paper.Shapes.{tripleChar}
 use Rattle.token.specs.computed.Answer.{Esc, unbroken, broken, exactHexes, digitsUpTo, afterSlash, Closing, closed, wrong, closeTriple}
 use Rattle.token.specs.code.Cursor.{cursorAt}
 use Rattle.token.specs.code.ByteClass as bytes
-use Rattle.token.specs.code.String.{ended_of, escEnd, escapeOf, closeSingle, isOrdinary, dollarOf, singleItem}
+use Rattle.token.specs.code.String.{endedOf, escEnd, escapeOf, closeSingle, isOrdinary, dollarOf, singleItem}
 use Rattle.token.specs.code.Quoted.{decimalEnd, unicodeEnd, codedEnd, escapeEnd, backslashEnd, dollarEnd, itemEnd, closedTo}
 use Rattle.token.specs.declared.cursor.Cursor.{Cursor}
 use Rattle.token.specs.declared.piece.Ended.{Ended}
 use Rattle.token.specs.declared.piece.Ended.TheVariants as ended
-use Rattle.token.proofs.Base.{zero_one}
+use Rattle.token.proofs.Base.{zero-one}
 use Rattle.token.proofs.byte_class.Laws.{class-ordinary}
 use Rattle.token.proofs.cursor.Bytes.{inside, any-byte, ascii-list}
 use Rattle.token.proofs.theorems.Escapes.{u-other}
 use Rattle.token.proofs.theorems.Strings as strings
 use Rattle.token.proofs.string.Escapes.{digit-ascii, hex-ascii, ascii-in, hexes-next, hexes-stop, slash-simple, slash-digits, slash-other}
-use Rattle.token.proofs.string.Laws.{slash-byte, brace-byte, dollar-brace, dollar-alone, other-ordinary, ordinary-byte, Walk, walk-on, walk-run, skips, skip-past, Onward, single-item-newline, single-item-dollar, single-item-lone, single-item-slash, single-item-escape, single_step, no-quote, triples, triple-test}
-open text-laws use {head_byte, at_ascii, place-from}
+use Rattle.token.proofs.string.Laws.{slash-byte, brace-byte, dollar-brace, dollar-alone, other-ordinary, ordinary-byte, Walk, walk-on, walk-run, skips, skip-past, Onward, single-item-newline, single-item-dollar, single-item-lone, single-item-slash, single-item-escape, single-step, no-quote, triples, triple-test}
+open text-laws use {head-byte, at-ascii, place-from}
 
 -- ---- what the code tells
 
-pub told-ordinary : (b : ℕ) {e : ℕ} {r : Bool} → e ≡ bytes.class_of b → r ≡ bytes.isOrdinary e → isOrdinary b ≡ r
+pub told-ordinary : (b : ℕ) {e : ℕ} {r : Bool} → e ≡ bytes.classOf b → r ≡ bytes.isOrdinary e → isOrdinary b ≡ r
 unfolding isOrdinary
 told-ordinary b q w = sym (class-ordinary b) ∙ ap bytes.isOrdinary (sym q) ∙ sym w
 
@@ -75,11 +75,11 @@ module _ (s : List ℕ) (at : ℕ) where
   unfolding codedEnd
   coded-decimal n = rw (ne_eqb (get_or s (at + 1) 0) 0x75 n)
 
-  escape-one : one_of "btnfr'\"]" (get_or s (at + 1) 0) ≡ true → at + 2 ≡ escapeEnd s at
+  escape-one : oneOf "btnfr'\"]" (get_or s (at + 1) 0) ≡ true → at + 2 ≡ escapeEnd s at
   unfolding escapeEnd
   escape-one e = rw e
 
-  escape-coded : one_of "btnfr'\"]" (get_or s (at + 1) 0) ≡ false → codedEnd s at ≡ escapeEnd s at
+  escape-coded : oneOf "btnfr'\"]" (get_or s (at + 1) 0) ≡ false → codedEnd s at ≡ escapeEnd s at
   unfolding escapeEnd
   escape-coded e = rw e
 
@@ -124,8 +124,8 @@ EscapeEnds s at e (unbroken k) = (e ≡ at + 1 + k) × (e ≤ length s) × (from
 EscapeEnds s at e (broken j q) = e ≡ at
 
 module _ (s : List ℕ) (at e : ℕ) (x : Esc) where
-  ends_at : (n k : ℕ) → x ≡ unbroken k → n ≡ e → n ≡ at + 1 + k → n ≤ length s → from s n ≡ drop k (from s (at + 1)) → EscapeEnds s at e x
-  ends_at n k z q p h r = rw (z, ← q) (p, h, r)
+  ends-at : (n k : ℕ) → x ≡ unbroken k → n ≡ e → n ≡ at + 1 + k → n ≤ length s → from s n ≡ drop k (from s (at + 1)) → EscapeEnds s at e x
+  ends-at n k z q p h r = rw (z, ← q) (p, h, r)
 
   ends-not : (j : ℕ) (t : Text) → x ≡ broken j t → at ≡ e → EscapeEnds s at e x
   ends-not j t z p = rw z (sym p)
@@ -133,7 +133,7 @@ module _ (s : List ℕ) (at e : ℕ) (x : Esc) where
 -- past one ASCII character
 module _ (s : List ℕ) (i j : ℕ) (next : j ≡ i + 1) (b : (1 ≤ get_or s i 0) × (get_or s i 0 < 0x80)) where
   step-text : from s i ≡ record { code = get_or s i 0; at = i } ∷ from s j
-  step-text = at_ascii s i (inside s i b.0) b.1 ∙ ap (λ k. record { code = get_or s i 0; at = i } ∷ from s k) (sym next)
+  step-text = at-ascii s i (inside s i b.0) b.1 ∙ ap (λ k. record { code = get_or s i 0; at = i } ∷ from s k) (sym next)
 
   step-most : j ≤ length s
   step-most = let h = inside s i b.0 in omega arith
@@ -168,16 +168,16 @@ module _ (s : List ℕ) (at : ℕ) where
       where
         go : (x y : Bool) → isDigit (get_or s (at + 2) 0) ≡ x → isDigit (get_or s (at + 3) 0) ≡ y → Ends (decimalEnd s at) (unbroken (digitsUpTo 2 1 (from s (at + 2))))
         go false y e f =
-            let z = digits-stop 1 1 (from s (at + 2)) (head_byte isDigit digit-ascii s (at + 2) ∙ e) in
+            let z = digits-stop 1 1 (from s (at + 2)) (head-byte isDigit digit-ascii s (at + 2) ∙ e) in
             let h = step-most s (at + 1) (at + 2) (omega arith) (ascii-in isDigit digit-ascii _ d) in
-            ends_at s at _ _ (at + 2) 1 (ap unbroken z) (decimal-one s at d e) (omega arith) h (sym first)
+            ends-at s at _ _ (at + 2) 1 (ap unbroken z) (decimal-one s at d e) (omega arith) h (sym first)
         go true false e f =
             let b = ascii-in isDigit digit-ascii _ e in
             let t = step-text s (at + 2) (at + 3) (omega arith) b in
-            let z = ap (digitsUpTo 2 1) t ∙ digits-next 1 1 _ (from s (at + 3)) e ∙ digits-stop 0 2 (from s (at + 3)) (head_byte isDigit digit-ascii s (at + 3) ∙ f) in
+            let z = ap (digitsUpTo 2 1) t ∙ digits-next 1 1 _ (from s (at + 3)) e ∙ digits-stop 0 2 (from s (at + 3)) (head-byte isDigit digit-ascii s (at + 3) ∙ f) in
             let h = step-most s (at + 2) (at + 3) (omega arith) b in
             let r = step-drop s (at + 1) (at + 2) (omega arith) (ascii-in isDigit digit-ascii _ d) 1 ∙ step-drop s (at + 2) (at + 3) (omega arith) b 0 in
-            ends_at s at _ _ (at + 3) 2 (ap unbroken z) (decimal-two s at d e f) (omega arith) h (sym r)
+            ends-at s at _ _ (at + 3) 2 (ap unbroken z) (decimal-two s at d e f) (omega arith) h (sym r)
         go true true e f =
             let a = ascii-in isDigit digit-ascii _ d in
             let b = ascii-in isDigit digit-ascii _ e in
@@ -187,14 +187,14 @@ module _ (s : List ℕ) (at : ℕ) where
             let z = ap (digitsUpTo 2 1) t ∙ digits-next 1 1 _ (from s (at + 3)) e ∙ ap (digitsUpTo 1 2) u ∙ digits-next 0 2 _ (from s (at + 4)) f ∙ digits-full 3 (from s (at + 4)) in
             let h = step-most s (at + 3) (at + 4) (omega arith) c in
             let r = step-drop s (at + 1) (at + 2) (omega arith) a 2 ∙ step-drop s (at + 2) (at + 3) (omega arith) b 1 ∙ step-drop s (at + 3) (at + 4) (omega arith) c 0 in
-            ends_at s at _ _ (at + 4) 3 (ap unbroken z) (decimal-three s at d e f) (omega arith) h (sym r)
+            ends-at s at _ _ (at + 4) 3 (ap unbroken z) (decimal-three s at d e f) (omega arith) h (sym r)
 
   -- of `u` and hex digits
   hexes-step : (m k i j : ℕ) → j ≡ i + 1 → isHexDigit (get_or s i 0) ≡ true → exactHexes (suc m) k (from s i) ≡ exactHexes m (suc k) (from s j)
   hexes-step m k i j n e = ap (exactHexes (suc m) k) (step-text s i j n (ascii-in isHexDigit hex-ascii _ e)) ∙ (hexes-next m k _ (from s j) e).0
 
   hexes-break : (m k i : ℕ) → isHexDigit (get_or s i 0) ≡ false → exactHexes (suc m) k (from s i) ≡ broken 13 (from s i)
-  hexes-break m k i e = hexes-stop m k (from s i) (head_byte isHexDigit hex-ascii s i ∙ e)
+  hexes-break m k i e = hexes-stop m k (from s i) (head-byte isHexDigit hex-ascii s i ∙ e)
 
   hexes-all : (k i : ℕ) → exactHexes 0 k (from s i) ≡ unbroken k
   unfolding exactHexes
@@ -232,7 +232,7 @@ module _ (s : List ℕ) (at : ℕ) where
             let w = ascii-in isHexDigit hex-ascii _ h in
             let r = step-drop s (at + 1) (at + 2) (omega arith) low 4 ∙ step-drop s (at + 2) (at + 3) (omega arith) x 3 ∙ step-drop s (at + 3) (at + 4) (omega arith) y 2
             ∙ step-drop s (at + 4) (at + 5) (omega arith) z 1 ∙ step-drop s (at + 5) (at + 6) (omega arith) w 0 in
-            ends_at s at _ _ (at + 6) 5 (two e ∙ three f ∙ four g ∙ five h ∙ hexes-all 5 (at + 6)) (unicode-is s at true e f g h refl) (omega arith)
+            ends-at s at _ _ (at + 6) 5 (two e ∙ three f ∙ four g ∙ five h ∙ hexes-all 5 (at + 6)) (unicode-is s at true e f g h refl) (omega arith)
             (step-most s (at + 5) (at + 6) (omega arith) w) (sym r)
 
 -- what is found behind the backslash
@@ -247,29 +247,29 @@ slash-none [] x y z = (12, [], refl)
 slash-none (c ∷ t) x y z = (14, c ∷ t, slash-other c t x y z)
 
 -- For a string and for a character: the escape whose backslash stands at a place, by what is found from behind it on.
-pub escape_end : (s : List ℕ) (at : ℕ) → EscapeEnds s at (escapeEnd s at) (afterSlash (from s (at + 1)))
-escape_end s at = go (one_of "btnfr'\"]" (get_or s (at + 1) 0)) (eqb (get_or s (at + 1) 0) 0x75) (isDigit (get_or s (at + 1) 0)) refl refl refl
+pub escape-end : (s : List ℕ) (at : ℕ) → EscapeEnds s at (escapeEnd s at) (afterSlash (from s (at + 1)))
+escape-end s at = go (oneOf "btnfr'\"]" (get_or s (at + 1) 0)) (eqb (get_or s (at + 1) 0) 0x75) (isDigit (get_or s (at + 1) 0)) refl refl refl
   where
-    unsimple : one_of "btnfr'\"]" (get_or s (at + 1) 0) ≡ false → isAny "btnfr'\"]" (from s (at + 1)) ≡ false
+    unsimple : oneOf "btnfr'\"]" (get_or s (at + 1) 0) ≡ false → isAny "btnfr'\"]" (from s (at + 1)) ≡ false
     unsimple e = any-byte "btnfr'\"]" refl s (at + 1) ∙ e
 
-    go : (x y z : Bool) → one_of "btnfr'\"]" (get_or s (at + 1) 0) ≡ x → eqb (get_or s (at + 1) 0) 0x75 ≡ y → isDigit (get_or s (at + 1) 0) ≡ z
+    go : (x y z : Bool) → oneOf "btnfr'\"]" (get_or s (at + 1) 0) ≡ x → eqb (get_or s (at + 1) 0) 0x75 ≡ y → isDigit (get_or s (at + 1) 0) ≡ z
         → EscapeEnds s at (escapeEnd s at) (afterSlash (from s (at + 1)))
     go true y z e f g =
-        let b = ascii-in (one_of "btnfr'\"]") (ascii-list (codes "btnfr'\"]") refl) _ e in
-        ends_at s at _ _ (at + 2) 1 (slash-simple (from s (at + 1)) (any-byte "btnfr'\"]" refl s (at + 1) ∙ e)) (escape-one s at e) (omega arith)
+        let b = ascii-in (oneOf "btnfr'\"]") (ascii-list (codes "btnfr'\"]") refl) _ e in
+        ends-at s at _ _ (at + 2) 1 (slash-simple (from s (at + 1)) (any-byte "btnfr'\"]" refl s (at + 1) ∙ e)) (escape-one s at e) (omega arith)
         (step-most s (at + 1) (at + 2) (omega arith) b) (sym (step-drop s (at + 1) (at + 2) (omega arith) b 0))
     go false true z e f g =
         let u = eqb-true (get_or s (at + 1) 0) 0x75 f in
-        let q = slash-unicode (from s (at + 1)) (any-byte "u" refl s (at + 1) ∙ ap (one_of "u") u) ∙ ap (exactHexes 4 1) (step-drop s (at + 1) (at + 2) (omega arith) (low s at u) 0) in
+        let q = slash-unicode (from s (at + 1)) (any-byte "u" refl s (at + 1) ∙ ap (oneOf "u") u) ∙ ap (exactHexes 4 1) (step-drop s (at + 1) (at + 2) (omega arith) (low s at u) 0) in
         rw (q, ← escape-coded s at e, ← coded-unicode s at u) (unicode-ends s at u)
     go false false true e f g =
         let n = eqb-false (get_or s (at + 1) 0) 0x75 f in
-        let q = slash-digits (from s (at + 1)) (head_byte isDigit digit-ascii s (at + 1) ∙ g) ∙ ap (λ r. unbroken (digitsUpTo 2 1 r)) (first s at g) in
+        let q = slash-digits (from s (at + 1)) (head-byte isDigit digit-ascii s (at + 1) ∙ g) ∙ ap (λ r. unbroken (digitsUpTo 2 1 r)) (first s at g) in
         rw (q, ← escape-coded s at e, ← coded-decimal s at n) (decimal-ends s at g)
     go false false false e f g =
         let n = eqb-false (get_or s (at + 1) 0) 0x75 f in
-        let w = slash-none (from s (at + 1)) (unsimple e) (head_byte isDigit digit-ascii s (at + 1) ∙ g) (any-byte "u" refl s (at + 1) ∙ or-false _ ∙ f) in
+        let w = slash-none (from s (at + 1)) (unsimple e) (head-byte isDigit digit-ascii s (at + 1) ∙ g) (any-byte "u" refl s (at + 1) ∙ or-false _ ∙ f) in
         ends-not s at _ _ w.0 w.1 w.2 (decimal-none s at g ∙ coded-decimal s at n ∙ escape-coded s at e)
 
 -- ---- from a place on in a string
@@ -285,14 +285,14 @@ module _ {A : Type 0} (f : Text → A) (test : Text → Bool) (w : Walk f test) 
 
 -- the answer by the full reader's
 module _ (s : List ℕ) (at : ℕ) where
-  pub told-closed : (c : Cursor) (w : Closing) → ended.At c ≡ ended_of (length s) w → c.at ≡ closedTo s at w
-  unfolding ended_of closedTo
+  pub told-closed : (c : Cursor) (w : Closing) → ended.At c ≡ endedOf (length s) w → c.at ≡ closedTo s at w
+  unfolding endedOf closedTo
   told-closed c (closed q) e = let x : c ≡ cursorAt (place (length s) q) = cc in ap (λ (d : Cursor). d.at) x
-  told-closed c (wrong j q) e = zero_one (cc)
+  told-closed c (wrong j q) e = zero-one (cc)
 
-  pub told-wrong : (j a : ℕ) (w : Closing) → ended.Refused j a ≡ ended_of (length s) w → at ≡ closedTo s at w
-  unfolding ended_of closedTo
-  told-wrong j a (closed q) e = zero_one (cc)
+  pub told-wrong : (j a : ℕ) (w : Closing) → ended.Refused j a ≡ endedOf (length s) w → at ≡ closedTo s at w
+  unfolding endedOf closedTo
+  told-wrong j a (closed q) e = zero-one (cc)
   told-wrong j a (wrong k q) e = refl
 
   wrong-at : (w : Closing) (j : ℕ) (q : Text) → w ≡ wrong j q → at ≡ closedTo s at w
@@ -321,7 +321,7 @@ escape-step s i e (broken j q) h = h
 
 escape-is : (s : List ℕ) (i : ℕ) → escapeEnd s i ≡ stepEnd i (escapeOf (length s) (from s (i + 1)))
 unfolding escapeOf
-escape-is s i = escape-step s i _ (afterSlash (from s (i + 1))) (escape_end s i)
+escape-is s i = escape-step s i _ (afterSlash (from s (i + 1))) (escape-end s i)
 
 -- neither ordinary nor a quote
 module _ (p : Bool) (s : List ℕ) (i : ℕ) (h : i < length s) (o : isOrdinary (get_or s i 0) ≡ false) (n : get_or s i 0 ≡ 0x22 → ⊥) where
@@ -329,7 +329,7 @@ module _ (p : Bool) (s : List ℕ) (i : ℕ) (h : i < length s) (o : isOrdinary 
   dollar-step b e = go (eqb (get_or s (i + 1) 0) 0x7B) refl
     where
       any : isAny "$" (from s i) ≡ true
-      any = any-byte "$" refl s i ∙ ap (one_of "$") b
+      any = any-byte "$" refl s i ∙ ap (oneOf "$") b
 
       go : (x : Bool) → eqb (get_or s (i + 1) 0) 0x7B ≡ x → dollarEnd p s i ≡ stepEnd i (dollarOf (length s) (from s i))
       go true q = let k = eqb-true (get_or s (i + 1) 0) 0x7B q in sym (dollar-braced s i p e k) ∙ ap (stepEnd i) (dollar-brace s i h any k)
@@ -358,7 +358,7 @@ module _ (p : Bool) (s : List ℕ) (i : ℕ) (h : i < length s) (o : isOrdinary 
           clash (sym o ∙ other-ordinary (get_or s i 0) (eqb-false (get_or s i 0) 0x0A l, n, eqb-false (get_or s i 0) 0x24 d, eqb-false (get_or s i 0) 0x5C k))
 
   item-onward : Onward s (closeSingle p) i (singleItem p s i)
-  item-onward = single_step s i h (no-quote s i n) p (singleItem p s i) refl
+  item-onward = single-step s i h (no-quote s i n) p (singleItem p s i) refl
 
   pub item-goes : (e : ℕ) → e ≡ itemEnd p s i (get_or s i 0) → (e ≡ i → ⊥) → (i < e) × (e ≤ length s) × (closeSingle p (from s e) ≡ closeSingle p (from s i))
   item-goes e q m = step-goes s (closeSingle p) i (singleItem p s i) e item-onward (q ∙ item-step) m

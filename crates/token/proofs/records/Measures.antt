@@ -15,7 +15,7 @@ use Rattle.token.specs.paper.Records.{values, headLength, lineLength, recordLeng
 use Rattle.token.specs.code.Form.{mostLength}
 use Rattle.words.specs.Words.{le4, le8}
 use Rattle.token.specs.declared.gap.Gap.{Gap}
-use Rattle.token.specs.code.Records.{stores, measuredOf, tokensIn, Fits, answer_of, State, begun, trailFrom, storedFrom, measuredFrom, Standing}
+use Rattle.token.specs.code.Records.{stores, measuredOf, tokensIn, Fits, answerOf, State, begun, trailFrom, storedFrom, measuredFrom, Standing}
 use Rattle.token.specs.declared.kinds.TokenKind.{TokenKind}
 use Rattle.token.specs.declared.kinds.TokenKind.TheVariants as tk
 use Rattle.token.specs.declared.records.Measured.TheVariants as measured
@@ -76,7 +76,7 @@ total-is {m} {n} {b} e = ap (λ k. measured.Total k b) e
 
 -- ---- the whole script
 
-pub begun-answer : (s : List ℕ) → answer_of (trailFrom s begun) ≡ answer s
+pub begun-answer : (s : List ℕ) → answerOf (trailFrom s begun) ≡ answer s
 unfolding answer
 begun-answer s = trail-answer (length s) 0 fresh (from s 0)
 
@@ -93,7 +93,7 @@ begun-measured s x e = ap (measuredFrom s) e ∙ ap (measuredOf 0 0) (begun-answ
 pub begun-fits : (s out : List ℕ) → Fits (answer s) (length out) → storedFrom s begun out ≡ sets out 0 (records (tokensIn (answer s)))
 begun-fits s out f = go (answer s) (begun-answer s) f
   where
-    go : (v : Answer) → answer_of (trailFrom s begun) ≡ v → Fits v (length out) → storedFrom s begun out ≡ sets out 0 (records (tokensIn v))
+    go : (v : Answer) → answerOf (trailFrom s begun) ≡ v → Fits v (length out) → storedFrom s begun out ≡ sets out 0 (records (tokensIn v))
     go (tokenized ts) e f =
         let q = tokens-on (trailFrom s begun) ts e in
         let l = f.fits in

@@ -7,7 +7,7 @@ use native.Mathlib.Omega.{arith}
 use Rattle.chars.specs.paper.Text.{from}
 use Rattle.token.specs.paper.Kinds.{Token}
 use Rattle.token.specs.paper.Records.{recordLength, recordOf}
-use Rattle.token.specs.code.Records.{storedIf, measuredOf, Trail, trail, answer_of, tokensOn, stores, State, trailFrom, measuredFrom, storedFrom, Standing, Reaches}
+use Rattle.token.specs.code.Records.{storedIf, measuredOf, Trail, trail, answerOf, tokensOn, stores, State, trailFrom, measuredFrom, storedFrom, Standing, Reaches}
 use Rattle.token.specs.declared.gap.Gap.{Gap}
 use Rattle.token.specs.declared.records.Measured.TheVariants as measured
 use Rattle.token.proofs.form.Stores.{stored-length}
@@ -39,7 +39,7 @@ module _ {s : List ℕ} {x : State} {out : List ℕ} where
           on = omega arith;
           stands = record { within = w; count = omega arith; size = omega arith };
           same = r.same;
-          counted = ap (λ v. measuredOf y.count y.bytes (answer_of v)) e ∙ r.counted;
+          counted = ap (λ v. measuredOf y.count y.bytes (answerOf v)) e ∙ r.counted;
           stored = ap (λ v. stores mid y.bytes (tokensOn v)) e ∙ r.stored;
         }
 
@@ -57,14 +57,14 @@ module _ {s : List ℕ} {x : State} {out : List ℕ} where
           on = omega arith;
           stands = record { within = u.within; count = omega arith; size = omega arith };
           same = ap length q ∙ stored-length mid y.bytes (recordOf t) ∙ r.same;
-          counted = measured-turn _ _ t y.count y.bytes l (ap answer_of u.walked) p ∙ r.counted;
+          counted = measured-turn _ _ t y.count y.bytes l (ap answerOf u.walked) p ∙ r.counted;
           stored = stores-turn _ _ t mid next y.bytes l u.walked q p ∙ r.stored;
         })
 
     -- the end of script
     module _ (t : Token) (e : trailFrom s y ≡ Trail.ends t) where
       pub reach-end : (l : ℕ) → l ≡ recordLength t.kind → measured.Total (y.count + 1) (y.bytes + l) ≡ measuredFrom s x
-      reach-end l p = measured-end _ t y.count y.bytes l (ap answer_of e) p ∙ r.counted
+      reach-end l p = measured-end _ t y.count y.bytes l (ap answerOf e) p ∙ r.counted
 
       pub reach-stored : (next : List ℕ) → next ≡ storedIf mid y.bytes (recordOf t) → next ≡ storedFrom s x out
       reach-stored next q = stores-end _ t mid next y.bytes e q ∙ r.stored
@@ -72,7 +72,7 @@ module _ {s : List ℕ} {x : State} {out : List ℕ} where
     -- a refusal
     module _ (j a : ℕ) (e : trailFrom s y ≡ Trail.stops j a) where
       pub reach-stop : measured.Refused j a ≡ measuredFrom s x
-      reach-stop = measured-stop _ j a y.count y.bytes (ap answer_of e) ∙ r.counted
+      reach-stop = measured-stop _ j a y.count y.bytes (ap answerOf e) ∙ r.counted
 
       pub reach-kept : mid ≡ storedFrom s x out
       reach-kept = stores-stop _ j a mid y.bytes e ∙ r.stored

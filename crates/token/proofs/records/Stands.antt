@@ -8,9 +8,9 @@ use native.Mathlib.Omega.{arith}
 use borrow.Author.Tests.{eq-eqb, ne_eqb}
 use Rattle.chars.proofs.Bools.{or-neither}
 use Rattle.token.specs.paper.Records.{headLength}
-use Rattle.token.specs.code.ByteClass.{class_at}
+use Rattle.token.specs.code.ByteClass.{classAt}
 use Rattle.token.specs.code.Records.{State, Standing, Reaches}
-use Rattle.token.specs.code.Stand.{counted, state_of, Whole, standOf}
+use Rattle.token.specs.code.Stand.{counted, stateOf, Whole, standOf}
 use Rattle.token.specs.code.Walk.{plainGap, stateAt, Good, Steps}
 use Rattle.token.specs.declared.gap.Gap.{Gap}
 use Rattle.token.specs.declared.records.Stand.{Stand}
@@ -37,18 +37,18 @@ plain-is g h =
     sym (ap (λ y. record { newline = g.newline; comment = g.comment; pending = y; cut = g.cut }) n.1
     ∙ ap (λ y. record { newline = g.newline; comment = g.comment; pending = false; cut = y }) n.0)
 
-module _ (s : List ℕ) (w : Stand) (h : w.gap.cut || w.gap.pending ≡ false) (c : ℕ) (ec : c ≡ class_at s w.at) (l : ℕ) (el : l ≡ cond w.gap.newline w.bytes (w.bytes + 1))
+module _ (s : List ℕ) (w : Stand) (h : w.gap.cut || w.gap.pending ≡ false) (c : ℕ) (ec : c ≡ classAt s w.at) (l : ℕ) (el : l ≡ cond w.gap.newline w.bytes (w.bytes + 1))
     (m : ℕ) (em : m ≡ cond w.gap.comment w.bytes (w.bytes + 1)) where
   abbrev begin : Walked
   begin = record { at = w.at; class = c; bytes = w.bytes; values = w.values; line = l; mark = m }
 
-  same : stateAt begin ≡ state_of w
+  same : stateAt begin ≡ stateOf w
   same =
       ap (λ y. record { at = w.at; gap = plainGap y (eqb m w.bytes); count = counted w; bytes = w.bytes }) (came-is w.gap.newline w.bytes l el)
       ∙ ap (λ y. record { at = w.at; gap = plainGap w.gap.newline y; count = counted w; bytes = w.bytes }) (came-is w.gap.comment w.bytes m em)
       ∙ ap (λ y. record { at = w.at; gap = y; count = counted w; bytes = w.bytes }) (plain-is w.gap h)
 
-  pub started-good : Standing s (state_of w) → Whole w → Good s begin
+  pub started-good : Standing s (stateOf w) → Whole w → Good s begin
   started-good st wh =
       record {
         stands = subst (λ y. Standing s y) (sym same) st;
@@ -58,7 +58,7 @@ module _ (s : List ℕ) (w : Stand) (h : w.gap.cut || w.gap.pending ≡ false) (
         mark = came-least w.gap.comment w.bytes m em;
       }
 
-  pub came-to : {x : Walked} {out next : List ℕ} → Steps s begin out x next → (r : Stand) → r ≡ standOf x → Reaches s (state_of w) out (state_of r) next × Whole r
+  pub came-to : {x : Walked} {out next : List ℕ} → Steps s begin out x next → (r : Stand) → r ≡ standOf x → Reaches s (stateOf w) out (stateOf r) next × Whole r
   came-to {x} {out} {next} k r e =
       rw e (subst (λ y. Reaches s y out (stateAt x) next) same k.reaches, k.good.whole)
 

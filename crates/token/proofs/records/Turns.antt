@@ -10,10 +10,10 @@ use Rattle.token.specs.paper.Kinds.{kindNumber, Token}
 use Rattle.token.specs.paper.Records.{headLength, lineLength, recordLength, recordOf}
 use Rattle.token.specs.computed.Answer.{answer}
 use Rattle.token.specs.computed.Flags.{fresh}
-use Rattle.token.specs.code.Form.{mostLength, form_of, plainForm, Known, byForm}
-use Rattle.token.specs.code.Lexer.{seek, next_of}
+use Rattle.token.specs.code.Form.{mostLength, formOf, plainForm, Known, byForm}
+use Rattle.token.specs.code.Lexer.{seek, nextOf}
 use Rattle.token.specs.code.Records.{storedIf, eofAt, total, measuredOf, begun, storedFrom, Reaches}
-use Rattle.token.specs.code.Stand.{counted, state_of, Whole}
+use Rattle.token.specs.code.Stand.{counted, stateOf, Whole}
 use Rattle.token.specs.declared.cursor.Cursor.{Cursor}
 use Rattle.token.specs.declared.gap.Gap.{Gap}
 use Rattle.token.specs.declared.kinds.Form.{Form}
@@ -24,7 +24,7 @@ use Rattle.token.specs.declared.lexer.Next.TheVariants as next
 use Rattle.token.specs.declared.records.Measured.TheVariants as measured
 use Rattle.token.specs.declared.records.Stand.{Stand}
 use Rattle.token.proofs.form.Laws.{form-known, form-length, form-record, record-by, length-by, eof-form}
-use Rattle.token.proofs.lexer.Turns.{Turn, turn-token, turn-line, turn_end, turn-stop}
+use Rattle.token.proofs.lexer.Turns.{Turn, turn-token, turn-line, turn-end, turn-stop}
 use Rattle.token.proofs.records.Measures.{record-most, newline-length, eof-length, total-is, begun-answer}
 use Rattle.token.proofs.records.Reach.{reach-trans, reach-turn, reach-end, reach-stored, reach-stop, reach-kept}
 use Rattle.token.proofs.records.Stands.{one-counted, last-counted, recount}
@@ -38,7 +38,7 @@ record-least k = omega arith
 pub head-known : Known headLength
 head-known = Known.bare
 
-pub bytes-is : (k : TokenKind) (start end : ℕ) (cut : Bool) → byForm (form_of k) start end cut ≡ recordOf (record { kind = k; start = start; end = end; cut = cut })
+pub bytes-is : (k : TokenKind) (start end : ℕ) (cut : Bool) → byForm (formOf k) start end cut ≡ recordOf (record { kind = k; start = start; end = end; cut = cut })
 bytes-is k start end cut = form-record (record { kind = k; start = start; end = end; cut = cut })
 
 pub eof-is : (start end : ℕ) (cut : Bool) → byForm (plainForm (kindNumber tk.Eof)) start end cut ≡ recordOf (record { kind = tk.Eof; start = start; end = end; cut = cut })
@@ -50,11 +50,11 @@ pub ruleset sizes = (form-known, form-length, record-least, record-most, head-kn
 
 -- from the script's start it came to a place, and the record bytes there are heads and values
 abbrev pub Kept : List ℕ → List ℕ → Stand → List ℕ → Type 0
-Kept s out w mid = Reaches s begun out (state_of w) mid × Whole w
+Kept s out w mid = Reaches s begun out (stateOf w) mid × Whole w
 
 -- what comes next at a place
 abbrev step : List ℕ → Stand → Next
-step s w = next_of (length s) (seek (length s) 0 w.gap (from s w.at))
+step s w = nextOf (length s) (seek (length s) 0 w.gap (from s w.at))
 
 -- a token is not empty, and within the script; so is a line end
 module _ (s : List ℕ) (w : Stand) where
@@ -65,7 +65,7 @@ module _ (s : List ℕ) (w : Stand) where
   line-later q = let u = turn-line s w.at w.gap _ _ _ _ q in (u.on, u.within)
 
 module _ {s out mid : List ℕ} (w : Stand) (k : Kept s out w mid) where
-  pub kept-on : (x : Stand) {next : List ℕ} → Reaches s (state_of w) mid (state_of x) next × Whole x → Kept s out x next
+  pub kept-on : (x : Stand) {next : List ℕ} → Reaches s (stateOf w) mid (stateOf x) next × Whole x → Kept s out x next
   kept-on x r = (reach-trans k.0 r.0, r.1)
 
   -- a record more: a head, and the rest are values
@@ -77,13 +77,13 @@ module _ {s out mid : List ℕ} (w : Stand) (k : Kept s out w mid) where
       let n = one-counted w.bytes w.values l k.1 (omega (arith, p)) in
       (recount (reach-turn k.0 u g f l p _ q) _ n, omega (arith, n, k.1, p))
 
-  pub after-token : {kind : TokenKind} {a : ℕ} {e : Cursor} {cut : Bool} → next.Token kind a e cut ≡ step s w → (g : Gap) → g ≡ fresh → (f : Form) → f ≡ form_of kind
+  pub after-token : {kind : TokenKind} {a : ℕ} {e : Cursor} {cut : Bool} → next.Token kind a e cut ≡ step s w → (g : Gap) → g ≡ fresh → (f : Form) → f ≡ formOf kind
       → {after : List ℕ} → after ≡ storedIf mid w.bytes (byForm f a e.at cut)
       → Kept s out (record { at = e.at; gap = g; bytes = w.bytes + f.length; values = w.values + (f.length - headLength) }) after
   after-token q g i f j o =
       record-more (turn-token s w.at w.gap _ _ _ _ q) g i f.length (length-by f _ j) (o ∙ ap (storedIf mid w.bytes) (record-by f _ j))
 
-  pub after-line : {a : ℕ} {e : Cursor} {mark : Bool} {h : Gap} → next.LineEnd a e mark h ≡ step s w → (f : Form) → f ≡ form_of (tk.Newline mark)
+  pub after-line : {a : ℕ} {e : Cursor} {mark : Bool} {h : Gap} → next.LineEnd a e mark h ≡ step s w → (f : Form) → f ≡ formOf (tk.Newline mark)
       → {after : List ℕ} → after ≡ storedIf mid w.bytes (byForm f a e.at false)
       → Kept s out (record { at = e.at; gap = h; bytes = w.bytes + lineLength; values = w.values + 1 }) after
   after-line {mark = mark} {h = h} q f j o =
@@ -92,11 +92,11 @@ module _ {s out mid : List ℕ} (w : Stand) (k : Kept s out w mid) where
   module _ {cut : Bool} (q : next.End cut ≡ step s w) where
     pub end-total : total ((w.bytes + headLength - w.values) / headLength) (w.bytes + headLength) ≡ measuredOf 0 0 (answer s)
     end-total =
-        total-is (last-counted w.bytes w.values k.1) ∙ reach-end k.0 _ (turn_end s w.at w.gap cut q) headLength (sym eof-length)
+        total-is (last-counted w.bytes w.values k.1) ∙ reach-end k.0 _ (turn-end s w.at w.gap cut q) headLength (sym eof-length)
         ∙ ap (measuredOf 0 0) (begun-answer s)
 
     pub end-stored : {after : List ℕ} → after ≡ storedIf mid w.bytes (recordOf (eofAt (length s) cut)) → after ≡ storedFrom s begun out
-    end-stored o = reach-stored k.0 _ (turn_end s w.at w.gap cut q) _ o
+    end-stored o = reach-stored k.0 _ (turn-end s w.at w.gap cut q) _ o
 
   module _ {j a : ℕ} (q : next.Refused j a ≡ step s w) where
     pub stop-number : measured.Refused j a ≡ measuredOf 0 0 (answer s)

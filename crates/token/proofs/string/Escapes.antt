@@ -10,9 +10,9 @@ use lib.Dec.{ltb}
 use native.Mathlib.Omega.{arith}
 use borrow.Author.Tests.{ltb-true, ltb-false, ne_eqb, le-leb, lt-leb}
 use types.Run.{OneOf}
-use Rattle.chars.specs.paper.Quoted.{codes, member, one_of}
+use Rattle.chars.specs.paper.Quoted.{codes, member, oneOf}
 use Rattle.chars.specs.paper.Text.{Char, Text, from, place, headIs}
-use Rattle.chars.specs.code.Text.{charEnd, code_at}
+use Rattle.chars.specs.code.Text.{charEnd, codeAt}
 use Rattle.chars.proofs.Bools.{clash}
 use Rattle.chars.specs.promises.Texts.{AsciiClass}
 use Rattle.chars.proofs.theorems.Promises.{code_laws, text-laws}
@@ -25,8 +25,8 @@ use Rattle.token.specs.declared.piece.Ended.{Ended}
 use Rattle.token.specs.declared.piece.Ended.TheVariants as ended
 use Rattle.token.proofs.cursor.Bytes.{ascii-list, inside, any-byte, past}
 use Rattle.token.proofs.theorems.Escapes.{digit-no-simple, u-other}
-open code_laws use {no_member, misses, between-out}
-open text-laws use {head_byte, at_ascii, at-end, at-char, place-from}
+open code_laws use {no-member, misses, between-out}
+open text-laws use {head-byte, at-ascii, at-end, at-char, place-from}
 
 -- ---- digits at a place
 
@@ -55,15 +55,15 @@ module _ (p : ℕ → Bool) (a : AsciiClass p) where
       high false q = clash (sym (a.wide b (ltb-false b 0x80 q)) ∙ e)
 
   -- a character of the class stands at i
-  step_in : (s : List ℕ) (i : ℕ) → p (get_or s i 0) ≡ true → (i + 1 ≤ length s) × (from s i ≡ record { code = get_or s i 0; at = i } ∷ from s (i + 1))
-  step_in s i e =
+  step-in : (s : List ℕ) (i : ℕ) → p (get_or s i 0) ≡ true → (i + 1 ≤ length s) × (from s i ≡ record { code = get_or s i 0; at = i } ∷ from s (i + 1))
+  step-in s i e =
       let b = ascii-in (get_or s i 0) e in
       let h = inside s i b.0 in
-      (omega arith, at_ascii s i h b.1)
+      (omega arith, at-ascii s i h b.1)
 
 -- one place has one text
-pub same_place : (s : List ℕ) (i e : ℕ) → i ≤ length s → e ≤ length s → from s e ≡ from s i → e ≡ i
-same_place s i e h k q = sym (place-from s e k) ∙ ap (place (length s)) q ∙ place-from s i h
+pub same-place : (s : List ℕ) (i e : ℕ) → i ≤ length s → e ≤ length s → from s e ≡ from s i → e ≡ i
+same-place s i e h k q = sym (place-from s e k) ∙ ap (place (length s)) q ∙ place-from s i h
 
 upto-stop : (p : ℕ → Bool) (m : ℕ) (t : Text) → headIs p t ≡ false → afterUpTo p (suc m) t ≡ t
 unfolding afterUpTo
@@ -88,12 +88,12 @@ Hexes s e m k i =
 module _ (s : List ℕ) (e : ℕ) (within : e ≤ length s) where
   hexes-read : (m k i : ℕ) → i ≤ length s → from s e ≡ afterUpTo isHexDigit m (from s i) → Hexes s e m k i
   unfolding afterUpTo exactHexes
-  hexes-read zero k i h q = inr (let z = same_place s i e h within q in (omega arith, ap unbroken (omega arith), sym q))
+  hexes-read zero k i h q = inr (let z = same-place s i e h within q in (omega arith, ap unbroken (omega arith), sym q))
   hexes-read (suc m) k i h q = go (isHexDigit (get_or s i 0)) refl (λ l w. hexes-read m (suc k) (i + 1) l w)
     where
       go : (b : Bool) → isHexDigit (get_or s i 0) ≡ b → (i + 1 ≤ length s → from s e ≡ afterUpTo isHexDigit m (from s (i + 1)) → Hexes s e m (suc k) (i + 1)) → Hexes s e (suc m) k i
       go true x below =
-          let n = step_in isHexDigit hex-ascii s i x in
+          let n = step-in isHexDigit hex-ascii s i x in
           let c : Char = record { code = get_or s i 0; at = i } in
           let w = hexes-next m k c (from s (i + 1)) x in
           ⊎_elim
@@ -101,9 +101,9 @@ module _ (s : List ℕ) (e : ℕ) (within : e ≤ length s) where
           (λ l. inr (omega (arith, l.0), ap (exactHexes (suc m) k) n.1 ∙ w.0 ∙ l.1 ∙ ap unbroken (omega arith), ap (drop (suc m)) n.1 ∙ l.2))
           (below n.0 (q ∙ ap (afterUpTo isHexDigit (suc m)) n.1 ∙ w.1))
       go false x below =
-          let f = head_byte isHexDigit hex-ascii s i ∙ x in
+          let f = head-byte isHexDigit hex-ascii s i ∙ x in
           let r = q ∙ upto-stop isHexDigit m (from s i) f in
-          let z = same_place s i e h within r in
+          let z = same-place s i e h within r in
           inl (omega arith, hexes-stop m k (from s i) f ∙ ap (broken 13) (sym r))
 
   module _ (i : ℕ) (inside : i ≤ length s) (read : from s e ≡ afterUpTo (digitIn 16) 4 (from s i)) where
@@ -165,15 +165,15 @@ unfolding afterSlash
 slash-other c t x y z = rw (x, y, z)
 
 module _ (s : List ℕ) (i : ℕ) where
-  pub escape_end : i ≤ length s → length s ≤ i → ended.Refused 12 i ≡ escapeOf (length s) (from s i)
+  pub escape-end : i ≤ length s → length s ≤ i → ended.Refused 12 i ≡ escapeOf (length s) (from s i)
   unfolding escapeOf afterSlash
-  escape_end h k = sym (ap (λ t. escEnd (length s) t (afterSlash t)) (at-end s i k) ∙ ap (ended.Refused 12) (omega arith))
+  escape-end h k = sym (ap (λ t. escEnd (length s) t (afterSlash t)) (at-end s i k) ∙ ap (ended.Refused 12) (omega arith))
 
   module _ (h : i < length s) where
-    escape-simple : one_of "btnfr'\"]" (get_or s i 0) ≡ true → escapeOf (length s) (from s i) ≡ ended.At (cursorAt (i + 1))
+    escape-simple : oneOf "btnfr'\"]" (get_or s i 0) ≡ true → escapeOf (length s) (from s i) ≡ ended.At (cursorAt (i + 1))
     unfolding escapeOf
     escape-simple e =
-        let b = ascii-in (one_of "btnfr'\"]") (ascii-list (codes "btnfr'\"]") refl) (get_or s i 0) e in
+        let b = ascii-in (oneOf "btnfr'\"]") (ascii-list (codes "btnfr'\"]") refl) (get_or s i 0) e in
         rw (slash-simple (from s i) (any-byte "btnfr'\"]" refl s i ∙ e))
         (ap (λ t. ended.At (cursorAt (place (length s) t))) (past s i h b.1) ∙ ap (λ j. ended.At (cursorAt j)) (place-from s (i + 1) (omega arith)))
 
@@ -181,32 +181,32 @@ module _ (s : List ℕ) (i : ℕ) where
     unfolding escapeOf digitIn
     escape-digits d =
         let p = past s i h (ascii-in isDigit digit-ascii (get_or s i 0) d).1 in
-        rw (slash-digits (from s i) (head_byte isDigit digit-ascii s i ∙ d))
+        rw (slash-digits (from s i) (head-byte isDigit digit-ascii s i ∙ d))
         (ap (λ t. ended.At (cursorAt (place (length s) t))) (upto-digits 2 1 (from s i) (drop 1 (from s i)) refl ∙ ap (afterUpTo isDigit 2) p))
 
-    escape-hexes : one_of "u" (get_or s i 0) ≡ true → escapeOf (length s) (from s i) ≡ hexesOf (length s) (from s (i + 1))
+    escape-hexes : oneOf "u" (get_or s i 0) ≡ true → escapeOf (length s) (from s i) ≡ hexesOf (length s) (from s (i + 1))
     escape-hexes e =
-        let b = ascii-in (one_of "u") (ascii-list (codes "u") refl) (get_or s i 0) e in
+        let b = ascii-in (oneOf "u") (ascii-list (codes "u") refl) (get_or s i 0) e in
         slash-hexes (length s) (from s i) (any-byte "u" refl s i ∙ e) ∙ ap (hexesOf (length s)) (past s i h b.1)
 
-    escape-other : one_of "btnfr'\"]" (get_or s i 0) ≡ false → isDigit (get_or s i 0) ≡ false → one_of "u" (get_or s i 0) ≡ false → escapeOf (length s) (from s i) ≡ ended.Refused 14 i
+    escape-other : oneOf "btnfr'\"]" (get_or s i 0) ≡ false → isDigit (get_or s i 0) ≡ false → oneOf "u" (get_or s i 0) ≡ false → escapeOf (length s) (from s i) ≡ ended.Refused 14 i
     unfolding escapeOf
     escape-other x y z =
         let q = at-char s i h in
         let a = sym (ap (isAny "btnfr'\"]") q) ∙ any-byte "btnfr'\"]" refl s i ∙ x in
-        let b = sym (ap digit q) ∙ head_byte isDigit digit-ascii s i ∙ y in
+        let b = sym (ap digit q) ∙ head-byte isDigit digit-ascii s i ∙ y in
         let c = sym (ap (isAny "u") q) ∙ any-byte "u" refl s i ∙ z in
-        let k : Char = record { code = code_at s i; at = i } in
+        let k : Char = record { code = codeAt s i; at = i } in
         let u = from s (charEnd s i) in
         ap (λ t. escEnd (length s) t (afterSlash t)) q ∙ ap (escEnd (length s) (k ∷ u)) (slash-other k u a b c)
 
     -- by the first byte of its code
-    pub escape_by : escapeOf (length s) (from s i) ≡ cond (one_of "u" (get_or s i 0)) (hexesOf (length s) (from s (i + 1))) (cond (one_of "btnfr'\"]" (get_or s i 0))
+    pub escape_by : escapeOf (length s) (from s i) ≡ cond (oneOf "u" (get_or s i 0)) (hexesOf (length s) (from s (i + 1))) (cond (oneOf "btnfr'\"]" (get_or s i 0))
         (ended.At (cursorAt (i + 1)))
         (cond (isDigit (get_or s i 0)) (ended.At (cursorAt (place (length s) (afterUpTo (digitIn 10) 2 (from s (i + 1)))))) (ended.Refused 14 i)))
-    escape_by = go (one_of "u" (get_or s i 0)) (one_of "btnfr'\"]" (get_or s i 0)) (isDigit (get_or s i 0)) refl refl refl
+    escape_by = go (oneOf "u" (get_or s i 0)) (oneOf "btnfr'\"]" (get_or s i 0)) (isDigit (get_or s i 0)) refl refl refl
       where
-        go : (a b c : Bool) → one_of "u" (get_or s i 0) ≡ a → one_of "btnfr'\"]" (get_or s i 0) ≡ b → isDigit (get_or s i 0) ≡ c
+        go : (a b c : Bool) → oneOf "u" (get_or s i 0) ≡ a → oneOf "btnfr'\"]" (get_or s i 0) ≡ b → isDigit (get_or s i 0) ≡ c
             → escapeOf (length s) (from s i) ≡ cond a (hexesOf (length s) (from s (i + 1)))
             (cond b (ended.At (cursorAt (i + 1))) (cond c (ended.At (cursorAt (place (length s) (afterUpTo (digitIn 10) 2 (from s (i + 1)))))) (ended.Refused 14 i)))
         go true b c x y z = escape-hexes x
@@ -219,5 +219,5 @@ module _ (s : List ℕ) (i : ℕ) where
     unfolding isDigit
     escape_none n u l =
         let x = get_or s i 0 in
-        let k = no_member (λ k. not (member (codes "\"']bfnrt") k)) (codes "btnfr'\"]") x refl (rw (misses (codes "\"']bfnrt") x n)) in
+        let k = no-member (λ k. not (member (codes "\"']bfnrt") k)) (codes "btnfr'\"]") x refl (rw (misses (codes "\"']bfnrt") x n)) in
         sym (escape-other k (between-out 0x30 0x39 x l) (rw (ne_eqb x 0x75 u)))

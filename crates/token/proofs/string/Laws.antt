@@ -8,36 +8,36 @@ use lib.ListN.{length, drop, get_or}
 use lib.Dec.{eqb, ltb}
 use native.Mathlib.Omega.{arith}
 use borrow.Author.Tests.{ltb-true, ltb-false, ne_eqb, eq-eqb, eqb-true, eqb-false, not-true}
-use Rattle.chars.specs.paper.Quoted.{one_of}
+use Rattle.chars.specs.paper.Quoted.{oneOf}
 use Rattle.chars.specs.paper.Text.{Char, Text, from, place, headIs}
-use Rattle.chars.specs.code.Text.{charEnd, code_at}
+use Rattle.chars.specs.code.Text.{charEnd, codeAt}
 use Rattle.chars.specs.computed.Runs.{afterRun}
 use Rattle.chars.specs.code.Runs.{Within, AllIn, Other, NoneOf}
-use Rattle.chars.proofs.Bools.{clash, and_both, or-neither}
+use Rattle.chars.proofs.Bools.{clash, and-both, or-neither}
 use Rattle.chars.specs.promises.Texts.{Suffix}
 use Rattle.chars.proofs.theorems.Promises.{text-laws}
 use Rattle.token.proofs.cursor.Wide.{byte-by-byte}
 use Rattle.token.specs.paper.Tests.{isAny, begins, quote, threeQuotes, backslash, dollarBrace, opensComment}
 use Rattle.token.specs.paper.Kinds.{Kind, TokenType, isComment}
-use Rattle.token.specs.paper.Shapes.{single_char, Single, tripleChar, Stands, HasShape, TokenShape}
-use Rattle.token.specs.computed.Answer.{unbroken, broken, afterSlash, Closing, closed, wrong, closePlain, closeTriple, closeString, plainContent, plain_of, scanString, prefixedOf}
+use Rattle.token.specs.paper.Shapes.{singleChar, Single, tripleChar, Stands, HasShape, TokenShape}
+use Rattle.token.specs.computed.Answer.{unbroken, broken, afterSlash, Closing, closed, wrong, closePlain, closeTriple, closeString, plainContent, plainOf, scanString, prefixedOf}
 use Rattle.token.specs.code.Cursor.{cursorAt}
-use Rattle.token.specs.code.Piece.{piece_of}
-use Rattle.token.specs.code.String.{ended_of, escEnd, escapeOf, closeSingle, isOrdinary, dollarOf, singleItem, tripleItem}
+use Rattle.token.specs.code.Piece.{pieceOf}
+use Rattle.token.specs.code.String.{endedOf, escEnd, escapeOf, closeSingle, isOrdinary, dollarOf, singleItem, tripleItem}
 use Rattle.token.specs.declared.cursor.Cursor.{Cursor}
 use Rattle.token.specs.declared.piece.Ended.{Ended}
 use Rattle.token.specs.declared.piece.Ended.TheVariants as ended
 use Rattle.token.specs.declared.piece.Piece.TheVariants as piece
 use Rattle.token.specs.declared.kinds.TokenKind.{TokenKind}
 use Rattle.token.specs.declared.kinds.TokenKind.TheVariants as tk
-use Rattle.token.proofs.Base.{zero_one}
-use Rattle.token.proofs.cursor.Bytes.{inside, any-byte, past, starts-byte, two_bytes, one_byte}
-use Rattle.token.proofs.theorems.Runs.{after_next, after_stop}
-use Rattle.token.proofs.cursor.Laws.{all_past}
+use Rattle.token.proofs.Base.{zero-one}
+use Rattle.token.proofs.cursor.Bytes.{inside, any-byte, past, starts-byte, two-bytes, one-byte}
+use Rattle.token.proofs.theorems.Runs.{after-next, after-stop}
+use Rattle.token.proofs.cursor.Laws.{all-past}
 use Rattle.token.proofs.theorems.Escapes.{slash-finds, Good, Bad}
 use Rattle.token.proofs.theorems.Shorter.{Strict, stands-strict}
 use Rattle.token.proofs.theorems.Strings as strings
-open text-laws use {at_ascii, at-end, at-char, place-from, next-on, wide-code}
+open text-laws use {at-ascii, at-end, at-char, place-from, next-on, wide-code}
 
 -- ---- places
 
@@ -73,21 +73,21 @@ reached s i t r =
 module _ (s : List ℕ) (i : ℕ) where
   pub quote-byte : quote (from s i) ≡ eqb (get_or s i 0) 0x22
   unfolding begins
-  quote-byte = one_byte 0x22 (omega arith) (omega arith) s i
+  quote-byte = one-byte 0x22 (omega arith) (omega arith) s i
 
   pub slash-byte : backslash (from s i) ≡ eqb (get_or s i 0) 0x5C
   unfolding begins
-  slash-byte = one_byte 0x5C (omega arith) (omega arith) s i
+  slash-byte = one-byte 0x5C (omega arith) (omega arith) s i
 
   pub brace-byte : dollarBrace (from s i) ≡ eqb (get_or s i 0) 0x24 && eqb (get_or s (i + 1) 0) 0x7B
   unfolding begins
-  brace-byte = two_bytes 0x24 0x7B (omega arith) (omega arith) (omega arith) (omega arith) s i
+  brace-byte = two-bytes 0x24 0x7B (omega arith) (omega arith) (omega arith) (omega arith) s i
 
   pub three-byte : threeQuotes (from s i) ≡ eqb (get_or s i 0) 0x22 && (eqb (get_or s (i + 1) 0) 0x22 && eqb (get_or s (i + 2) 0) 0x22)
   unfolding begins
   three-byte =
       starts-byte 0x22 (0x22 ∷ 0x22 ∷ []) (omega arith) (omega arith) s i
-      ∙ ap (λ b. eqb (get_or s i 0) 0x22 && b) (two_bytes 0x22 0x22 (omega arith) (omega arith) (omega arith) (omega arith) s (i + 1) ∙ ap (λ j. eqb (get_or s (i + 1) 0) 0x22 && eqb (get_or s j 0) 0x22) (omega arith))
+      ∙ ap (λ b. eqb (get_or s i 0) 0x22 && b) (two-bytes 0x22 0x22 (omega arith) (omega arith) (omega arith) (omega arith) s (i + 1) ∙ ap (λ j. eqb (get_or s (i + 1) 0) 0x22 && eqb (get_or s j 0) 0x22) (omega arith))
 
 pub no-quote : (s : List ℕ) (i : ℕ) → (get_or s i 0 ≡ 0x22 → ⊥) → quote (from s i) ≡ false
 no-quote s i n = quote-byte s i ∙ ne_eqb (get_or s i 0) 0x22 n
@@ -99,8 +99,8 @@ quote-in s i e = let b = eqb-true (get_or s i 0) 0x22 (sym (quote-byte s i) ∙ 
 -- three of them
 pub three-in : (s : List ℕ) (i : ℕ) → threeQuotes (from s i) ≡ true → (i + 2 < length s) × (drop 3 (from s i) ≡ from s (i + 3))
 three-in s i e =
-    let a = and_both (eqb (get_or s i 0) 0x22) (eqb (get_or s (i + 1) 0) 0x22 && eqb (get_or s (i + 2) 0) 0x22) (sym (three-byte s i) ∙ e) in
-    let b = and_both (eqb (get_or s (i + 1) 0) 0x22) (eqb (get_or s (i + 2) 0) 0x22) a.1 in
+    let a = and-both (eqb (get_or s i 0) 0x22) (eqb (get_or s (i + 1) 0) 0x22 && eqb (get_or s (i + 2) 0) 0x22) (sym (three-byte s i) ∙ e) in
+    let b = and-both (eqb (get_or s (i + 1) 0) 0x22) (eqb (get_or s (i + 2) 0) 0x22) a.1 in
     let x = eqb-true (get_or s i 0) 0x22 a.0 in
     let y = eqb-true (get_or s (i + 1) 0) 0x22 b.0 in
     let z = eqb-true (get_or s (i + 2) 0) 0x22 b.1 in
@@ -108,15 +108,15 @@ three-in s i e =
     let two : i + 1 + 1 ≡ i + 2 = omega arith in
     let three : i + 2 + 1 ≡ i + 3 = omega arith in (
       h,
-      ap (drop 3) (at_ascii s i (omega arith) (omega arith)) ∙ ap (drop 2) (at_ascii s (i + 1) (omega arith) (omega arith)) ∙ ap (λ j. drop 1 (from s j)) two
-          ∙ ap (drop 1) (at_ascii s (i + 2) h (omega arith)) ∙ ap (from s) three,
+      ap (drop 3) (at-ascii s i (omega arith) (omega arith)) ∙ ap (drop 2) (at-ascii s (i + 1) (omega arith) (omega arith)) ∙ ap (λ j. drop 1 (from s j)) two
+          ∙ ap (drop 1) (at-ascii s (i + 2) h (omega arith)) ∙ ap (from s) three,
     )
 
 pub ruleset three_here = (three-byte)
 
 -- a `$`
 pub dollar_in : (s : List ℕ) (i : ℕ) → get_or s i 0 ≡ 0x24 → isAny "$" (from s i) ≡ true
-dollar_in s i b = any-byte "$" refl s i ∙ ap (one_of "$") b
+dollar_in s i b = any-byte "$" refl s i ∙ ap (oneOf "$") b
 
 module _ (s : List ℕ) (i : ℕ) (h : i < length s) (e : isAny "$" (from s i) ≡ true) where
   dollar-is : get_or s i 0 ≡ 0x24
@@ -147,13 +147,13 @@ pub ruleset dollars = (dollar-brace, dollar-alone)
 module _ (s : List ℕ) (i : ℕ) where
   pub quotes-next : i < length s → get_or s i 0 ≡ 0x22 → afterRun quote (from s (i + 1)) ≡ afterRun quote (from s i)
   quotes-next h b =
-      let q = at_ascii s i h (omega arith) in
-      sym (ap (afterRun quote) q ∙ after_next quote _ (from s (i + 1)) (sym (ap quote q) ∙ quote-byte s i ∙ eq-eqb (get_or s i 0) 0x22 b))
+      let q = at-ascii s i h (omega arith) in
+      sym (ap (afterRun quote) q ∙ after-next quote _ (from s (i + 1)) (sym (ap quote q) ∙ quote-byte s i ∙ eq-eqb (get_or s i 0) 0x22 b))
 
   pub quotes-stop : i < length s → (get_or s i 0 ≡ 0x22 → ⊥) → from s i ≡ afterRun quote (from s i)
   quotes-stop h b =
       let q = at-char s i h in
-      q ∙ sym (ap (afterRun quote) q ∙ after_stop quote _ (from s (charEnd s i)) (sym (ap quote q) ∙ quote-byte s i ∙ ne_eqb (get_or s i 0) 0x22 b))
+      q ∙ sym (ap (afterRun quote) q ∙ after-stop quote _ (from s (charEnd s i)) (sym (ap quote q) ∙ quote-byte s i ∙ ne_eqb (get_or s i 0) 0x22 b))
 
   pub quotes-end : length s ≤ i → from s i ≡ afterRun quote (from s i)
   unfolding afterRun
@@ -161,7 +161,7 @@ module _ (s : List ℕ) (i : ℕ) where
 
 -- quotes that are passed together
 pub quotes-past : (s : List ℕ) (i r : ℕ) → i ≤ r → r ≤ length s → AllIn 0x22 0x22 s i r → afterRun quote (from s r) ≡ afterRun quote (from s i)
-quotes-past s = all_past (afterRun quote) s (Within 0x22 0x22) (λ k h a. quotes-next s k h (omega arith))
+quotes-past s = all-past (afterRun quote) s (Within 0x22 0x22) (λ k h a. quotes-next s k h (omega arith))
 
 pub ruleset quote_run = (quotes-next, quotes-stop, quotes-end, quotes-past)
 
@@ -188,10 +188,10 @@ pub ordinary-byte : (s : List ℕ) (i : ℕ) → i < length s → headIs isOrdin
 ordinary-byte s i h = go (ltb (get_or s i 0) 0x80) refl
   where
     go : (b : Bool) → ltb (get_or s i 0) 0x80 ≡ b → headIs isOrdinary (from s i) ≡ isOrdinary (get_or s i 0)
-    go true e = ap (headIs isOrdinary) (at_ascii s i h (ltb-true (get_or s i 0) 0x80 e))
+    go true e = ap (headIs isOrdinary) (at-ascii s i h (ltb-true (get_or s i 0) 0x80 e))
     go false e =
         let w = ltb-false (get_or s i 0) 0x80 e in
-        ap (headIs isOrdinary) (at-char s i h) ∙ wide-ordinary (code_at s i) (wide-code s i w) ∙ sym (wide-ordinary (get_or s i 0) w)
+        ap (headIs isOrdinary) (at-char s i h) ∙ wide-ordinary (codeAt s i) (wide-code s i w) ∙ sym (wide-ordinary (get_or s i 0) w)
 
 -- a walk that passes a character where the test holds, and the test holds of ordinary ones
 pub record Walk {A : Type 0} (f : Text → A) (test : Text → Bool) : Type 0 where
@@ -205,7 +205,7 @@ module _ {A : Type 0} (f : Text → A) (test : Text → Bool) (w : Walk f test) 
     where
       go : (b : Bool) → ltb (get_or s i 0) 0x80 ≡ b → f (from s (i + 1)) ≡ f (from s i)
       go true e =
-          let q = at_ascii s i h (ltb-true (get_or s i 0) 0x80 e) in
+          let q = at-ascii s i h (ltb-true (get_or s i 0) 0x80 e) in
           sym (ap f q ∙ w.pass _ (from s (i + 1)) (sym (ap test q) ∙ t))
       go false e = byte-by-byte s f (λ c u k. w.pass c u (w.plain c u (wide-ordinary c.code k))) i h (ltb-false (get_or s i 0) 0x80 e)
 
@@ -216,27 +216,27 @@ module _ {A : Type 0} (f : Text → A) (test : Text → Bool) (w : Walk f test) 
   walk-run (c ∷ t) = go (isOrdinary c.code) refl (walk-run t)
     where
       go : (b : Bool) → isOrdinary c.code ≡ b → f (afterRun (headIs isOrdinary) t) ≡ f t → f (afterRun (headIs isOrdinary) (c ∷ t)) ≡ f (c ∷ t)
-      go true e below = ap f (after_next (headIs isOrdinary) c t e) ∙ below ∙ sym (w.pass c t (w.plain c t e))
-      go false e below = ap f (after_stop (headIs isOrdinary) c t e)
+      go true e below = ap f (after-next (headIs isOrdinary) c t e) ∙ below ∙ sym (w.pass c t (w.plain c t e))
+      go false e below = ap f (after-stop (headIs isOrdinary) c t e)
 
   -- what the skipping of ordinary characters leaves
   pub walk-skip : (s : List ℕ) (i e : ℕ) → from s e ≡ afterRun (headIs isOrdinary) (from s i) → f (from s e) ≡ f (from s i)
   walk-skip s i e q = ap f q ∙ walk-run (from s i)
 
 pub skips : Walk (afterRun (headIs isOrdinary)) (headIs isOrdinary)
-skips = record { pass = λ c u e. after_next (headIs isOrdinary) c u e; plain = λ c u e. e }
+skips = record { pass = λ c u e. after-next (headIs isOrdinary) c u e; plain = λ c u e. e }
 
 -- ordinary bytes that are passed together
 pub skip-past : (s : List ℕ) (i r : ℕ) → i ≤ r → r ≤ length s → NoneOf 0x0A 0x22 0x24 0x5C s i r
     → afterRun (headIs isOrdinary) (from s r) ≡ afterRun (headIs isOrdinary) (from s i)
 skip-past s =
-    all_past (afterRun (headIs isOrdinary)) s (Other 0x0A 0x22 0x24 0x5C) (λ k h o. walk-on _ _ skips s k h (ordinary-byte s k h ∙ other-ordinary _ o))
+    all-past (afterRun (headIs isOrdinary)) s (Other 0x0A 0x22 0x24 0x5C) (λ k h o. walk-on _ _ skips s k h (ordinary-byte s k h ∙ other-ordinary _ o))
 
-skip_stop : (s : List ℕ) (i : ℕ) → i < length s → isOrdinary (get_or s i 0) ≡ false → from s i ≡ afterRun (headIs isOrdinary) (from s i)
-skip_stop s i h e =
+skip-stop : (s : List ℕ) (i : ℕ) → i < length s → isOrdinary (get_or s i 0) ≡ false → from s i ≡ afterRun (headIs isOrdinary) (from s i)
+skip-stop s i h e =
     let q = at-char s i h in
     let t = sym (ap (headIs isOrdinary) q) ∙ ordinary-byte s i h ∙ e in
-    q ∙ sym (ap (afterRun (headIs isOrdinary)) q ∙ after_stop (headIs isOrdinary) _ (from s (charEnd s i)) t)
+    q ∙ sym (ap (afterRun (headIs isOrdinary)) q ∙ after-stop (headIs isOrdinary) _ (from s (charEnd s i)) t)
 
 pub skip-end : (s : List ℕ) (i : ℕ) → length s ≤ i → from s i ≡ afterRun (headIs isOrdinary) (from s i)
 unfolding afterRun
@@ -247,7 +247,7 @@ pub skip_none : (s : List ℕ) (i : ℕ) → isOrdinary (get_or s i 0) ≡ false
 skip_none s i e = go (ltb i (length s)) refl
   where
     go : (b : Bool) → ltb i (length s) ≡ b → from s i ≡ afterRun (headIs isOrdinary) (from s i)
-    go true q = skip_stop s i (ltb-true i (length s) q) e
+    go true q = skip-stop s i (ltb-true i (length s) q) e
     go false q = skip-end s i (ltb-false i (length s) q)
 
 pub skip_next : (s : List ℕ) (i : ℕ) → i < length s → isOrdinary (get_or s i 0) ≡ true → afterRun (headIs isOrdinary) (from s (i + 1)) ≡ afterRun (headIs isOrdinary) (from s i)
@@ -260,12 +260,12 @@ pub ruleset skip_run = (skip_none, skip_next, skip-end)
 -- from the place i to a later place from which the walk finds the same, or to what the walk refuses
 unfoldable pub Onward : List ℕ → (Text → Closing) → ℕ → Ended → Type 0
 Onward s walk i (ended.At c) = (i < c.at) × (c.at ≤ length s) × (walk (from s c.at) ≡ walk (from s i))
-Onward s walk i (ended.Refused j a) = ended.Refused j a ≡ ended_of (length s) (walk (from s i))
+Onward s walk i (ended.Refused j a) = ended.Refused j a ≡ endedOf (length s) (walk (from s i))
 
 module _ (s : List ℕ) (f : Text → Closing) (i : ℕ) where
   on-refused : (j : ℕ) → i ≤ length s → f (from s i) ≡ wrong j (from s i) → Onward s f i (ended.Refused j i)
-  unfolding Onward ended_of
-  on-refused j h e = sym (ap (ended_of (length s)) e ∙ ap (ended.Refused j) (place-from s i h))
+  unfolding Onward endedOf
+  on-refused j h e = sym (ap (endedOf (length s)) e ∙ ap (ended.Refused j) (place-from s i h))
 
   on-next : (test : Text → Bool) → Walk f test → i < length s → test (from s i) ≡ true → Onward s f i (ended.At (cursorAt (i + 1)))
   unfolding Onward
@@ -288,11 +288,11 @@ module _ (s : List ℕ) (f : Text → Closing) (i : ℕ) where
           rw z (on-next test w h (passes e))
 
   -- what a step's answer says
-  went_on : (r : Ended) (e : Cursor) → Onward s f i r → r ≡ ended.At e → (i < e.at) × (e.at ≤ length s) × (f (from s e.at) ≡ f (from s i))
+  went-on : (r : Ended) (e : Cursor) → Onward s f i r → r ≡ ended.At e → (i < e.at) × (e.at ≤ length s) × (f (from s e.at) ≡ f (from s i))
   unfolding Onward
-  went_on r e h q = rw q at h
+  went-on r e h q = rw q at h
 
-  went-wrong : (r : Ended) (j a : ℕ) → Onward s f i r → r ≡ ended.Refused j a → r ≡ ended_of (length s) (f (from s i))
+  went-wrong : (r : Ended) (j a : ℕ) → Onward s f i r → r ≡ ended.Refused j a → r ≡ endedOf (length s) (f (from s i))
   unfolding Onward
   went-wrong r j a h q = q ∙ (rw q at h)
 
@@ -346,51 +346,51 @@ unfolding closeSingle
 single-same true t = refl
 single-same false t = refl
 
-single-plain : (p : Bool) (c : Char) (u : Text) → isOrdinary c.code ≡ true → single_char p (c ∷ u) ≡ true
+single-plain : (p : Bool) (c : Char) (u : Text) → isOrdinary c.code ≡ true → singleChar p (c ∷ u) ≡ true
 unfolding begins
 single-plain true c u e = let h = ordinary-not c.code e in rw (h.0, h.1, h.2)
 single-plain false c u e = let h = ordinary-not c.code e in rw (h.0, h.1, h.3)
 
-pub singles : (p : Bool) → Walk (closeSingle p) (single_char p)
+pub singles : (p : Bool) → Walk (closeSingle p) (singleChar p)
 singles p = record { pass = λ c u e. single-same p (c ∷ u) ∙ strings.single-char p c u e ∙ sym (single-same p u); plain = single-plain p }
 
 -- the character at i is content, by its byte
 module _ (s : List ℕ) (i : ℕ) (h : i < length s) (no-quote : quote (from s i) ≡ false) where
-  single-test : (p : Bool) → isAny "\n" (from s i) ≡ false → (p ≡ true → dollarBrace (from s i) ≡ false) → (p ≡ false → backslash (from s i) ≡ false) → single_char p (from s i) ≡ true
+  single-test : (p : Bool) → isAny "\n" (from s i) ≡ false → (p ≡ true → dollarBrace (from s i) ≡ false) → (p ≡ false → backslash (from s i) ≡ false) → singleChar p (from s i) ≡ true
   single-test true n d b = rw (no-quote, n, d refl)
   single-test false n d b = rw (no-quote, n, b refl)
 
-  not_byte : (x : ℕ) → (get_or s i 0 ≡ x → ⊥) → (y : Bool) → eqb (get_or s i 0) x && y ≡ false
-  not_byte x n y = rw (ne_eqb (get_or s i 0) x n)
+  not-byte : (x : ℕ) → (get_or s i 0 ≡ x → ⊥) → (y : Bool) → eqb (get_or s i 0) x && y ≡ false
+  not-byte x n y = rw (ne_eqb (get_or s i 0) x n)
 
   single-newline : (p : Bool) → get_or s i 0 ≡ 0x0A → Onward s (closeSingle p) i (ended.Refused 8 i)
   single-newline p b =
-      on-refused s (closeSingle p) i 8 (omega arith) (single-same p (from s i) ∙ strings.single-newline p (from s i) (any-byte "\n" refl s i ∙ ap (one_of "\n") b))
+      on-refused s (closeSingle p) i 8 (omega arith) (single-same p (from s i) ∙ strings.single-newline p (from s i) (any-byte "\n" refl s i ∙ ap (oneOf "\n") b))
 
   single-dollar : get_or s i 0 ≡ 0x24 → (r : Ended) → r ≡ dollarOf (length s) (from s i) → Onward s (closeSingle true) i r
   single-dollar b =
-      on-dollar s (closeSingle true) i (single_char true) (singles true) h b
+      on-dollar s (closeSingle true) i (singleChar true) (singles true) h b
       (λ x. single-same true (from s i) ∙ strings.single-dollar (from s i) x)
-      (λ x. single-test true (any-byte "\n" refl s i ∙ ap (one_of "\n") b) (λ z. x) (λ z. clash (sym z)))
+      (λ x. single-test true (any-byte "\n" refl s i ∙ ap (oneOf "\n") b) (λ z. x) (λ z. clash (sym z)))
 
   single-lone : get_or s i 0 ≡ 0x24 → Onward s (closeSingle false) i (ended.At (cursorAt (i + 1)))
   single-lone b =
-      on-next s (closeSingle false) i (single_char false) (singles false) h
-      (single-test false (any-byte "\n" refl s i ∙ ap (one_of "\n") b) (λ z. clash z) (λ z. slash-byte s i ∙ ap (λ x. eqb x 0x5C) b))
+      on-next s (closeSingle false) i (singleChar false) (singles false) h
+      (single-test false (any-byte "\n" refl s i ∙ ap (oneOf "\n") b) (λ z. clash z) (λ z. slash-byte s i ∙ ap (λ x. eqb x 0x5C) b))
 
   single-slash : get_or s i 0 ≡ 0x5C → Onward s (closeSingle true) i (ended.At (cursorAt (i + 1)))
   single-slash b =
-      on-next s (closeSingle true) i (single_char true) (singles true) h
-      (single-test true (any-byte "\n" refl s i ∙ ap (one_of "\n") b) (λ z. brace-byte s i ∙ ap (λ x. eqb x 0x24 && eqb (get_or s (i + 1) 0) 0x7B) b) (λ z. clash (sym z)))
+      on-next s (closeSingle true) i (singleChar true) (singles true) h
+      (single-test true (any-byte "\n" refl s i ∙ ap (oneOf "\n") b) (λ z. brace-byte s i ∙ ap (λ x. eqb x 0x24 && eqb (get_or s (i + 1) 0) 0x7B) b) (λ z. clash (sym z)))
 
   single-other : (p : Bool) → (get_or s i 0 ≡ 0x0A → ⊥) → (get_or s i 0 ≡ 0x24 → ⊥) → (get_or s i 0 ≡ 0x5C → ⊥) → Onward s (closeSingle p) i (ended.At (cursorAt (i + 1)))
   single-other p a b d =
-      on-next s (closeSingle p) i (single_char p) (singles p) h
-      (single-test p (any-byte "\n" refl s i ∙ rw (ne_eqb (get_or s i 0) 10 a)) (λ z. brace-byte s i ∙ not_byte 0x24 b _) (λ z. slash-byte s i ∙ ne_eqb (get_or s i 0) 0x5C d))
+      on-next s (closeSingle p) i (singleChar p) (singles p) h
+      (single-test p (any-byte "\n" refl s i ∙ rw (ne_eqb (get_or s i 0) 10 a)) (λ z. brace-byte s i ∙ not-byte 0x24 b _) (λ z. slash-byte s i ∙ ne_eqb (get_or s i 0) 0x5C d))
 
   -- an escape of a plain string
   single-escape : get_or s i 0 ≡ 0x5C → (r : Ended) → r ≡ escapeOf (length s) (from s (i + 1)) → Onward s (closeSingle false) i r
-  unfolding escapeOf Onward closeSingle ended_of
+  unfolding escapeOf Onward closeSingle endedOf
   single-escape b r q = ⊎_elim valid invalid (slash-finds (from s i) back)
     where
       back : backslash (from s i) ≡ true
@@ -410,11 +410,11 @@ module _ (s : List ℕ) (i : ℕ) (h : i < length s) (no-quote : quote (from s i
       invalid : Bad (from s i) → Onward s (closeSingle false) i r
       invalid g =
           let f : afterSlash (from s (i + 1)) ≡ broken g.number g.rest = ap afterSlash (sym tail) ∙ g.found in
-          rw (q ∙ ap (escEnd (length s) (from s (i + 1))) f) (sym (ap (ended_of (length s)) (strings.single-slash (from s i) back g)))
+          rw (q ∙ ap (escEnd (length s) (from s (i + 1))) f) (sym (ap (endedOf (length s)) (strings.single-slash (from s i) back g)))
 
   -- a step passes what the walk passes, or refuses what the walk refuses
-  pub single_step : (p : Bool) (r : Ended) → r ≡ singleItem p s i → Onward s (closeSingle p) i r
-  single_step p r q = rw q (go p (eqb (get_or s i 0) 0x0A) (eqb (get_or s i 0) 0x24) (eqb (get_or s i 0) 0x5C) refl refl refl)
+  pub single-step : (p : Bool) (r : Ended) → r ≡ singleItem p s i → Onward s (closeSingle p) i r
+  single-step p r q = rw q (go p (eqb (get_or s i 0) 0x0A) (eqb (get_or s i 0) 0x24) (eqb (get_or s i 0) 0x5C) refl refl refl)
     where
       go : (p x y z : Bool) → eqb (get_or s i 0) 0x0A ≡ x → eqb (get_or s i 0) 0x24 ≡ y → eqb (get_or s i 0) 0x5C ≡ z → Onward s (closeSingle p) i (singleItem p s i)
       go p true y z l d k = let b = eqb-true (get_or s i 0) 0x0A l in rw (← single-item-newline p s i b) (single-newline p b)
@@ -478,12 +478,12 @@ module _ (s : List ℕ) (i : ℕ) (h : i < length s) (no-three : threeQuotes (fr
 -- The ordinary characters from the opening on, and those from a place on, are passed up to e.
 module _ (p : Bool) (s : List ℕ) (o e : ℕ) where
   pub single-skip : from s e ≡ afterRun (headIs isOrdinary) (from s o) → closeSingle p (from s e) ≡ closeSingle p (from s o)
-  single-skip x = walk-skip (closeSingle p) (single_char p) (singles p) s o e x
+  single-skip x = walk-skip (closeSingle p) (singleChar p) (singles p) s o e x
 
   pub single-begun : quote (from s o) ≡ true → from s e ≡ afterRun (headIs isOrdinary) (from s (o + 1)) → closeSingle p (from s e) ≡ closeSingle p (drop 1 (from s o))
   single-begun q x =
       let b = quote-in s o q in
-      walk-skip (closeSingle p) (single_char p) (singles p) s (o + 1) e x ∙ ap (closeSingle p) (sym (past s o b.0 (omega (arith, b.1))))
+      walk-skip (closeSingle p) (singleChar p) (singles p) s (o + 1) e x ∙ ap (closeSingle p) (sym (past s o b.0 (omega (arith, b.1))))
 
   pub triple-skip : from s e ≡ afterRun (headIs isOrdinary) (from s o) → closeTriple p (from s e) ≡ closeTriple p (from s o)
   triple-skip x = walk-skip (closeTriple p) (tripleChar p) (triples p) s o e x
@@ -494,41 +494,41 @@ module _ (p : Bool) (s : List ℕ) (o e : ℕ) where
 -- a step from the place i
 module _ (p : Bool) (s : List ℕ) (i : ℕ) (h : i < length s) where
   pub single-on : (e : Cursor) → (get_or s i 0 ≡ 0x22 → ⊥) → ended.At e ≡ singleItem p s i → (i < e.at) × (e.at ≤ length s) × (closeSingle p (from s e.at) ≡ closeSingle p (from s i))
-  single-on e n q = went_on _ _ _ _ _ (single_step s i h (no-quote s i n) p _ q) refl
+  single-on e n q = went-on _ _ _ _ _ (single-step s i h (no-quote s i n) p _ q) refl
 
-  pub single-wrong : (j a : ℕ) → (get_or s i 0 ≡ 0x22 → ⊥) → ended.Refused j a ≡ singleItem p s i → ended.Refused j a ≡ ended_of (length s) (closeSingle p (from s i))
-  single-wrong j a n q = went-wrong _ _ _ _ _ _ (single_step s i h (no-quote s i n) p _ q) refl
+  pub single-wrong : (j a : ℕ) → (get_or s i 0 ≡ 0x22 → ⊥) → ended.Refused j a ≡ singleItem p s i → ended.Refused j a ≡ endedOf (length s) (closeSingle p (from s i))
+  single-wrong j a n q = went-wrong _ _ _ _ _ _ (single-step s i h (no-quote s i n) p _ q) refl
 
   pub triple-on : (e : Cursor) → false ≡ threeQuotes (from s i) → ended.At e ≡ tripleItem p s i → (i < e.at) × (e.at ≤ length s) × (closeTriple p (from s e.at) ≡ closeTriple p (from s i))
-  triple-on e n q = went_on _ _ _ _ _ (triple-step s i h (sym n) p _ q) refl
+  triple-on e n q = went-on _ _ _ _ _ (triple-step s i h (sym n) p _ q) refl
 
-  pub triple-wrong : (j a : ℕ) → false ≡ threeQuotes (from s i) → ended.Refused j a ≡ tripleItem p s i → ended.Refused j a ≡ ended_of (length s) (closeTriple p (from s i))
+  pub triple-wrong : (j a : ℕ) → false ≡ threeQuotes (from s i) → ended.Refused j a ≡ tripleItem p s i → ended.Refused j a ≡ endedOf (length s) (closeTriple p (from s i))
   triple-wrong j a n q = went-wrong _ _ _ _ _ _ (triple-step s i h (sym n) p _ q) refl
 
 module _ (p : Bool) (s : List ℕ) (i : ℕ) where
-  pub single-closes : i < length s → get_or s i 0 ≡ 0x22 → ended.At (cursorAt (i + 1)) ≡ ended_of (length s) (closeSingle p (from s i))
-  unfolding ended_of
+  pub single-closes : i < length s → get_or s i 0 ≡ 0x22 → ended.At (cursorAt (i + 1)) ≡ endedOf (length s) (closeSingle p (from s i))
+  unfolding endedOf
   single-closes h b =
       let c = single-same p (from s i) ∙ strings.single-close p (from s i) (quote-byte s i ∙ eq-eqb (get_or s i 0) 0x22 b) ∙ ap closed (past s i h (omega arith)) in
-      sym (ap (ended_of (length s)) c ∙ ap (λ j. ended.At (cursorAt j)) (place-from s (i + 1) (omega arith)))
+      sym (ap (endedOf (length s)) c ∙ ap (λ j. ended.At (cursorAt j)) (place-from s (i + 1) (omega arith)))
 
-  pub single-open : i ≤ length s → length s ≤ i → ended.Refused 7 i ≡ ended_of (length s) (closeSingle p (from s i))
-  unfolding ended_of
+  pub single-open : i ≤ length s → length s ≤ i → ended.Refused 7 i ≡ endedOf (length s) (closeSingle p (from s i))
+  unfolding endedOf
   single-open h k =
       let c = ap (closeSingle p) (at-end s i k) ∙ single-same p [] ∙ strings.single-empty p in
-      sym (ap (ended_of (length s)) c ∙ ap (ended.Refused 7) (omega arith))
+      sym (ap (endedOf (length s)) c ∙ ap (ended.Refused 7) (omega arith))
 
-  pub triple-closes : (e : Cursor) → e.at ≤ length s → from s e.at ≡ afterRun quote (from s i) → threeQuotes (from s i) ≡ true → ended.At e ≡ ended_of (length s) (closeTriple p (from s i))
-  unfolding ended_of
+  pub triple-closes : (e : Cursor) → e.at ≤ length s → from s e.at ≡ afterRun quote (from s i) → threeQuotes (from s i) ≡ true → ended.At e ≡ endedOf (length s) (closeTriple p (from s i))
+  unfolding endedOf
   triple-closes e h q t =
       let c = strings.triple-close p (from s i) t ∙ ap closed (sym q) in
-      sym (ap (ended_of (length s)) c ∙ ap (λ j. ended.At (cursorAt j)) (place-from s e.at h))
+      sym (ap (endedOf (length s)) c ∙ ap (λ j. ended.At (cursorAt j)) (place-from s e.at h))
 
-  pub triple-open : i ≤ length s → length s ≤ i → ended.Refused 9 i ≡ ended_of (length s) (closeTriple p (from s i))
-  unfolding ended_of
+  pub triple-open : i ≤ length s → length s ≤ i → ended.Refused 9 i ≡ endedOf (length s) (closeTriple p (from s i))
+  unfolding endedOf
   triple-open h k =
       let c = ap (closeTriple p) (at-end s i k) ∙ strings.triple-empty p in
-      sym (ap (ended_of (length s)) c ∙ ap (ended.Refused 9) (omega arith))
+      sym (ap (endedOf (length s)) c ∙ ap (ended.Refused 9) (omega arith))
 
 pub ruleset single_walk = (single-begun, single-wrong, single-closes, single-open)
 
@@ -537,43 +537,43 @@ pub ruleset triple_walk = (three-in, triple-begun, triple-closes, triple-open)
 -- ---- the token
 
 no-at : {A : Type 0} (e : Cursor) (j a : ℕ) → ended.Refused j a ≡ ended.At e → A
-no-at e j a q = zero_one (cc)
+no-at e j a q = zero-one (cc)
 
 module _ (n : ℕ) (t : Text) where
-  pub plain-refused : (j a : ℕ) → ended.Refused j a ≡ ended_of n (closeString false t) → piece.Refused j a ≡ piece_of n (scanString n t)
-  unfolding ended_of piece_of scanString
+  pub plain-refused : (j a : ℕ) → ended.Refused j a ≡ endedOf n (closeString false t) → piece.Refused j a ≡ pieceOf n (scanString n t)
+  unfolding endedOf pieceOf scanString
   plain-refused j a q = go (closeString false t) q
     where
-      go : (w : Closing) → ended.Refused j a ≡ ended_of n w → piece.Refused j a ≡ piece_of n (plain_of n t w)
+      go : (w : Closing) → ended.Refused j a ≡ endedOf n w → piece.Refused j a ≡ pieceOf n (plainOf n t w)
       go (closed r) q = no-at _ j a q
       go (wrong k x) q = cc
 
-  pub plain-ended : (e : Cursor) (k : TokenKind) (r : Text) → ended.At e ≡ ended_of n (closeString false t) → closeString false t ≡ closed r → k ≡ plainContent n t r
-      → piece.Token k e ≡ piece_of n (scanString n t)
-  unfolding ended_of piece_of scanString
+  pub plain-ended : (e : Cursor) (k : TokenKind) (r : Text) → ended.At e ≡ endedOf n (closeString false t) → closeString false t ≡ closed r → k ≡ plainContent n t r
+      → piece.Token k e ≡ pieceOf n (scanString n t)
+  unfolding endedOf pieceOf scanString
   plain-ended e k r q c p =
-      let x : e ≡ cursorAt (place n r) = let z : ended.At e ≡ ended.At (cursorAt (place n r)) = q ∙ ap (ended_of n) c in cc in
+      let x : e ≡ cursorAt (place n r) = let z : ended.At e ≡ ended.At (cursorAt (place n r)) = q ∙ ap (endedOf n) c in cc in
       sym (rw (c, p) (ap (piece.Token (plainContent n t r)) (sym x)))
 
-  pub prefixed-refused : (o : Text) (j a : ℕ) → ended.Refused j a ≡ ended_of n (closeString true o) → piece.Refused j a ≡ piece_of n (prefixedOf n t (closeString true o))
-  unfolding ended_of piece_of
+  pub prefixed-refused : (o : Text) (j a : ℕ) → ended.Refused j a ≡ endedOf n (closeString true o) → piece.Refused j a ≡ pieceOf n (prefixedOf n t (closeString true o))
+  unfolding endedOf pieceOf
   prefixed-refused o j a q = go (closeString true o) q
     where
-      go : (w : Closing) → ended.Refused j a ≡ ended_of n w → piece.Refused j a ≡ piece_of n (prefixedOf n t w)
+      go : (w : Closing) → ended.Refused j a ≡ endedOf n w → piece.Refused j a ≡ pieceOf n (prefixedOf n t w)
       go (closed r) q = no-at _ j a q
       go (wrong k x) q = cc
 
-  prefixed-ended : (o : Text) (e : Cursor) (i : ℕ) → place n t ≡ i → ended.At e ≡ ended_of n (closeString true o)
-      → piece.Token (tk.Str i e.at) e ≡ piece_of n (prefixedOf n t (closeString true o))
-  unfolding ended_of piece_of
+  prefixed-ended : (o : Text) (e : Cursor) (i : ℕ) → place n t ≡ i → ended.At e ≡ endedOf n (closeString true o)
+      → piece.Token (tk.Str i e.at) e ≡ pieceOf n (prefixedOf n t (closeString true o))
+  unfolding endedOf pieceOf
   prefixed-ended o e i p q = go (closeString true o) q
     where
-      go : (w : Closing) → ended.At e ≡ ended_of n w → piece.Token (tk.Str i e.at) e ≡ piece_of n (prefixedOf n t w)
+      go : (w : Closing) → ended.At e ≡ endedOf n w → piece.Token (tk.Str i e.at) e ≡ pieceOf n (prefixedOf n t w)
       go (closed r) q = let x : e ≡ cursorAt (place n r) = cc in rw (x, p)
       go (wrong k x) q = no-at e k _ (sym q)
 
-pub prefixed-placed : (s : List ℕ) (i : ℕ) (o : Text) (e : Cursor) → i ≤ length s → ended.At e ≡ ended_of (length s) (closeString true o)
-    → piece.Token (tk.Str i e.at) e ≡ piece_of (length s) (prefixedOf (length s) (from s i) (closeString true o))
+pub prefixed-placed : (s : List ℕ) (i : ℕ) (o : Text) (e : Cursor) → i ≤ length s → ended.At e ≡ endedOf (length s) (closeString true o)
+    → piece.Token (tk.Str i e.at) e ≡ pieceOf (length s) (prefixedOf (length s) (from s i) (closeString true o))
 prefixed-placed s i o e h q = prefixed-ended (length s) (from s i) o e i (place-from s i h) q
 
 pub ruleset prefixed_string = (prefixed-refused, prefixed-placed)
@@ -583,7 +583,7 @@ pub ruleset prefixed_string = (prefixed-refused, prefixed-placed)
 quote-no-comment : (s : Text) → quote s ≡ true → opensComment s ≡ true → isComment (Kind.token TokenType.str) ≡ true
 unfolding begins
 quote-no-comment [] e f = clash e
-quote-no-comment (c ∷ s) e f = let z = eqb-true c.code 34 (and_both (eqb c.code 34) true e).0 in clash (rw z at f)
+quote-no-comment (c ∷ s) e f = let z = eqb-true c.code 34 (and-both (eqb c.code 34) true e).0 in clash (rw z at f)
 
 pub plain-strict : (t r : Text) → quote t ≡ true → closeString false t ≡ closed r → Strict r t
 unfolding Stands HasShape TokenShape
@@ -596,17 +596,17 @@ plain-strict t r q c = ⊎_elim ends refused (strings.body-finds false t q)
         rw x (stands-strict (Kind.token TokenType.str) t w.rest (inl w.body, quote-no-comment t q))
 
     refused : strings.Wrong false t → Strict r t
-    refused w = absurd (let e : wrong w.number w.rest ≡ closed r = sym w.found ∙ c in zero_one (cc))
+    refused w = absurd (let e : wrong w.number w.rest ≡ closed r = sym w.found ∙ c in zero-one (cc))
 
 pub plain-suffix : (t r : Text) → quote t ≡ true → closeString false t ≡ closed r → Suffix r t
 plain-suffix t r q c = (plain-strict t r q c).0
 
-pub plain_end : (s : List ℕ) (i : ℕ) (e : Cursor) → i ≤ length s → quote (from s i) ≡ true → ended.At e ≡ ended_of (length s) (closeString false (from s i))
+pub plain-end : (s : List ℕ) (i : ℕ) (e : Cursor) → i ≤ length s → quote (from s i) ≡ true → ended.At e ≡ endedOf (length s) (closeString false (from s i))
     → (i ≤ e.at) × (e.at ≤ length s) × (quote (from s i) ≡ true) × (closeString false (from s i) ≡ closed (from s e.at))
-unfolding ended_of
-plain_end s i e h q a = go (closeString false (from s i)) refl a
+unfolding endedOf
+plain-end s i e h q a = go (closeString false (from s i)) refl a
   where
-    go : (w : Closing) → closeString false (from s i) ≡ w → ended.At e ≡ ended_of (length s) w
+    go : (w : Closing) → closeString false (from s i) ≡ w → ended.At e ≡ endedOf (length s) w
         → (i ≤ e.at) × (e.at ≤ length s) × (quote (from s i) ≡ true) × (closeString false (from s i) ≡ closed (from s e.at))
     go (closed r) c b =
         let x = plain-suffix (from s i) r q c in

@@ -11,9 +11,9 @@ use native.Mathlib.Omega.{arith}
 use borrow.Author.Tests.{eqb-true, eqb-false, ne_eqb, eq-eqb, le-leb, leb-true, ltb-true, ltb-false, lt-ltb, le-ltb}
 use Rattle.chars.specs.paper.Text.{Char, Text, from, place}
 use Rattle.chars.specs.code.Text.{charEnd}
-use Rattle.chars.proofs.Bools.{and_both}
+use Rattle.chars.proofs.Bools.{and-both}
 use Rattle.token.specs.paper.Tests.{begins, quote}
-use Rattle.token.specs.paper.Shapes.{text_of}
+use Rattle.token.specs.paper.Shapes.{textOf}
 use Rattle.token.specs.computed.Answer.{closed, closeString, strip, plainContent}
 use Rattle.token.specs.code.String.{lastOff, eightsOff, spanAt, eightMore, eightLess, eightsTaken}
 use Rattle.token.specs.declared.string.Span.{Span}
@@ -23,9 +23,9 @@ use Rattle.chars.specs.promises.Texts.{Suffix, ScriptText}
 use Rattle.chars.proofs.theorems.Promises.{text-laws, run-laws}
 use Rattle.token.specs.declared.kinds.TokenKind.TheVariants as tk
 use Rattle.token.proofs.cursor.Bytes.{past}
-use Rattle.token.proofs.string.Escapes.{same_place}
+use Rattle.token.proofs.string.Escapes.{same-place}
 use Rattle.token.proofs.string.Laws.{quote-byte, plain-strict}
-open text-laws use {text_at, text-drop, at-char, at-end, next-on, place-from, ascii-next, wide-tail}
+open text-laws use {text-at, text-drop, at-char, at-end, next-on, place-from, ascii-next, wide-tail}
 open run-laws use {eight-all}
 
 -- ---- one turn of the definition
@@ -56,7 +56,7 @@ module _ (k : ℕ) (c : Char) (t : Text) (e : ℕ) where
 
 module _ (s : List ℕ) (b : ℕ) (within : b ≤ length s) (d : Char) (stands : ScriptText s (d ∷ from s b)) where
   here : from s d.at ≡ d ∷ from s b
-  here = (text_at s d (from s b) stands).0
+  here = (text-at s d (from s b) stands).0
 
   starts : d.at < length s
   starts = go (ltb d.at (length s)) refl
@@ -67,17 +67,17 @@ module _ (s : List ℕ) (b : ℕ) (within : b ≤ length s) (d : Char) (stands :
           absurd (let z : ◌≡◌ {A = ℕ} 0 (suc (length (from s b))) = ap length (sym (at-end s d.at (ltb-false d.at (length s) e)) ∙ here) in omega arith)
 
   ends : charEnd s d.at ≡ b
-  ends = same_place s b (charEnd s d.at) within (next-on s d.at starts).1 (ap (drop 1) (sym (at-char s d.at starts) ∙ here))
+  ends = same-place s b (charEnd s d.at) within (next-on s d.at starts).1 (ap (drop 1) (sym (at-char s d.at starts) ∙ here))
 
-  first_byte : quote (d ∷ []) ≡ eqb (get_or s d.at 0) 0x22
-  first_byte = quote-first d [] (from s b) ∙ ap quote (sym here) ∙ quote-byte s d.at
+  first-byte : quote (d ∷ []) ≡ eqb (get_or s d.at 0) 0x22
+  first-byte = quote-first d [] (from s b) ∙ ap quote (sym here) ∙ quote-byte s d.at
 
   -- a quote is its last byte
-  last_one : get_or s d.at 0 ≡ 0x22 → d.at ≡ b - 1
-  last_one q = let n = ascii-next s d.at starts (omega arith) in let e = ends in omega arith
+  last-one : get_or s d.at 0 ≡ 0x22 → d.at ≡ b - 1
+  last-one q = let n = ascii-next s d.at starts (omega arith) in let e = ends in omega arith
 
-  last_byte : quote (d ∷ []) ≡ eqb (get_or s (b - 1) 0) 0x22
-  last_byte = first_byte ∙ go (eqb (get_or s d.at 0) 0x22) refl
+  last-byte : quote (d ∷ []) ≡ eqb (get_or s (b - 1) 0) 0x22
+  last-byte = first-byte ∙ go (eqb (get_or s d.at 0) 0x22) refl
     where
       off : (x : Bool) → ltb d.at (b - 1) ≡ x → (get_or s d.at 0 ≡ 0x22 → ⊥) → get_or s (b - 1) 0 ≡ 0x22 → ⊥
       off true e n q =
@@ -92,11 +92,11 @@ module _ (s : List ℕ) (b : ℕ) (within : b ≤ length s) (d : Char) (stands :
           n (ap (λ j. get_or s j 0) z ∙ q)
 
       go : (x : Bool) → eqb (get_or s d.at 0) 0x22 ≡ x → eqb (get_or s d.at 0) 0x22 ≡ eqb (get_or s (b - 1) 0) 0x22
-      go true e = ap (λ j. eqb (get_or s j 0) 0x22) (last_one (eqb-true (get_or s d.at 0) 0x22 e))
+      go true e = ap (λ j. eqb (get_or s j 0) 0x22) (last-one (eqb-true (get_or s d.at 0) 0x22 e))
       go false e = e ∙ sym (ne_eqb (get_or s (b - 1) 0) 0x22 (off (ltb d.at (b - 1)) refl (eqb-false (get_or s d.at 0) 0x22 e)))
 
   last-at : quote (d ∷ []) ≡ true → d.at ≡ b - 1
-  last-at q = last_one (eqb-true (get_or s d.at 0) 0x22 (sym first_byte ∙ q))
+  last-at q = last-one (eqb-true (get_or s d.at 0) 0x22 (sym first-byte ∙ q))
 
 -- ---- the loop
 
@@ -114,7 +114,7 @@ pub record Left (s : List ℕ) (start end a b : ℕ) : Type 0 where
 pub left-all : (s : List ℕ) (start end : ℕ) → start ≤ end → end ≤ length s → Suffix (from s end) (from s start) → Left s start end start end
 unfolding plainContent
 left-all s start end h k x =
-    let t = text_of (from s start) (from s end) in
+    let t = textOf (from s start) (from s end) in
     record {
       ordered = h;
       within = k;
@@ -134,8 +134,8 @@ longer : {A : Type 0} (c : Char) (v r : Text) → r ≡ c ∷ (v ++ r) → A
 longer c v r e = absurd (let z : length r ≡ suc (length (v ++ r)) = ap length e in let y = length-append v r in omega arith)
 
 module _ (s : List ℕ) (start end a b : ℕ) where
-  pub left_end : Left s start end a b → b ≤ a → tk.Str a b ≡ plainContent (length s) (from s start) (from s end)
-  left_end h k = go h.text h.split h.same
+  pub left-end : Left s start end a b → b ≤ a → tk.Str a b ≡ plainContent (length s) (from s start) (from s end)
+  left-end h k = go h.text h.split h.same
     where
       z : a ≡ b
       z = let o = h.ordered in omega arith
@@ -153,7 +153,7 @@ module _ (s : List ℕ) (start end a b : ℕ) where
 
       go : (t : Text) → from s a ≡ t ++ from s b → strip (length t) (t ++ h.behind) (reverse_aux t h.ahead) b ≡ plainContent (length s) (from s start) (from s end)
           → tk.Str a b ≡ plainContent (length s) (from s start) (from s end)
-      go [] x y = absurd (let z = same_place s b a h.within (omega (arith, inner)) x in omega arith)
+      go [] x y = absurd (let z = same-place s b a h.within (omega (arith, inner)) x in omega arith)
       go (c ∷ v) x y =
           let q = quote-first c (v ++ h.behind) (v ++ from s b) ∙ ap quote (sym x) ∙ quote-byte s a ∙ ne_eqb (get_or s a 0) 0x22 n in
           let p : c.at ≡ a = ap (place (length s)) (sym x) ∙ place-from s a (omega (arith, inner)) in
@@ -203,7 +203,7 @@ module _ (s : List ℕ) (start end a b : ℕ) (h : Left s start end a b) (k : a 
   left-last : (c : Char) → from s a ≡ c ∷ from s b → Same (c ∷ []) → LeftBetween (a + 1) (lastOff s (a + 1) b)
   left-last c x y =
       let t = tail c [] x in
-      let z : a + 1 ≡ b = same_place s b (a + 1) h.within (omega (arith, inner)) t in
+      let z : a + 1 ≡ b = same-place s b (a + 1) h.within (omega (arith, inner)) t in
       rw (← off-none s (a + 1) b (omega arith))
       (record {
         ordered = omega arith;
@@ -244,7 +244,7 @@ module _ (s : List ℕ) (start end a b : ℕ) (h : Left s start end a b) (k : a 
     left-two : quote (d ∷ []) ≡ true → LeftBetween (a + 1) (lastOff s (a + 1) b)
     left-two q =
         let at = last-at s b h.within d stands q in
-        let e = eqb-true (get_or s (b - 1) 0) 0x22 (sym (last_byte s b h.within d stands) ∙ q) in
+        let e = eqb-true (get_or s (b - 1) 0) 0x22 (sym (last-byte s b h.within d stands) ∙ q) in
         let n : suc (length v) - 2 ≡ length w = omega (arith, size) in
         let f = further in
         let g : strip (length w) (w ++ (d ∷ h.behind)) (reverse_aux w (c ∷ h.ahead)) d.at ≡ strip (suc (length v)) (c ∷ (v ++ h.behind)) (reverse_aux v (c ∷ h.ahead)) b =
@@ -260,9 +260,9 @@ module _ (s : List ℕ) (start end a b : ℕ) (h : Left s start end a b) (k : a 
           same = ap (strip (length w) (w ++ (d ∷ h.behind)) (reverse_aux w (c ∷ h.ahead))) (sym at) ∙ g ∙ y;
         })
 
-    left_one : quote (d ∷ []) ≡ false → LeftBetween (a + 1) (lastOff s (a + 1) b)
-    left_one q =
-        let e = eqb-false (get_or s (b - 1) 0) 0x22 (sym (last_byte s b h.within d stands) ∙ q) in
+    left-one : quote (d ∷ []) ≡ false → LeftBetween (a + 1) (lastOff s (a + 1) b)
+    left-one q =
+        let e = eqb-false (get_or s (b - 1) 0) 0x22 (sym (last-byte s b h.within d stands) ∙ q) in
         let n : suc (length v) - 1 ≡ length v = omega arith in
         let f = further in
         let back : quote (reverse_aux v (c ∷ h.ahead)) ≡ false = ap quote (turned (c ∷ h.ahead)) ∙ quote-first d _ [] ∙ q in
@@ -283,13 +283,13 @@ module _ (s : List ℕ) (start end a b : ℕ) (h : Left s start end a b) (k : a 
   left-next = go h.text h.split h.same
     where
       go : (t : Text) → from s a ≡ t ++ from s b → Same t → LeftBetween (a + 1) (lastOff s (a + 1) b)
-      go [] x y = absurd (let z = same_place s b a h.within (omega (arith, inner)) x in omega arith)
+      go [] x y = absurd (let z = same-place s b a h.within (omega (arith, inner)) x in omega arith)
       go (c ∷ []) x y = left-last c x y
       go (c ∷ u ∷ v) x y = let n = snoc u v in by (quote (n.1 ∷ [])) refl
         where
           by : (q : Bool) → quote ((snoc u v).1 ∷ []) ≡ q → LeftBetween (a + 1) (lastOff s (a + 1) b)
           by true q = let n = snoc u v in left-two c n.0 n.1 (u ∷ v) n.2 x y q
-          by false q = let n = snoc u v in left_one c n.0 n.1 (u ∷ v) n.2 x y q
+          by false q = let n = snoc u v in left-one c n.0 n.1 (u ∷ v) n.2 x y q
 
 -- one turn is all where no second quote stands
 pub left-single : (s : List ℕ) (start end a b : ℕ) → Left s start end a b → a < b → get_or s a 0 ≡ 0x22 → (get_or s (a + 1) 0 ≡ 0x22 → ⊥)
@@ -301,7 +301,7 @@ left-single s start end a b h k byte n = go (ltb (a + 1) (lastOff s (a + 1) b)) 
 
     go : (x : Bool) → ltb (a + 1) (lastOff s (a + 1) b) ≡ x → tk.Str (a + 1) (lastOff s (a + 1) b) ≡ plainContent (length s) (from s start) (from s end)
     go true e = left-stop s start end (a + 1) (lastOff s (a + 1) b) rest (ltb-true (a + 1) (lastOff s (a + 1) b) e) n
-    go false e = left_end s start end (a + 1) (lastOff s (a + 1) b) rest (ltb-false (a + 1) (lastOff s (a + 1) b) e)
+    go false e = left-end s start end (a + 1) (lastOff s (a + 1) b) rest (ltb-false (a + 1) (lastOff s (a + 1) b) e)
 
 -- a plain string, by its first byte and its ends
 module _ (s : List ℕ) (start end : ℕ) (q : quote (from s start) ≡ true) (c : closeString false (from s start) ≡ closed (from s end)) where
@@ -333,14 +333,14 @@ pub record Ends (s : List ℕ) (n a b : ℕ) : Type 0 where
 
 module _ (s : List ℕ) (start end n a b : ℕ) where
   -- one turn that takes a quote off both ends
-  left_both : Ends s (suc n) a b → Left s start end a b → Left s start end (a + 1) (b - 1)
-  left_both h l =
+  left-both : Ends s (suc n) a b → Left s start end a b → Left s start end (a + 1) (b - 1)
+  left-both h l =
       let k = h.apart in
       let o = off-quote s (a + 1) b (omega arith) (h.last (b - 1) (omega arith) (omega arith)) in
       rw o (left-next s start end a b l (omega arith) (h.first a (omega arith) (omega arith)))
 
-  ends_next : Ends s (suc n) a b → Ends s n (a + 1) (b - 1)
-  ends_next h =
+  ends-next : Ends s (suc n) a b → Ends s n (a + 1) (b - 1)
+  ends-next h =
       let k = h.apart in
       record {
         apart = omega arith;
@@ -358,7 +358,7 @@ module _ (s : List ℕ) (start end n a b : ℕ) where
 pub left-many : (s : List ℕ) (start end n a b : ℕ) → Ends s n a b → Left s start end a b → Left s start end (a + n) (b - n)
 left-many s start end zero a b h l = rw (add-zero a, sub-zero b) l
 left-many s start end (suc n) a b h l =
-    let more = left-many s start end n (a + 1) (b - 1) (ends_next s start end n a b h) (left_both s start end n a b h l) in
+    let more = left-many s start end n (a + 1) (b - 1) (ends-next s start end n a b h) (left-both s start end n a b h l) in
     left-moved s start end n a b more
 
 module _ (s : List ℕ) where
@@ -368,8 +368,8 @@ module _ (s : List ℕ) where
   eights-ends : (a b : ℕ) → eightsOff s a b ≡ true → Ends s 8 a b
   unfolding eightsOff
   eights-ends a b e =
-      let f = and_both (leb (a + 16) b) (eightIn 0x22 0x22 s a && eightIn 0x22 0x22 s (b - 8)) e in
-      let g = and_both (eightIn 0x22 0x22 s a) (eightIn 0x22 0x22 s (b - 8)) f.1 in
+      let f = and-both (leb (a + 16) b) (eightIn 0x22 0x22 s a && eightIn 0x22 0x22 s (b - 8)) e in
+      let g = and-both (eightIn 0x22 0x22 s a) (eightIn 0x22 0x22 s (b - 8)) f.1 in
       let h = leb-true (a + 16) b f.0 in
       record {
         apart = omega arith;

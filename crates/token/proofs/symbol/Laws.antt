@@ -7,59 +7,59 @@ use lib.ListN.{length, drop, get_or}
 use lib.Dec.{eqb, ltb}
 use native.Mathlib.Omega.{arith}
 use borrow.Author.Tests.{ltb-true, ltb-false, leb-false, eqb-true, eqb-false, eq-eqb, ne_eqb, not-true}
-use Rattle.chars.specs.paper.Quoted.{between, one_of}
+use Rattle.chars.specs.paper.Quoted.{between, oneOf}
 use Rattle.chars.specs.paper.Classes.{isIdStart, isOpSign, isPrintable}
 use Rattle.chars.specs.paper.Text.{from}
 use Rattle.chars.specs.computed.Runs.{afterRun}
-use Rattle.chars.proofs.Bools.{clash, and_both, or-neither}
+use Rattle.chars.proofs.Bools.{clash, and-both, or-neither}
 use Rattle.chars.specs.promises.Codes.{alike}
 use Rattle.chars.proofs.theorems.Promises.{code_laws, class-laws, text-laws}
 use Rattle.token.specs.paper.Tests.{begins, opSign, freeSign, opensComment, plainChar}
 use Rattle.token.specs.computed.Answer.{Esc, unbroken, broken, afterSlash, afterIdent, tickNext, escapedOf, scan, scanCharSym}
 use Rattle.token.specs.code.Cursor.{cursorAt}
-use Rattle.token.specs.code.Piece.{piece_of}
-use Rattle.token.specs.code.Charsym.{escapedChar, symbol_of}
-use Rattle.token.specs.code.ByteClass.{class_of, class_at, wideClass, upToBlank, startsWord, isSign}
+use Rattle.token.specs.code.Piece.{pieceOf}
+use Rattle.token.specs.code.Charsym.{escapedChar, symbolOf}
+use Rattle.token.specs.code.ByteClass.{classOf, classAt, wideClass, upToBlank, startsWord, isSign}
 use Rattle.token.specs.code.Names.{nameEnd, operatorFrom}
 use Rattle.token.specs.code.Quoted.{escapeEnd}
-use Rattle.token.specs.code.Symbol.{plain_byte, endsChar, escapedCharEnd, operatorSymbolEnd, nameSymbolEnd, semiEnd, charSymBy, charSymEnd}
+use Rattle.token.specs.code.Symbol.{plainByte, endsChar, escapedCharEnd, operatorSymbolEnd, nameSymbolEnd, semiEnd, charSymBy, charSymEnd}
 use Rattle.token.specs.declared.kinds.TokenKind.TheVariants as tk
 use Rattle.token.specs.declared.piece.Piece.TheVariants as piece
-use Rattle.token.proofs.Classes.{no_sign, no_start, sign-byte}
+use Rattle.token.proofs.Classes.{no-sign, no-start, sign-byte}
 use Rattle.token.proofs.byte_class.Laws.{class-start, class-sign, class-wide}
-use Rattle.token.proofs.cursor.Bytes.{inside, past, one_byte}
+use Rattle.token.proofs.cursor.Bytes.{inside, past, one-byte}
 use Rattle.token.proofs.cursor.Laws.{Here}
 use Rattle.token.proofs.names.Bytes.{class-inside, moved, name-stops, operator-stops}
 use Rattle.token.proofs.names.Laws.{name-rest, free-rest}
-use Rattle.token.proofs.quoted.Laws.{EscapeEnds, escape_end}
-use Rattle.token.proofs.string.Escapes.{same_place}
-use Rattle.token.proofs.charsym.Laws.{sym-token, tick-byte, past-tick, tick-closes, escape-is, char-piece, symbol-is, word-is, run_is, semi-is}
+use Rattle.token.proofs.quoted.Laws.{EscapeEnds, escape-end}
+use Rattle.token.proofs.string.Escapes.{same-place}
+use Rattle.token.proofs.charsym.Laws.{sym-token, tick-byte, past-tick, tick-closes, escape-is, char-piece, symbol-is, word-is, run-is, semi-is}
 use Rattle.token.proofs.lexer.Laws.{ascii-head, charsym-at}
-open code_laws use {agree, carry-span, in_between}
+open code_laws use {agree, carry-span, in-between}
 open class-laws use {sign-no-start}
-open text-laws use {at_ascii, at-end, run-stays}
+open text-laws use {at-ascii, at-end, run-stays}
 
 -- ---- a printable of ASCII
 
 module _ (b : ℕ) (l : b < 0x80) where
-  pub plain-print : plain_byte b ≡ isPrintable b && not (eqb b 0x5C)
+  pub plain-print : plainByte b ≡ isPrintable b && not (eqb b 0x5C)
   unfolding isPrintable
-  plain-print = agree _ _ (carry-span (λ b. alike (plain_byte b) (isPrintable b && not (eqb b 0x5C))) 0 128 b refl (omega arith) l)
+  plain-print = agree _ _ (carry-span (λ b. alike (plainByte b) (isPrintable b && not (eqb b 0x5C))) 0 128 b refl (omega arith) l)
 
-  print-plain : eqb b 0x5C ≡ false → isPrintable b ≡ plain_byte b
+  print-plain : eqb b 0x5C ≡ false → isPrintable b ≡ plainByte b
   print-plain e = sym (plain-print ∙ ap (λ z. isPrintable b && not z) e ∙ and-true (isPrintable b))
 
 -- To be read: of the text at a place where an ASCII character stands it is the test that document 01 has.
-pub plain-char : (s : List ℕ) (i : ℕ) → i < length s → get_or s i 0 < 0x80 → plainChar (from s i) ≡ plain_byte (get_or s i 0)
+pub plain-char : (s : List ℕ) (i : ℕ) → i < length s → get_or s i 0 < 0x80 → plainChar (from s i) ≡ plainByte (get_or s i 0)
 unfolding begins
 plain-char s i h l =
     ap (λ z. z && not (begins "\\" (from s i))) (ascii-head s i h isPrintable l)
-    ∙ ap (λ z. isPrintable (get_or s i 0) && not z) (one_byte 0x5C (omega arith) (omega arith) s i)
+    ∙ ap (λ z. isPrintable (get_or s i 0) && not z) (one-byte 0x5C (omega arith) (omega arith) s i)
     ∙ sym (plain-print (get_or s i 0) l)
 
 -- ---- no operator sign stands at a place, nor a character past ASCII
 
-no-sign-at : (s : List ℕ) (i : ℕ) → isSign (class_at s i) ≡ false → eqb (class_at s i) wideClass ≡ false → opSign (from s i) ≡ false
+no-sign-at : (s : List ℕ) (i : ℕ) → isSign (classAt s i) ≡ false → eqb (classAt s i) wideClass ≡ false → opSign (from s i) ≡ false
 no-sign-at s i e w = go (ltb i (length s)) refl
   where
     go : (b : Bool) → ltb i (length s) ≡ b → opSign (from s i) ≡ false
@@ -77,13 +77,13 @@ no-comment s i e h k r n = go (opensComment (from s i)) refl
     go false q = refl
     go true q =
         let f : freeSign (from s i) ≡ false = ap (λ z. opSign (from s i) && not z) q ∙ and-false (opSign (from s i)) in
-        absurd (n (same_place s i e h k (r ∙ run-stays freeSign (from s i) f)))
+        absurd (n (same-place s i e h k (r ∙ run-stays freeSign (from s i) f)))
 
 -- ---- the five kinds
 
 -- the token that ends at e is what the scanner finds from the `'` on
 abbrev Ends : List ℕ → ℕ → ℕ → Type 0
-Ends s at e = (at < e) × (e ≤ length s) × (piece.Token tk.CharSym (cursorAt e) ≡ piece_of (length s) (scanCharSym (from s at)))
+Ends s at e = (at < e) × (e ≤ length s) × (piece.Token tk.CharSym (cursorAt e) ≡ pieceOf (length s) (scanCharSym (from s at)))
 
 abbrev Good : List ℕ → ℕ → ℕ → Type 0
 Good s at e = (e ≡ at → ⊥) → Ends s at e
@@ -106,7 +106,7 @@ module _ (s : List ℕ) (at : ℕ) (h : at < length s) (q : get_or s at 0 ≡ 0x
   behind i l =
       let z : at + 1 + 1 ≡ at + 2 = omega arith in
       record {
-        text = at_ascii s (at + 1) i l ∙ ap (λ j. record { code = get_or s (at + 1) 0; at = at + 1 } ∷ from s j) z;
+        text = at-ascii s (at + 1) i l ∙ ap (λ j. record { code = get_or s (at + 1) 0; at = at + 1 } ∷ from s j) z;
         in-script = i;
         on = omega arith;
         within = omega arith;
@@ -115,9 +115,9 @@ module _ (s : List ℕ) (at : ℕ) (h : at < length s) (q : get_or s at 0 ≡ 0x
   -- a character that stands for itself
   plain-ends : endsChar s at byte ≡ true → Ends s at (at + 3)
   plain-ends e =
-      let k = and_both (eqb (get_or s (at + 2) 0) 0x27) (plain_byte byte) e in
-      let p = and_both (between 0x20 0x7E byte) (not (eqb byte 0x5C)) k.1 in
-      let l = in_between 0x20 0x7E byte p.0 in
+      let k = and-both (eqb (get_or s (at + 2) 0) 0x27) (plainByte byte) e in
+      let p = and-both (between 0x20 0x7E byte) (not (eqb byte 0x5C)) k.1 in
+      let l = in-between 0x20 0x7E byte p.0 in
       let f = not-true (eqb byte 0x5C) p.1 in
       let i = inside s (at + 1) (omega (arith, l.0)) in
       let b : byte < 0x80 = omega (arith, l.1) in
@@ -134,7 +134,7 @@ module _ (s : List ℕ) (at : ℕ) (h : at < length s) (q : get_or s at 0 ≡ 0x
   escaped-ends : byte ≡ 0x5C → Good s at (escapedCharEnd s at)
   unfolding escapedCharEnd
   escaped-ends w =
-      pick (Good s at) (not (eqb end (at + 1)) && eqb (get_or s end 0) 0x27) (end + 1) at (λ o n. closes (and_both (not (eqb end (at + 1))) (eqb (get_or s end 0) 0x27) o))
+      pick (Good s at) (not (eqb end (at + 1)) && eqb (get_or s end 0) 0x27) (end + 1) at (λ o n. closes (and-both (not (eqb end (at + 1))) (eqb (get_or s end 0) 0x27) o))
       (λ o. declines s at)
     where
       i : at + 1 < length s
@@ -152,54 +152,54 @@ module _ (s : List ℕ) (at : ℕ) (h : at < length s) (q : get_or s at 0 ≡ 0x
 
       closes : (not (eqb end (at + 1)) ≡ true) × (eqb (get_or s end 0) 0x27 ≡ true) → Ends s at (end + 1)
       closes k =
-          let g = go (afterSlash (from s (at + 1 + 1))) (escape_end s (at + 1)) (eqb-false end (at + 1) (not-true (eqb end (at + 1)) k.0)) in
+          let g = go (afterSlash (from s (at + 1 + 1))) (escape-end s (at + 1)) (eqb-false end (at + 1) (not-true (eqb end (at + 1)) k.0)) in
           let t = past-tick s end k.1 in
           let f : scanCharSym (from s at) ≡ tickNext (from s end) = escape ∙ ap (λ j. escapedChar (from s j)) (sym two) ∙ g.1 in
-          (omega (arith, g.0), t.0, tick-closes s end k.1 ∙ ap (piece_of (length s)) (sym f))
+          (omega (arith, g.0), t.0, tick-closes s end k.1 ∙ ap (pieceOf (length s)) (sym f))
 
   module _ (z : endsChar s at byte ≡ false) where
     -- a symbol
-    no_char : at + 1 < length s → byte < 0x80 → eqb byte 0x5C ≡ false → scanCharSym (from s at) ≡ symbol_of (from s (at + 1))
-    no_char i l f =
+    no-char : at + 1 < length s → byte < 0x80 → eqb byte 0x5C ≡ false → scanCharSym (from s at) ≡ symbolOf (from s (at + 1))
+    no-char i l f =
         symbol-is s (at + 1) byte (at + 2) (behind i l) (from s at) text f
-        (ap (λ x. x && eqb (get_or s (at + 2) 0) 0x27) (print-plain byte l f) ∙ and_comm (plain_byte byte) (eqb (get_or s (at + 2) 0) 0x27) ∙ z)
+        (ap (λ x. x && eqb (get_or s (at + 2) 0) 0x27) (print-plain byte l f) ∙ and_comm (plainByte byte) (eqb (get_or s (at + 2) 0) 0x27) ∙ z)
 
     semi-ends : byte ≡ 0x3B → Good s at (semiEnd s at)
     unfolding semiEnd
     semi-ends w =
-        pick (Good s at) (isSign (class_at s (at + 2)) || eqb (class_at s (at + 2)) wideClass) at (at + 2) (λ o. declines s at)
-        (λ o n. free (or-neither (isSign (class_at s (at + 2))) (eqb (class_at s (at + 2)) wideClass) o))
+        pick (Good s at) (isSign (classAt s (at + 2)) || eqb (classAt s (at + 2)) wideClass) at (at + 2) (λ o. declines s at)
+        (λ o n. free (or-neither (isSign (classAt s (at + 2))) (eqb (classAt s (at + 2)) wideClass) o))
       where
-        free : (isSign (class_at s (at + 2)) ≡ false) × (eqb (class_at s (at + 2)) wideClass ≡ false) → Ends s at (at + 2)
+        free : (isSign (classAt s (at + 2)) ≡ false) × (eqb (classAt s (at + 2)) wideClass ≡ false) → Ends s at (at + 2)
         free k =
             let i = inside s (at + 1) (omega arith) in
             let l : byte < 0x80 = omega arith in
-            let o : one_of ";" byte ≡ true = ap (one_of ";") w in
-            let f = semi-is s (at + 1) byte (at + 2) (behind i l) (no_start ";" refl byte o) (no_sign ";" refl byte o) (eq-eqb byte 0x3B w)
+            let o : oneOf ";" byte ≡ true = ap (oneOf ";") w in
+            let f = semi-is s (at + 1) byte (at + 2) (behind i l) (no-start ";" refl byte o) (no-sign ";" refl byte o) (eq-eqb byte 0x3B w)
             (no-sign-at s (at + 2) k.0 k.1) in
-            (omega arith, omega arith, sym-token s (at + 2) (from s (at + 2)) _ (omega arith) refl (no_char i l (ne_eqb byte 0x5C (λ x. absurd (omega arith))) ∙ f))
+            (omega arith, omega arith, sym-token s (at + 2) (from s (at + 2)) _ (omega arith) refl (no-char i l (ne_eqb byte 0x5C (λ x. absurd (omega arith))) ∙ f))
 
-    name-ends : upToBlank (class_of byte) ≡ false → startsWord (class_of byte) ≡ true → Good s at (nameSymbolEnd s at)
+    name-ends : upToBlank (classOf byte) ≡ false → startsWord (classOf byte) ≡ true → Good s at (nameSymbolEnd s at)
     unfolding nameSymbolEnd
     name-ends u v = pick (Good s at) (eqb (nameEnd s (at + 1)).at (at + 1)) at (nameEnd s (at + 1)).at (λ o. declines s at) (λ o n. named (eqb-false _ _ o))
       where
         named : ((nameEnd s (at + 1)).at ≡ at + 1 → ⊥) → Ends s at (nameEnd s (at + 1)).at
         named n =
             let k : ltb byte 0x80 && isIdStart byte ≡ true =
-            sym (class-start byte) ∙ ap (λ x. not x && startsWord (class_of byte)) u ∙ v in
-            let b = and_both (ltb byte 0x80) (isIdStart byte) k in
+            sym (class-start byte) ∙ ap (λ x. not x && startsWord (classOf byte)) u ∙ v in
+            let b = and-both (ltb byte 0x80) (isIdStart byte) k in
             let l = ltb-true byte 0x80 b.0 in
             let i = class-inside s (at + 1) startsWord refl v in
-            let f = ne_eqb byte 0x5C (λ x. clash (sym (no_start "\\" refl byte (ap (one_of "\\") x)) ∙ b.1)) in
+            let f = ne_eqb byte 0x5C (λ x. clash (sym (no-start "\\" refl byte (ap (oneOf "\\") x)) ∙ b.1)) in
             let t = name-stops s (at + 1) (nameEnd s (at + 1)) refl (moved (at + 1) (nameEnd s (at + 1)) n) in
             let m = name-rest s (at + 1) i (nameEnd s (at + 1)).at t.place t.narrow in
             let two : at + 1 + 1 ≡ at + 2 = omega arith in (
               omega (arith, m.0),
               m.1,
-              sym-token s _ _ _ m.1 (m.2 ∙ ap (λ j. afterIdent false (from s j)) two) (no_char i l f ∙ word-is s (at + 1) byte (at + 2) (behind i l) b.1),
+              sym-token s _ _ _ m.1 (m.2 ∙ ap (λ j. afterIdent false (from s j)) two) (no-char i l f ∙ word-is s (at + 1) byte (at + 2) (behind i l) b.1),
             )
 
-    operator-ends : (byte ≡ 0x5C → ⊥) → isSign (class_of byte) ≡ true → Good s at (operatorSymbolEnd s at)
+    operator-ends : (byte ≡ 0x5C → ⊥) → isSign (classOf byte) ≡ true → Good s at (operatorSymbolEnd s at)
     unfolding operatorSymbolEnd
     operator-ends w o =
         pick (Good s at) (eqb (operatorFrom s (at + 1) (at + 1)).at (at + 1)) at (operatorFrom s (at + 1) (at + 1)).at (λ x. declines s at)
@@ -207,7 +207,7 @@ module _ (s : List ℕ) (at : ℕ) (h : at < length s) (q : get_or s at 0 ≡ 0x
       where
         signs : ((operatorFrom s (at + 1) (at + 1)).at ≡ at + 1 → ⊥) → Ends s at (operatorFrom s (at + 1) (at + 1)).at
         signs n =
-            let b = and_both (ltb byte 0x80) (isOpSign byte) (sym (class-sign byte) ∙ o) in
+            let b = and-both (ltb byte 0x80) (isOpSign byte) (sym (class-sign byte) ∙ o) in
             let l = ltb-true byte 0x80 b.0 in
             let i = class-inside s (at + 1) isSign refl o in
             let r = operatorFrom s (at + 1) (at + 1) in
@@ -216,24 +216,24 @@ module _ (s : List ℕ) (at : ℕ) (h : at < length s) (q : get_or s at 0 ≡ 0x
             let c = no-comment s (at + 1) r.at (omega arith) m.1 m.2 n in (
               omega (arith, m.0),
               m.1,
-              sym-token s _ _ _ m.1 m.2 (no_char i l (ne_eqb byte 0x5C w) ∙ run_is s (at + 1) byte (at + 2) (behind i l) (sign-no-start byte b.1) b.1 c),
+              sym-token s _ _ _ m.1 m.2 (no-char i l (ne_eqb byte 0x5C w) ∙ run-is s (at + 1) byte (at + 2) (behind i l) (sign-no-start byte b.1) b.1 c),
             )
 
   all-ends : Good s at (charSymEnd s at)
   unfolding charSymEnd charSymBy
   all-ends =
       pick (Good s at) (endsChar s at byte) _ _ (λ e n. plain-ends e)
-      (λ z. pick (Good s at) (upToBlank (class_of byte)) _ _
+      (λ z. pick (Good s at) (upToBlank (classOf byte)) _ _
       (λ u. pick (Good s at) (eqb byte 0x3B) _ _ (λ w. semi-ends z (eqb-true byte 0x3B w)) (λ w. declines s at))
-      (λ u. pick (Good s at) (startsWord (class_of byte)) _ _ (λ v. name-ends z u v)
+      (λ u. pick (Good s at) (startsWord (classOf byte)) _ _ (λ v. name-ends z u v)
       (λ v. pick (Good s at) (eqb byte 0x5C) _ _ (λ w. escaped-ends (eqb-true byte 0x5C w))
-      (λ w. pick (Good s at) (isSign (class_of byte)) _ _ (λ o. operator-ends z (eqb-false byte 0x5C w) o) (λ o. declines s at)))))
+      (λ w. pick (Good s at) (isSign (classOf byte)) _ _ (λ o. operator-ends z (eqb-false byte 0x5C w) o) (λ o. declines s at)))))
 
 -- ---- for whoever walks
 
 pub symbol-found : (s : List ℕ) (at e : ℕ) → at < length s → get_or s at 0 ≡ 0x27 → e ≡ charSymEnd s at → (e ≡ at → ⊥)
-    → (at < e) × (e ≤ length s) × (piece.Token tk.CharSym (cursorAt e) ≡ piece_of (length s) (scan (length s) (from s at)))
+    → (at < e) × (e ≤ length s) × (piece.Token tk.CharSym (cursorAt e) ≡ pieceOf (length s) (scan (length s) (from s at)))
 symbol-found s at e h q p n =
     let g = all-ends s at h q (λ z. n (p ∙ z)) in
     let f : scan (length s) (from s at) ≡ scanCharSym (from s at) = charsym-at s at h (tick-byte s at ∙ eq-eqb (get_or s at 0) 0x27 q) in
-    (omega (arith, g.0), omega (arith, g.1), ap (λ j. piece.Token tk.CharSym (cursorAt j)) p ∙ g.2 ∙ ap (piece_of (length s)) (sym f))
+    (omega (arith, g.0), omega (arith, g.1), ap (λ j. piece.Token tk.CharSym (cursorAt j)) p ∙ g.2 ∙ ap (pieceOf (length s)) (sym f))

@@ -16,8 +16,8 @@ use Rattle.token.specs.paper.Records.{recordLength, recordOf, records, recordByt
 use Rattle.token.specs.declared.kinds.TokenKind.{TokenKind}
 use Rattle.token.specs.declared.kinds.TokenKind.TheVariants as tk
 use Rattle.token.proofs.Base.{no-some}
-use Rattle.token.proofs.theorems.Numbers.{one_value}
-use Rattle.token.proofs.theorems.Contents.{ends_snoc}
+use Rattle.token.proofs.theorems.Numbers.{one-value}
+use Rattle.token.proofs.theorems.Contents.{ends-snoc}
 use Rattle.token.proofs.form.Stores.{length-record}
 
 -- ---- records
@@ -31,24 +31,24 @@ records-length (t ∷ ts) =
 
 -- ---- content
 
-abbrev head_or : Char → Text → Char
-head_or d [] = d
-head_or d (c ∷ s) = c
+abbrev headOr : Char → Text → Char
+headOr d [] = d
+headOr d (c ∷ s) = c
 
 snoc-same : (m o : Text) (d x : Char) → m ++ (d ∷ []) ≡ o ++ (x ∷ []) → (m ≡ o) × (d ≡ x)
-snoc-same [] [] d x e = (refl, ap (head_or d) e)
+snoc-same [] [] d x e = (refl, ap (headOr d) e)
 snoc-same [] (b ∷ o) d x e =
     absurd (let z : ◌≡◌ {A = ℕ} 1 (suc (length (o ++ (x ∷ [])))) = ap length e in let y = length-append o (x ∷ []) in omega arith)
 snoc-same (a ∷ m) [] d x e =
     absurd (let z : ◌≡◌ {A = ℕ} (suc (length (m ++ (d ∷ [])))) 1 = ap length e in let y = length-append m (d ∷ []) in omega arith)
-snoc-same (a ∷ m) (b ∷ o) d x e = let h = snoc-same m o d x (ap (drop 1) e) in (rw (h.0, ap (head_or a) e), h.1)
+snoc-same (a ∷ m) (b ∷ o) d x e = let h = snoc-same m o d x (ap (drop 1) e) in (rw (h.0, ap (headOr a) e), h.1)
 
 dropped-one : {t m o : Text} {e f g : ℕ} → LastDropped t e m f → LastDropped t e o g → (m ≡ o) × (f ≡ g)
 dropped-one (LastDropped.dropped m d s q) (LastDropped.dropped o x s' q') =
     let j = snoc-same m o d x (sym s ∙ s') in
     (j.0, ap (λ (c : Char). c.at) j.1)
-dropped-one (LastDropped.dropped m d s q) (LastDropped.kept z) = clash (sym z ∙ ap endsQuote s ∙ ends_snoc m d ∙ q)
-dropped-one (LastDropped.kept z) (LastDropped.dropped m d s q) = clash (sym z ∙ ap endsQuote s ∙ ends_snoc m d ∙ q)
+dropped-one (LastDropped.dropped m d s q) (LastDropped.kept z) = clash (sym z ∙ ap endsQuote s ∙ ends-snoc m d ∙ q)
+dropped-one (LastDropped.kept z) (LastDropped.dropped m d s q) = clash (sym z ∙ ap endsQuote s ∙ ends-snoc m d ∙ q)
 dropped-one (LastDropped.kept z) (LastDropped.kept z') = (refl, refl)
 
 content-one : {t u : Text} {e f a b c d : ℕ} → Content t e a b → t ≡ u → e ≡ f → Content u f c d → (a ≡ c) × (b ≡ d)
@@ -62,30 +62,30 @@ content-one (Content.quoted {m} {f} r w v) h k (Content.quoted {t = u} {m = o} {
 
 -- ---- tokens
 
-same_flag : {P : Type 0} (a b : Bool) → a ≡ true ↔ P → b ≡ true ↔ P → a ≡ b
-same_flag true b h k = sym (k.1 (h.0 refl))
-same_flag false true h k = clash (h.1 (k.0 refl))
-same_flag false false h k = refl
+same-flag : {P : Type 0} (a b : Bool) → a ≡ true ↔ P → b ≡ true ↔ P → a ≡ b
+same-flag true b h k = sym (k.1 (h.0 refl))
+same-flag false true h k = clash (h.1 (k.0 refl))
+same-flag false false h k = refl
 
-valued_one : {n : ℕ} {s r : Text} {y : TokenType} {t u : TokenKind} → Valued n s r y t → Valued n s r y u → t ≡ u
-valued_one (Valued.bare e) (Valued.bare f) = some-injective _ _ (sym e ∙ f)
-valued_one (Valued.bare e) (Valued.intLit h) = no-some e
-valued_one (Valued.bare e) (Valued.longLit h) = no-some e
-valued_one (Valued.bare e) (Valued.prefixed f) = no-some e
-valued_one (Valued.bare e) (Valued.plain f w) = no-some e
-valued_one (Valued.intLit h) (Valued.bare e) = no-some e
-valued_one (Valued.intLit h) (Valued.intLit k) = ap tk.IntLit (one_value false h k)
-valued_one (Valued.longLit h) (Valued.bare e) = no-some e
-valued_one (Valued.longLit h) (Valued.longLit k) = ap tk.LongLit (one_value true h k)
-valued_one (Valued.prefixed f) (Valued.bare e) = no-some e
-valued_one (Valued.prefixed e) (Valued.prefixed f) = refl
-valued_one (Valued.prefixed e) (Valued.plain f w) = clash (sym e ∙ f)
-valued_one (Valued.plain f w) (Valued.bare e) = no-some e
-valued_one (Valued.plain f w) (Valued.prefixed e) = clash (sym e ∙ f)
-valued_one (Valued.plain e w) (Valued.plain f v) = let h = content-one w refl refl v in rw (h.0, h.1)
+valued-one : {n : ℕ} {s r : Text} {y : TokenType} {t u : TokenKind} → Valued n s r y t → Valued n s r y u → t ≡ u
+valued-one (Valued.bare e) (Valued.bare f) = some-injective _ _ (sym e ∙ f)
+valued-one (Valued.bare e) (Valued.intLit h) = no-some e
+valued-one (Valued.bare e) (Valued.longLit h) = no-some e
+valued-one (Valued.bare e) (Valued.prefixed f) = no-some e
+valued-one (Valued.bare e) (Valued.plain f w) = no-some e
+valued-one (Valued.intLit h) (Valued.bare e) = no-some e
+valued-one (Valued.intLit h) (Valued.intLit k) = ap tk.IntLit (one-value false h k)
+valued-one (Valued.longLit h) (Valued.bare e) = no-some e
+valued-one (Valued.longLit h) (Valued.longLit k) = ap tk.LongLit (one-value true h k)
+valued-one (Valued.prefixed f) (Valued.bare e) = no-some e
+valued-one (Valued.prefixed e) (Valued.prefixed f) = refl
+valued-one (Valued.prefixed e) (Valued.plain f w) = clash (sym e ∙ f)
+valued-one (Valued.plain f w) (Valued.bare e) = no-some e
+valued-one (Valued.plain f w) (Valued.prefixed e) = clash (sym e ∙ f)
+valued-one (Valued.plain e w) (Valued.plain f v) = let h = content-one w refl refl v in rw (h.0, h.1)
 
-valued_same : {n : ℕ} {s r : Text} {y z : TokenType} {t u : TokenKind} → y ≡ z → Valued n s r y t → Valued n s r z u → t ≡ u
-valued_same e h k = valued_one (rw e at h) k
+valued-same : {n : ℕ} {s r : Text} {y z : TokenType} {t u : TokenKind} → y ≡ z → Valued n s r y t → Valued n s r z u → t ≡ u
+valued-same e h k = valued-one (rw e at h) k
 
 abbrev isToken : Kind → Bool
 isToken Kind.blank = false
@@ -113,14 +113,14 @@ same-token : (y z : TokenType) → Kind.token y ≡ Kind.token z → y ≡ z
 same-token y z e = cc
 
 pub tokens-one : {script : List ℕ} {gap ps : List Piece} {ts us : List Token} → Tokens script gap ps ts → Tokens script gap ps us → ts ≡ us
-tokens-one (Tokens.eof {cut = a} h) (Tokens.eof {cut = b} k) = rw (same_flag a b h k)
+tokens-one (Tokens.eof {cut = a} h) (Tokens.eof {cut = b} k) = rw (same-flag a b h k)
 tokens-one (Tokens.skip h w) (Tokens.skip k v) = tokens-one w v
 tokens-one (Tokens.skip {p} h w) (Tokens.lineEnd k m v) = skip-no-end p.kind h k
 tokens-one (Tokens.skip {p} h w) (Tokens.token {t = y} q k m v) = skip-no-token p.kind y h q
 tokens-one (Tokens.lineEnd {p} h m w) (Tokens.skip k v) = skip-no-end p.kind k h
-tokens-one (Tokens.lineEnd {mark = a} h m w) (Tokens.lineEnd {mark = b} k o v) = rw (same_flag a b m o, tokens-one w v)
+tokens-one (Tokens.lineEnd {mark = a} h m w) (Tokens.lineEnd {mark = b} k o v) = rw (same-flag a b m o, tokens-one w v)
 tokens-one (Tokens.lineEnd {p} h m w) (Tokens.token {t = y} q k o v) = end-no-token p.kind y h q
 tokens-one (Tokens.token {p} {t = y} q h m w) (Tokens.skip k v) = skip-no-token p.kind y k q
 tokens-one (Tokens.token {p} {t = y} q h m w) (Tokens.lineEnd k o v) = end-no-token p.kind y k q
 tokens-one (Tokens.token {t = y} {cut = a} q h m w) (Tokens.token {t = z} {cut = b} q' k o v) =
-    rw (same_flag a b m o, valued_same (same-token y z (sym q ∙ q')) h k, tokens-one w v)
+    rw (same-flag a b m o, valued-same (same-token y z (sym q ∙ q')) h k, tokens-one w v)

@@ -1,6 +1,6 @@
 -- The numbers of a reading's tokens: places lie within the script, values keep their limits, a string's content lies within its token. So every
--- record holds its token's numbers, and they are read back (`token_back`). The tokens stand in order (`in_order`), and Eof is the last and no
--- other (`last-eof`). A refusal's place lies within the script too. `listing_text` cites `all-bounded`, `storable`, `token_back` and
+-- record holds its token's numbers, and they are read back (`token-back`). The tokens stand in order (`in-order`), and Eof is the last and no
+-- other (`last-eof`). A refusal's place lies within the script too. `listing_text` cites `all-bounded`, `storable`, `token-back` and
 -- `refused-within`, for the lines of records and of refusals. A reader of stored rolls relies on the order and the last Eof too.
 use Prim.Native.Nat.{ℕ, zero, suc, ◌-◌, ◌^◌, ◌≤◌, ◌<◌}
 use mathlib.Core.Path.{◌≡◌, refl, sym, ◌∙◌, ap}
@@ -18,22 +18,22 @@ use Rattle.chars.specs.promises.Texts.{Suffix, ScriptText}
 use Rattle.chars.proofs.theorems.Promises.{text-laws}
 use Rattle.words.specs.Words.{le4, le8}
 use Rattle.token.specs.paper.Kinds.{Kind, TokenType, withoutValues, kwNumber, kindNumber, Token}
-use Rattle.token.specs.paper.Shapes.{both, text_of, limit, TokenShape, HasShape, Stands}
+use Rattle.token.specs.paper.Shapes.{both, textOf, limit, TokenShape, HasShape, Stands}
 use Rattle.token.specs.paper.Reading.{Piece, Pieces, LastDropped, Content, Valued, Tokens, TokensOf, OnlyLastEof}
 use Rattle.token.specs.paper.Refusals.{Opens, InSingle, InTriple, BadEscape, Met, Refused}
-use Rattle.token.specs.paper.Records.{bit, values_of, values, headLength, mostBytes, recordLength, recordOf}
-use Rattle.token.specs.code.Form.{joined, form_of, held_at, Storable}
+use Rattle.token.specs.paper.Records.{bit, valuesOf, values, headLength, mostBytes, recordLength, recordOf}
+use Rattle.token.specs.code.Form.{joined, formOf, heldAt, Storable}
 use Rattle.token.specs.declared.kinds.Kw.{Kw}
 use Rattle.token.specs.declared.kinds.Kw.TheVariants as kw
 use Rattle.token.specs.declared.kinds.TokenKind.{TokenKind}
 use Rattle.token.specs.declared.kinds.TokenKind.TheVariants as tk
 use Rattle.token.proofs.form.Laws.{form-known, form-record}
-use Rattle.token.proofs.form.ReadBack.{read_back}
+use Rattle.token.proofs.form.ReadBack.{read-back}
 use Rattle.token.proofs.theorems.Runs.{run-suffix}
-use Rattle.token.proofs.theorems.Numbers.{one_value}
+use Rattle.token.proofs.theorems.Numbers.{one-value}
 use Rattle.token.proofs.theorems.Shorter.{one-strict, times-suffix, escape-suffix, prefix-strict, stands-strict}
 use Rattle.token.proofs.theorems.Mets.{within-suffix}
-open text-laws use {at-char, at-end, next-on, place-from, suffix_refl, suffix_trans, text-suffix, text-place}
+open text-laws use {at-char, at-end, next-on, place-from, suffix-refl, suffix-trans, text-suffix, text-place}
 
 -- ---- places
 
@@ -77,25 +77,25 @@ rising-most n [] h = omega arith
 rising-most n (c ∷ s) h = let a = h.0 in let b = rising-most n s h.1 in omega arith
 
 -- a text is the text up to a suffix, and the suffix
-split : {r s : Text} → Suffix r s → text_of s r ++ r ≡ s
-split {r} {s} k = ap (λ t. text_of s r ++ t) k.rest-is ∙ take-append-drop (length s - length r) s
+split : {r s : Text} → Suffix r s → textOf s r ++ r ≡ s
+split {r} {s} k = ap (λ t. textOf s r ++ t) k.rest-is ∙ take-append-drop (length s - length r) s
 
 module _ (n : ℕ) (s r : Text) (h : Rising n s) (k : Suffix r s) where
-  both-rise : Rising n (text_of s r ++ r)
+  both-rise : Rising n (textOf s r ++ r)
   both-rise = rw (split k) h
 
-  between : Rising (place n r) (text_of s r)
-  between = rising-front n (text_of s r) r both-rise
+  between : Rising (place n r) (textOf s r)
+  between = rising-front n (textOf s r) r both-rise
 
   behind : Rising n r
-  behind = rising-back n (text_of s r) r both-rise
+  behind = rising-back n (textOf s r) r both-rise
 
-  start_of : place (place n r) (text_of s r) ≡ place n s
-  start_of = sym (place-front n (text_of s r) r) ∙ ap (place n) (split k)
+  startOf : place (place n r) (textOf s r) ≡ place n s
+  startOf = sym (place-front n (textOf s r) r) ∙ ap (place n) (split k)
 
   -- a suffix starts not before its text, and not past the end
   order : (place n s ≤ place n r) × (place n r ≤ n)
-  order = let a = rising-most (place n r) (text_of s r) between in let e = start_of in let b = rising-most n r behind in (omega arith, b)
+  order = let a = rising-most (place n r) (textOf s r) between in let e = startOf in let b = rising-most n r behind in (omega arith, b)
 
 -- what is left where a last quote is dropped, or kept
 dropped-order : {t m : Text} {e f : ℕ} → LastDropped t e m f → Rising e t → (place e t ≤ place f m) × (f ≤ e) × Rising f m
@@ -184,8 +184,8 @@ bare-within a e (TokenType.key k) = tt
 valued-within : {n : ℕ} {s r : Text} {y : TokenType} {k : TokenKind} → Rising n s → Stands (Kind.token y) s r → Valued n s r y k
     → ValuesWithin (place n s) (place n r) k
 unfolding Stands HasShape TokenShape
-valued-within h w (Valued.intLit x) = let k = w.0 in rw (one_value false x k.1) k.2
-valued-within h w (Valued.longLit x) = let k = w.0 in rw (one_value true x k.1) k.2
+valued-within h w (Valued.intLit x) = let k = w.0 in rw (one-value false x k.1) k.2
+valued-within h w (Valued.longLit x) = let k = w.0 in rw (one-value true x k.1) k.2
 valued-within {n} {s} {r} h w (Valued.prefixed q) =
     let o = order n s r h (stands-strict (Kind.token TokenType.str) s r w).0 in
     (omega arith, o.0, omega arith)
@@ -193,7 +193,7 @@ valued-within {n} {s} {r} h w (Valued.plain q c) =
     let k = (stands-strict (Kind.token TokenType.str) s r w).0 in
     let o = content-order c (between n s r h k) in
     let x = o.0 in
-    let e = start_of n s r h k in
+    let e = startOf n s r h k in
     (omega arith, o.1, o.2)
 valued-within {n} {s} {r} h w (Valued.bare {t} e) = rw e at (bare-within (place n s) (place n r) t)
 
@@ -285,8 +285,8 @@ module _ (script : List ℕ) where
   tokens-in-order p l h (Pieces.piece {k} {s} {m} w v) (Tokens.token q u c x) =
       (l, tokens-in-order (place (length script) m) (omega arith) (behind (length script) s m h (stands-strict k s m w).0) v x)
 
-  pub in_order : (ts : List Token) → TokensOf script ts → InOrder 0 ts
-  in_order ts h = tokens-in-order 0 (omega arith) (script-rising script) h.reading h.tokens
+  pub in-order : (ts : List Token) → TokensOf script ts → InOrder 0 ts
+  in-order ts h = tokens-in-order 0 (omega arith) (script-rising script) h.reading h.tokens
 
   -- whatever the gap, the tokens end with their one Eof
   tokens-last : {gap ps : List Piece} {ts : List Token} → Tokens script gap ps ts → OnlyLastEof ts
@@ -300,92 +300,92 @@ module _ (script : List ℕ) where
 
 -- ---- records
 
-bit_byte : (b : Bool) → bit b < 256
-bit_byte true = omega arith
-bit_byte false = omega arith
+bit-byte : (b : Bool) → bit b < 256
+bit-byte true = omega arith
+bit-byte false = omega arith
 
 -- a kind's number fits two bytes, and its values as many as they have
-kind_fits : (a e : ℕ) (k : TokenKind) → ValuesWithin a e k → (kindNumber k < 65536) × (joined (values_of k) < 256 ^ (recordLength k - headLength))
+kind-fits : (a e : ℕ) (k : TokenKind) → ValuesWithin a e k → (kindNumber k < 65536) × (joined (valuesOf k) < 256 ^ (recordLength k - headLength))
 unfolding recordLength values le4 le8
-kind_fits a e tk.Ident h = (omega arith, omega arith)
-kind_fits a e tk.OpId h = (omega arith, omega arith)
-kind_fits a e tk.BacktickId h = (omega arith, omega arith)
-kind_fits a e (tk.IntLit v) h = (omega arith, omega arith)
-kind_fits a e (tk.LongLit v) h = (omega arith, omega arith)
-kind_fits a e (tk.Str b c) h = (omega arith, omega arith)
-kind_fits a e tk.CharSym h = (omega arith, omega arith)
-kind_fits a e tk.LParen h = (omega arith, omega arith)
-kind_fits a e tk.RParen h = (omega arith, omega arith)
-kind_fits a e tk.LBracket h = (omega arith, omega arith)
-kind_fits a e tk.RBracket h = (omega arith, omega arith)
-kind_fits a e tk.LBrace h = (omega arith, omega arith)
-kind_fits a e tk.RBrace h = (omega arith, omega arith)
-kind_fits a e tk.Comma h = (omega arith, omega arith)
-kind_fits a e tk.Semi h = (omega arith, omega arith)
-kind_fits a e tk.Dot h = (omega arith, omega arith)
-kind_fits a e (tk.Newline mark) h = (omega arith, bit_byte mark)
-kind_fits a e tk.Eof h = (omega arith, omega arith)
-kind_fits a e (tk.Kw k) h = ((kw-number k).1, omega arith)
+kind-fits a e tk.Ident h = (omega arith, omega arith)
+kind-fits a e tk.OpId h = (omega arith, omega arith)
+kind-fits a e tk.BacktickId h = (omega arith, omega arith)
+kind-fits a e (tk.IntLit v) h = (omega arith, omega arith)
+kind-fits a e (tk.LongLit v) h = (omega arith, omega arith)
+kind-fits a e (tk.Str b c) h = (omega arith, omega arith)
+kind-fits a e tk.CharSym h = (omega arith, omega arith)
+kind-fits a e tk.LParen h = (omega arith, omega arith)
+kind-fits a e tk.RParen h = (omega arith, omega arith)
+kind-fits a e tk.LBracket h = (omega arith, omega arith)
+kind-fits a e tk.RBracket h = (omega arith, omega arith)
+kind-fits a e tk.LBrace h = (omega arith, omega arith)
+kind-fits a e tk.RBrace h = (omega arith, omega arith)
+kind-fits a e tk.Comma h = (omega arith, omega arith)
+kind-fits a e tk.Semi h = (omega arith, omega arith)
+kind-fits a e tk.Dot h = (omega arith, omega arith)
+kind-fits a e (tk.Newline mark) h = (omega arith, bit-byte mark)
+kind-fits a e tk.Eof h = (omega arith, omega arith)
+kind-fits a e (tk.Kw k) h = ((kw-number k).1, omega arith)
 
 module _ (n : ℕ) (short : n ≤ mostBytes) (t : Token) (h : Bounded n t) where
-  pub storable : Storable (form_of t.kind) t.start t.end
-  unfolding form_of
+  pub storable : Storable (formOf t.kind) t.start t.end
+  unfolding formOf
   storable =
-      let k = kind_fits t.start t.end t.kind h.values in
+      let k = kind-fits t.start t.end t.kind h.values in
       let a = h.start in
       let e = h.end in
       record { known = form-known t.kind; number = k.0; values = k.1; start = omega arith; end = omega arith }
 
   -- a stored token, whatever follows its record, is read as it was
-  pub token_back : (rest : List ℕ)
-      → held_at (recordOf t ++ rest) 0
-      ≡ record { number = kindNumber t.kind; length = recordLength t.kind; values = joined (values_of t.kind); start = t.start; end = t.end; cut = bit t.cut }
-  unfolding form_of
-  token_back rest =
-      ap (λ b. held_at (b ++ rest) 0) (sym (form-record t)) ∙ read_back (form_of t.kind) t.start t.end t.cut rest storable
+  pub token-back : (rest : List ℕ)
+      → heldAt (recordOf t ++ rest) 0
+      ≡ record { number = kindNumber t.kind; length = recordLength t.kind; values = joined (valuesOf t.kind); start = t.start; end = t.end; cut = bit t.cut }
+  unfolding formOf
+  token-back rest =
+      ap (λ b. heldAt (b ++ rest) 0) (sym (form-record t)) ∙ read-back (formOf t.kind) t.start t.end t.cut rest storable
 
 -- ---- refusals
 
 opens-suffix : (p : Bool) {s o : Text} → Opens p s o → Suffix o s
 opens-suffix true {s} {o} h = (prefix-strict s o h.0).0
-opens-suffix false {s} {o} h = rw h.0 (suffix_refl o)
+opens-suffix false {s} {o} h = rw h.0 (suffix-refl o)
 
 single-in : (p : Bool) {s q : Text} → InSingle p s q → Suffix q s
-single-in p (o, h, e, both a w) = suffix_trans (suffix_trans (within-suffix w) (one-strict a).0) (opens-suffix p h)
+single-in p (o, h, e, both a w) = suffix-trans (suffix-trans (within-suffix w) (one-strict a).0) (opens-suffix p h)
 
 triple-in : (p : Bool) {s q : Text} → InTriple p s q → Suffix q s
-triple-in p (o, h, e, both a w) = suffix_trans (suffix_trans (run-suffix _ w) (times-suffix a)) (opens-suffix p h)
+triple-in p (o, h, e, both a w) = suffix-trans (suffix-trans (run-suffix _ w) (times-suffix a)) (opens-suffix p h)
 
 bad-suffix : {b q : Text} {j : ℕ} → BadEscape b j q → Suffix q b
 bad-suffix (BadEscape.e12 o) = (one-strict o).0
-bad-suffix (BadEscape.e13 n l (both a (both b w)) z) = suffix_trans (times-suffix w) (suffix_trans (one-strict b).0 (one-strict a).0)
+bad-suffix (BadEscape.e13 n l (both a (both b w)) z) = suffix-trans (times-suffix w) (suffix-trans (one-strict b).0 (one-strict a).0)
 bad-suffix (BadEscape.e14 o z) = (one-strict o).0
 
 met-suffix : {s q : Text} {j : ℕ} → Met s j q → Suffix q s
-met-suffix (Met.m1 a b) = suffix_refl _
-met-suffix (Met.m2 a b) = suffix_refl _
-met-suffix (Met.m3 a b d) = suffix_refl _
-met-suffix (Met.m4 a) = suffix_refl _
-met-suffix (Met.m5 a) = suffix_refl _
-met-suffix (Met.m6 a b d) = suffix_refl _
+met-suffix (Met.m1 a b) = suffix-refl _
+met-suffix (Met.m2 a b) = suffix-refl _
+met-suffix (Met.m3 a b d) = suffix-refl _
+met-suffix (Met.m4 a) = suffix-refl _
+met-suffix (Met.m5 a) = suffix-refl _
+met-suffix (Met.m6 a b d) = suffix-refl _
 met-suffix (Met.m7 p a) = single-in p a
 met-suffix (Met.m8 p a b) = single-in p a
 met-suffix (Met.m9 p a) = triple-in p a
 met-suffix (Met.m10 p a b) = triple-in p a
 met-suffix (Met.m11 (inl a) b) = single-in true a
 met-suffix (Met.m11 (inr a) b) = triple-in true a
-met-suffix (Met.m12 (inl a, b) e) = suffix_trans (bad-suffix e) (single-in false a)
-met-suffix (Met.m12 (inr a, b) e) = suffix_trans (bad-suffix e) (one-strict a).0
-met-suffix (Met.m15 (both a e) b) = suffix_trans (escape-suffix e) (one-strict a).0
+met-suffix (Met.m12 (inl a, b) e) = suffix-trans (bad-suffix e) (single-in false a)
+met-suffix (Met.m12 (inr a, b) e) = suffix-trans (bad-suffix e) (one-strict a).0
+met-suffix (Met.m15 (both a e) b) = suffix-trans (escape-suffix e) (one-strict a).0
 met-suffix (Met.m16 a b d e) = (one-strict a).0
 
 pieces-suffix : {n : ℕ} {s r : Text} {ps : List Piece} → Pieces n s ps r → Suffix r s
-pieces-suffix Pieces.done = suffix_refl _
-pieces-suffix (Pieces.piece {k} {s} {m} w v) = suffix_trans (pieces-suffix v) (stands-strict k s m w).0
+pieces-suffix Pieces.done = suffix-refl _
+pieces-suffix (Pieces.piece {k} {s} {m} w v) = suffix-trans (pieces-suffix v) (stands-strict k s m w).0
 
 pub refused-within : (script : List ℕ) (j a : ℕ) → Refused script j a → a ≤ length script
 refused-within script j a h =
-    let k = suffix_trans (met-suffix h.first.met) (pieces-suffix h.up) in
+    let k = suffix-trans (met-suffix h.first.met) (pieces-suffix h.up) in
     let o = (order (length script) (from script 0) h.rest (script-rising script) k).1 in
-    let p = h.place_is in
+    let p = h.place-is in
     omega arith

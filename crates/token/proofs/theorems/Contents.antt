@@ -9,7 +9,7 @@ use native.Mathlib.Omega.{arith}
 use borrow.Author.Tests.{ne_eqb, le-leb}
 use Rattle.chars.specs.paper.Text.{Char, Text, place}
 use Rattle.token.specs.paper.Tests.{begins, quote}
-use Rattle.token.specs.paper.Shapes.{text_of}
+use Rattle.token.specs.paper.Shapes.{textOf}
 use Rattle.token.specs.paper.Reading.{endsQuote, LastDropped, Content}
 use Rattle.token.specs.computed.Answer.{strip, plainContent}
 use Rattle.token.specs.declared.kinds.TokenKind.TheVariants as tk
@@ -29,14 +29,14 @@ snoc : (c : Char) (v : Text) → Snoc (c ∷ v)
 snoc c [] = record { front = []; last = c; split = refl }
 snoc c (d ∷ v) = let h = snoc d v in record { front = c ∷ h.front; last = h.last; split = ap {B = Text} (λ z. c ∷ z) h.split }
 
-pub ends_snoc : (w : Text) (d : Char) → endsQuote (w ++ (d ∷ [])) ≡ quote (d ∷ [])
-ends_snoc [] d = refl
-ends_snoc (a ∷ []) d = refl
-ends_snoc (a ∷ b ∷ w) d = ends_snoc (b ∷ w) d
+pub ends-snoc : (w : Text) (d : Char) → endsQuote (w ++ (d ∷ [])) ≡ quote (d ∷ [])
+ends-snoc [] d = refl
+ends-snoc (a ∷ []) d = refl
+ends-snoc (a ∷ b ∷ w) d = ends-snoc (b ∷ w) d
 
-append_snoc : (w : Text) (d : Char) (z : Text) → (w ++ (d ∷ [])) ++ z ≡ w ++ (d ∷ z)
-append_snoc [] d z = refl
-append_snoc (a ∷ w) d z = ap {B = Text} (λ q. a ∷ q) (append_snoc w d z)
+append-snoc : (w : Text) (d : Char) (z : Text) → (w ++ (d ∷ [])) ++ z ≡ w ++ (d ∷ z)
+append-snoc [] d z = refl
+append-snoc (a ∷ w) d z = ap {B = Text} (λ q. a ∷ q) (append-snoc w d z)
 
 turn-snoc : (w : Text) (d : Char) (y : Text) → reverse_aux (w ++ (d ∷ [])) y ≡ d ∷ reverse_aux w y
 turn-snoc [] d y = refl
@@ -94,7 +94,7 @@ strip-is (suc f) (c ∷ v) z y e l = go (quote (c ∷ v)) refl (λ u z y e h. st
         by true x =
             let h = below w (d ∷ z) (c ∷ y) d.at (omega (arith, size, l)) in
             let k : suc (length v) - 2 ≡ length w = omega (arith, size) in
-            let m : v ++ z ≡ w ++ (d ∷ z) = ap (λ t. t ++ z) s.split ∙ append_snoc w d z in (
+            let m : v ++ z ≡ w ++ (d ∷ z) = ap (λ t. t ++ z) s.split ∙ append-snoc w d z in (
               h.0,
               h.1,
               strip-turn (length v) c (v ++ z) (reverse_aux v (c ∷ y)) e ∙ rw (quote-first c (v ++ z) v, q, two, test, x) (rw (back, m, k) h.2),
@@ -106,7 +106,7 @@ strip-is (suc f) (c ∷ v) z y e l = go (quote (c ∷ v)) refl (λ u z y e h. st
               h.0,
               h.1,
               strip-turn (length v) c (v ++ z) (reverse_aux v (c ∷ y)) e ∙ rw (quote-first c (v ++ z) v, q, two, test, x, k) h.2,
-              Content.quoted q (LastDropped.kept (ap endsQuote s.split ∙ ends_snoc w d ∙ x)) h.3,
+              Content.quoted q (LastDropped.kept (ap endsQuote s.split ∙ ends-snoc w d ∙ x)) h.3,
             )
 
     long : (v : Text) → length v ≤ f → quote (c ∷ v) ≡ true → Below → Stripped (c ∷ v) z y e
@@ -119,9 +119,9 @@ strip-is (suc f) (c ∷ v) z y e l = go (quote (c ∷ v)) refl (λ u z y e h. st
     go true q below = long v (omega (arith, l)) q below
     go false q below = (c.at, e, strip-turn (length v) c (v ++ z) (reverse_aux v (c ∷ y)) e ∙ rw (quote-first c (v ++ z) v, q), Content.unquoted q refl)
 
-pub content-is : (n : ℕ) (s r : Text) → (a : ℕ) × (b : ℕ) × (plainContent n s r ≡ tk.Str a b) × Content (text_of s r) (place n r) a b
+pub content-is : (n : ℕ) (s r : Text) → (a : ℕ) × (b : ℕ) × (plainContent n s r ≡ tk.Str a b) × Content (textOf s r) (place n r) a b
 unfolding plainContent
 content-is n s r =
-    let t = text_of s r in
+    let t = textOf s r in
     let h = strip-is (length t) t [] [] (place n r) (omega arith) in
     (h.0, h.1, ap (λ x. strip (length t) x (reverse t) (place n r)) (sym (append-nil t)) ∙ h.2, h.3)

@@ -10,27 +10,27 @@ use lib.ListN.{drop}
 use lib.Dec.{eqb, leb}
 use native.Mathlib.Omega.{arith}
 use borrow.Author.Tests.{eqb-true, leb-true, not-true}
-use Rattle.chars.specs.paper.Quoted.{codes, one_of}
+use Rattle.chars.specs.paper.Quoted.{codes, oneOf}
 use Rattle.chars.specs.paper.Classes.{isIdStart, isOpSign, opSigns}
 use Rattle.chars.specs.paper.Text.{Char, Text, headIs}
-use Rattle.chars.proofs.Bools.{clash, and_both}
+use Rattle.chars.proofs.Bools.{clash, and-both}
 use Rattle.chars.specs.promises.Codes.{every}
 use Rattle.chars.proofs.theorems.Promises.{code_laws, class-laws}
 use Rattle.token.proofs.Classes.{sign-not, start-not}
-use Rattle.token.specs.paper.Tests.{isDigit, isAny, begins, starts_with, opensLine, opensBlock, opensComment, endsLine, quote, digit, opSign, freeSign, apostrophe}
+use Rattle.token.specs.paper.Tests.{isDigit, isAny, begins, startsWith, opensLine, opensBlock, opensComment, endsLine, quote, digit, opSign, freeSign, apostrophe}
 use Rattle.token.specs.paper.Kinds.{Kind, TokenType, withoutValues}
 use Rattle.token.specs.paper.Shapes.{One, both, Block, TokenShape, HasShape, Stands}
 use Rattle.token.specs.paper.Reading.{Valued}
 use Rattle.token.specs.paper.Refusals.{Met}
 use Rattle.token.specs.computed.Flags.{GapKind}
-use Rattle.token.specs.computed.Answer.{Found, Start, start_of, starts, sign_of, scanAs, scan, scanReturn, scanBlock, scanNumber, scanString, plain_of}
+use Rattle.token.specs.computed.Answer.{Found, Start, startOf, starts, signOf, scanAs, scan, scanReturn, scanBlock, scanNumber, scanString, plainOf}
 use Rattle.token.specs.declared.kinds.TokenKind.{TokenKind}
 use Rattle.token.specs.declared.kinds.TokenKind.TheVariants as tk
 use Rattle.token.proofs.theorems.Numbers.{number-stands}
 use Rattle.token.proofs.theorems.Operators.{Stood, operator-stands}
 use Rattle.token.proofs.theorems.Ticks.{Fell, tick-stands}
 use Rattle.token.proofs.theorems.Strings.{body-finds, Closed, Wrong}
-use Rattle.token.proofs.theorems.Prefixed.{word_stands, backtick-stands}
+use Rattle.token.proofs.theorems.Prefixed.{word-stands, backtick-stands}
 use Rattle.token.proofs.theorems.Contents.{content-is}
 use Rattle.token.proofs.theorems.Gaps.{two-codes, line-stands, block-stands}
 use Rattle.token.proofs.theorems.Heads.{no-start-met}
@@ -63,8 +63,8 @@ step : {s : Text} (b : Bool) {x y : Start} → (b ≡ true → Fact s x) → (b 
 step true f g = f refl
 step false f g = g refl
 
-pub start-fact : (s : Text) → Fact s (start_of s)
-unfolding start_of
+pub start-fact : (s : Text) → Fact s (startOf s)
+unfolding startOf
 start-fact s =
     step (opensLine s) Fact.line (λ a. step (opensBlock s) Fact.block (λ b. let z : Clear s = record { line = a; block = b } in
     step (isAny " \t" s) (Fact.blank z) (λ c. step (isAny "\n" s) (Fact.lf z) (λ d. step (isAny "\r" s) (Fact.cr z) (λ e.
@@ -76,9 +76,9 @@ start-fact s =
 
 pub apart : (a : String) (p : ℕ → Bool) → every (λ x. not (p x)) (codes a) ≡ true → (s : Text) → headIs p s ≡ true → isAny a s ≡ false
 apart a p h [] e = clash e
-apart a p h (c ∷ s) e = go (one_of a c.code) refl
+apart a p h (c ∷ s) e = go (oneOf a c.code) refl
   where
-    go : (b : Bool) → one_of a c.code ≡ b → one_of a c.code ≡ false
+    go : (b : Bool) → oneOf a c.code ≡ b → oneOf a c.code ≡ false
     go true q = clash (sym (not-true (p c.code) (carry (λ x. not (p x)) (codes a) c.code h q)) ∙ e)
     go false q = q
 
@@ -95,7 +95,7 @@ quote-any (c ∷ s) = go (eqb c.code 34)
     go true = refl
     go false = refl
 
-digit-code : (k : ℕ) → k < 10 → one_of "0123456789" (48 + k) ≡ true
+digit-code : (k : ℕ) → k < 10 → oneOf "0123456789" (48 + k) ≡ true
 digit-code zero l = refl
 digit-code (suc zero) l = refl
 digit-code (suc (suc zero)) l = refl
@@ -108,10 +108,10 @@ digit-code (suc (suc (suc (suc (suc (suc (suc (suc zero)))))))) l = refl
 digit-code (suc (suc (suc (suc (suc (suc (suc (suc (suc zero))))))))) l = refl
 digit-code (suc (suc (suc (suc (suc (suc (suc (suc (suc (suc k)))))))))) l = absurd (omega arith)
 
-pub digit-one : (c : ℕ) → isDigit c ≡ true → one_of "0123456789" c ≡ true
+pub digit-one : (c : ℕ) → isDigit c ≡ true → oneOf "0123456789" c ≡ true
 unfolding isDigit
 digit-one c e =
-    let h = and_both (leb 48 c) (leb c 57) e in
+    let h = and-both (leb 48 c) (leb c 57) e in
     let a = leb-true 48 c h.0 in
     let b = leb-true c 57 h.1 in
     let q : c ≡ 48 + (c - 48) = omega arith in
@@ -155,26 +155,26 @@ clear-head p z (c ∷ s) e = go (eqb c.code 47) refl
 -- ---- the class that a start has
 
 module _ (s : Text) (z : Clear s) where
-  pub starts-blank : isAny " \t" s ≡ true → start_of s ≡ Start.blank
-  unfolding start_of
+  pub starts-blank : isAny " \t" s ≡ true → startOf s ≡ Start.blank
+  unfolding startOf
   starts-blank e = rw (z.line, z.block, e)
 
-  pub starts-lf : isAny "\n" s ≡ true → start_of s ≡ Start.lf
-  unfolding start_of
-  starts-lf e = rw (z.line, z.block, apart " \t" (one_of "\n") refl s e, e)
+  pub starts-lf : isAny "\n" s ≡ true → startOf s ≡ Start.lf
+  unfolding startOf
+  starts-lf e = rw (z.line, z.block, apart " \t" (oneOf "\n") refl s e, e)
 
-  pub starts-cr : isAny "\r" s ≡ true → start_of s ≡ Start.cr
-  unfolding start_of
-  starts-cr e = rw (z.line, z.block, apart " \t" (one_of "\r") refl s e, apart "\n" (one_of "\r") refl s e, e)
+  pub starts-cr : isAny "\r" s ≡ true → startOf s ≡ Start.cr
+  unfolding startOf
+  starts-cr e = rw (z.line, z.block, apart " \t" (oneOf "\r") refl s e, apart "\n" (oneOf "\r") refl s e, e)
 
-  pub starts-sign : isAny "()[]{},;." s ≡ true → start_of s ≡ Start.sign
-  unfolding start_of
+  pub starts-sign : isAny "()[]{},;." s ≡ true → startOf s ≡ Start.sign
+  unfolding startOf
   starts-sign e =
-      let p = one_of "()[]{},;." in
+      let p = oneOf "()[]{},;." in
       rw (z.line, z.block, apart " \t" p refl s e, apart "\n" p refl s e, apart "\r" p refl s e, e)
 
-  pub starts-number : digit s ≡ true → start_of s ≡ Start.number
-  unfolding start_of isDigit
+  pub starts-number : digit s ≡ true → startOf s ≡ Start.number
+  unfolding startOf isDigit
   starts-number e =
       rw (
         z.line,
@@ -186,8 +186,8 @@ module _ (s : Text) (z : Clear s) where
         e,
       )
 
-  pub starts-word : headIs isIdStart s ≡ true → start_of s ≡ Start.word
-  unfolding start_of
+  pub starts-word : headIs isIdStart s ≡ true → startOf s ≡ Start.word
+  unfolding startOf
   starts-word e =
       let p = isIdStart in
       rw (
@@ -201,8 +201,8 @@ module _ (s : Text) (z : Clear s) where
         e,
       )
 
-  pub starts-operator : opSign s ≡ true → start_of s ≡ Start.operator
-  unfolding start_of
+  pub starts-operator : opSign s ≡ true → startOf s ≡ Start.operator
+  unfolding startOf
   starts-operator e =
       let p = isOpSign in
       rw (
@@ -217,10 +217,10 @@ module _ (s : Text) (z : Clear s) where
         e,
       )
 
-  pub starts-backtick : isAny "`" s ≡ true → start_of s ≡ Start.backtick
-  unfolding start_of isDigit
+  pub starts-backtick : isAny "`" s ≡ true → startOf s ≡ Start.backtick
+  unfolding startOf isDigit
   starts-backtick e =
-      let p = one_of "`" in
+      let p = oneOf "`" in
       rw (
         z.line,
         z.block,
@@ -234,10 +234,10 @@ module _ (s : Text) (z : Clear s) where
         e,
       )
 
-  pub starts-string : quote s ≡ true → start_of s ≡ Start.string
-  unfolding start_of isDigit
+  pub starts-string : quote s ≡ true → startOf s ≡ Start.string
+  unfolding startOf isDigit
   starts-string e =
-      let p = one_of "\"" in
+      let p = oneOf "\"" in
       let q = sym (quote-any s) ∙ e in
       rw (
         z.line,
@@ -254,10 +254,10 @@ module _ (s : Text) (z : Clear s) where
         e,
       )
 
-  pub starts-tick : apostrophe s ≡ true → start_of s ≡ Start.charSym
-  unfolding start_of isDigit
+  pub starts-tick : apostrophe s ≡ true → startOf s ≡ Start.charSym
+  unfolding startOf isDigit
   starts-tick e =
-      let p = one_of "'" in
+      let p = oneOf "'" in
       rw (
         z.line,
         z.block,
@@ -275,12 +275,12 @@ module _ (s : Text) (z : Clear s) where
         e,
       )
 
-pub starts-line : (s : Text) → opensLine s ≡ true → start_of s ≡ Start.line
-unfolding start_of
+pub starts-line : (s : Text) → opensLine s ≡ true → startOf s ≡ Start.line
+unfolding startOf
 starts-line s e = rw e
 
-pub starts-block : (s : Text) → opensBlock s ≡ true → start_of s ≡ Start.block
-unfolding start_of
+pub starts-block : (s : Text) → opensBlock s ≡ true → startOf s ≡ Start.block
+unfolding startOf
 starts-block s e = rw (block-no-line s e, e)
   where
     block-no-line : (s : Text) → opensBlock s ≡ true → opensLine s ≡ false
@@ -295,27 +295,27 @@ pub data Hit (n : ℕ) (s r : Text) (f : Found) : Kind → Type 0 where
   blockComment : f ≡ Found.gap GapKind.blockComment r → Hit n s r f Kind.blockComment
   token : {y : TokenType} {t : TokenKind} → f ≡ Found.token t r → Valued n s r y t → Hit n s r f (Kind.token y)
 
-pub scan-by : (n : ℕ) (s : Text) (x : Start) → start_of s ≡ x → scan n s ≡ scanAs n x s
+pub scan-by : (n : ℕ) (s : Text) (x : Start) → startOf s ≡ x → scan n s ≡ scanAs n x s
 unfolding scan
 scan-by n s x e = rw e
 
 -- a single sign
-pub sign-of : (s : Text) → isAny "()[]{},;." s ≡ true → (y : TokenType) × TokenShape y s (drop 1 s) × (withoutValues y ≡ some (sign_of s))
-unfolding sign_of TokenShape
+pub sign-of : (s : Text) → isAny "()[]{},;." s ≡ true → (y : TokenType) × TokenShape y s (drop 1 s) × (withoutValues y ≡ some (signOf s))
+unfolding signOf TokenShape
 sign-of [] e = clash e
 sign-of (c ∷ s) e =
-    go (one_of "(" c.code) (one_of ")" c.code) (one_of "[" c.code) (one_of "]" c.code) (one_of "{" c.code) (one_of "}" c.code)
-    (one_of "," c.code) (one_of ";" c.code) refl refl refl refl refl refl refl refl
+    go (oneOf "(" c.code) (oneOf ")" c.code) (oneOf "[" c.code) (oneOf "]" c.code) (oneOf "{" c.code) (oneOf "}" c.code)
+    (oneOf "," c.code) (oneOf ";" c.code) refl refl refl refl refl refl refl refl
   where
     Answer : Type 0
-    Answer = (y : TokenType) × TokenShape y (c ∷ s) s × (withoutValues y ≡ some (sign_of (c ∷ s)))
+    Answer = (y : TokenType) × TokenShape y (c ∷ s) s × (withoutValues y ≡ some (signOf (c ∷ s)))
 
     bits : (a b : Bool) → a || b ≡ true → a || false ≡ false → b ≡ true
     bits true b x y = clash (sym y)
     bits false b x y = x
 
-    go : (b1 b2 b3 b4 b5 b6 b7 b8 : Bool) → one_of "(" c.code ≡ b1 → one_of ")" c.code ≡ b2 → one_of "[" c.code ≡ b3 → one_of "]" c.code ≡ b4
-        → one_of "{" c.code ≡ b5 → one_of "}" c.code ≡ b6 → one_of "," c.code ≡ b7 → one_of ";" c.code ≡ b8 → Answer
+    go : (b1 b2 b3 b4 b5 b6 b7 b8 : Bool) → oneOf "(" c.code ≡ b1 → oneOf ")" c.code ≡ b2 → oneOf "[" c.code ≡ b3 → oneOf "]" c.code ≡ b4
+        → oneOf "{" c.code ≡ b5 → oneOf "}" c.code ≡ b6 → oneOf "," c.code ≡ b7 → oneOf ";" c.code ≡ b8 → Answer
     go true b2 b3 b4 b5 b6 b7 b8 e1 e2 e3 e4 e5 e6 e7 e8 = (TokenType.lParen, One.one e1, rw e1)
     go false true b3 b4 b5 b6 b7 b8 e1 e2 e3 e4 e5 e6 e7 e8 = (TokenType.rParen, One.one e2, rw (e1, e2))
     go false false true b4 b5 b6 b7 b8 e1 e2 e3 e4 e5 e6 e7 e8 = (TokenType.lBracket, One.one e3, rw (e1, e2, e3))
@@ -360,11 +360,11 @@ plain-scan n s q = go (body-finds false s q)
           type = TokenType.str;
           token = tk.Str h.0 h.1;
           rest = c.rest;
-          found = ap (plain_of n s) c.found ∙ ap (λ k. Found.token k c.rest) h.2;
+          found = ap (plainOf n s) c.found ∙ ap (λ k. Found.token k c.rest) h.2;
           shape = inl c.body;
           valued = Valued.plain q h.3;
         })
-    go (inr w) = inr (record { number = w.number; rest = w.rest; found = ap (plain_of n s) w.found; met = w.met s (refl, q) })
+    go (inr w) = inr (record { number = w.number; rest = w.rest; found = ap (plainOf n s) w.found; met = w.met s (refl, q) })
 
 return-scan : (n : ℕ) (s : Text) → isAny "\r" s ≡ true
     → ((r : Text) × (scanReturn s ≡ Found.gap GapKind.lineEnd r) × HasShape Kind.lineEnd s r) ⊎ Fell s (scanReturn s)
@@ -378,11 +378,11 @@ return-scan n (c ∷ s) e = go (begins "\r\n" (c ∷ s)) refl
 
     go : (b : Bool) → begins "\r\n" (c ∷ s) ≡ b
         → ((r : Text) × (scanReturn (c ∷ s) ≡ Found.gap GapKind.lineEnd r) × HasShape Kind.lineEnd (c ∷ s) r) ⊎ Fell (c ∷ s) (scanReturn (c ∷ s))
-    go true b = inl (drop 2 (c ∷ s), rw b, inr (both (One.one e) (second s (and_both (eqb c.code 13) (starts_with (codes "\n") s) b).1)))
+    go true b = inl (drop 2 (c ∷ s), rw b, inr (both (One.one e) (second s (and-both (eqb c.code 13) (startsWith (codes "\n") s) b).1)))
       where
-        second : (s : Text) → starts_with (codes "\n") s ≡ true → One (isAny "\n") s (drop 1 s)
+        second : (s : Text) → startsWith (codes "\n") s ≡ true → One (isAny "\n") s (drop 1 s)
         second [] e = clash e
-        second (d ∷ s) e = One.one {c = d} {s = s} (rw (and_both (eqb d.code 10) true e).0)
+        second (d ∷ s) e = One.one {c = d} {s = s} (rw (and-both (eqb d.code 10) true e).0)
     go false b = inr (record { number = 1; rest = c ∷ s; found = rw b; met = Met.m1 e (cr-alone (eqb c.code 13) refl e ∙ b) })
 
 clear-by : (s : Text) → opensLine s ≡ false → opensBlock s ≡ false → opensComment s ≡ false
@@ -422,7 +422,7 @@ as-stands n c s _ (Fact.number z e) = go (number-stands n (c ∷ s) e)
         → Scanned n (c ∷ s) (scanNumber (c ∷ s))
     go (inl h) = from-stood n (c ∷ s) _ (comment-clear _ z) h
     go (inr (q, m)) = Scanned.fell (record { number = 6; rest = c ∷ s; found = q; met = m })
-as-stands n c s _ (Fact.word z e) = from-both n (c ∷ s) _ (comment-clear _ z) (word_stands n (c ∷ s) e)
+as-stands n c s _ (Fact.word z e) = from-both n (c ∷ s) _ (comment-clear _ z) (word-stands n (c ∷ s) e)
 as-stands n c s _ (Fact.operator z e) = from-stood n (c ∷ s) _ (comment-clear _ z) (operator-stands n (c ∷ s) e)
 as-stands n c s _ (Fact.backtick z e) = from-both n (c ∷ s) _ (comment-clear _ z) (backtick-stands n (c ∷ s) e)
 as-stands n c s _ (Fact.string z e) = from-both n (c ∷ s) _ (comment-clear _ z) (plain-scan n (c ∷ s) e)
@@ -432,4 +432,4 @@ as-stands n c s _ (Fact.other e) = Scanned.fell (record { number = 3; rest = c �
 -- at every start the scanner finds a piece that stands, or a refusal that is met
 pub scan-stands : (n : ℕ) (c : Char) (s : Text) → Scanned n (c ∷ s) (scan n (c ∷ s))
 unfolding scan
-scan-stands n c s = as-stands n c s (start_of (c ∷ s)) (start-fact (c ∷ s))
+scan-stands n c s = as-stands n c s (startOf (c ∷ s)) (start-fact (c ∷ s))

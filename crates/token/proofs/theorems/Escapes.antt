@@ -7,7 +7,7 @@ use mathlib.Core.Logic.{◌⊎◌, inl, inr}
 use mathlib.Core.List.{[], ◌∷◌}
 use lib.ListN.{drop}
 use native.Mathlib.Omega.{arith}
-use Rattle.chars.specs.paper.Quoted.{codes, one_of}
+use Rattle.chars.specs.paper.Quoted.{codes, oneOf}
 use Rattle.chars.specs.paper.Text.{Char, Text}
 use Rattle.chars.proofs.Bools.{clash}
 use Rattle.chars.proofs.theorems.Promises.{code_laws}
@@ -77,7 +77,7 @@ upto-finds (suc n) k (c ∷ s) = go (isDigit c.code) refl (upto-finds n (suc k) 
 
 -- the tests of the character after a backslash exclude one another
 abbrev pub simple : ℕ → Bool
-simple c = one_of "btnfr'\"]" c
+simple c = oneOf "btnfr'\"]" c
 
 pub simple-no-digit : (c : ℕ) → simple c ≡ true → isDigit c ≡ false
 unfolding isDigit
@@ -90,7 +90,7 @@ digit-no-simple c d = go (simple c) refl
     go true e = clash (sym (simple-no-digit c e) ∙ d)
     go false e = e
 
-pub u-other : (c : ℕ) → one_of "u" c ≡ true → (simple c ≡ false) × (isDigit c ≡ false)
+pub u-other : (c : ℕ) → oneOf "u" c ≡ true → (simple c ≡ false) × (isDigit c ≡ false)
 unfolding isDigit
 u-other c e = (
   not-true (simple c) (carry (λ x. not (simple x)) (codes "u") c refl e),
@@ -104,10 +104,10 @@ unfolding afterSlash
 slash-found s r (Escape.simple (both (One.one e) (One.one f))) = (e, 1, rw f, refl)
 slash-found s r (Escape.digits (both (One.one e) (both (One.one {c} {s = t} f) w))) =
     let h = upto-found 2 1 w in
-    (e, 1 + h.0, rw (digit-no-simple c.code f, f) (ap unbroken h.1), h.2 ∙ one_more h.0 c t)
+    (e, 1 + h.0, rw (digit-no-simple c.code f, f) (ap unbroken h.1), h.2 ∙ one-more h.0 c t)
   where
-    one_more : (m : ℕ) (c : Char) (t : Text) → drop m t ≡ drop (1 + m) (c ∷ t)
-    one_more m c t = let q : 1 + m ≡ suc m = omega arith in rw q
+    one-more : (m : ℕ) (c : Char) (t : Text) → drop m t ≡ drop (1 + m) (c ∷ t)
+    one-more m c t = let q : 1 + m ≡ suc m = omega arith in rw q
 slash-found s r (Escape.hexes (both (One.one e) (both (One.one {c} {s = t} f) w))) =
     let h = hexes-found 4 1 w in
     let o = u-other c.code f in
@@ -128,9 +128,9 @@ pub slash-finds : (s : Text) → backslash s ≡ true → Good s ⊎ Bad s
 unfolding afterSlash begins
 slash-finds [] e = clash e
 slash-finds (b ∷ []) e = inr (record { number = 12; rest = []; found = refl; wrong = BadEscape.e12 (One.one e) })
-slash-finds (b ∷ c ∷ t) e = go (simple c.code) (isDigit c.code) (one_of "u" c.code) refl refl refl
+slash-finds (b ∷ c ∷ t) e = go (simple c.code) (isDigit c.code) (oneOf "u" c.code) refl refl refl
   where
-    hex : simple c.code ≡ false → isDigit c.code ≡ false → one_of "u" c.code ≡ true
+    hex : simple c.code ≡ false → isDigit c.code ≡ false → oneOf "u" c.code ≡ true
         → ((exactHexes 4 1 t ≡ unbroken 5) × Times hexDigit 4 t (drop 4 t)) ⊎ Lacks 4 1 t → Good (b ∷ c ∷ t) ⊎ Bad (b ∷ c ∷ t)
     hex x y z (inl h) = inl (record { count = 5; found = rw (x, y, z) h.0; escape = Escape.hexes (both (One.one e) (both (One.one z) h.1)) })
     hex x y z (inr l) =
@@ -146,7 +146,7 @@ slash-finds (b ∷ c ∷ t) e = go (simple c.code) (isDigit c.code) (one_of "u" 
         let q : 1 + h.0 ≡ suc h.0 = omega arith in
         record { count = suc h.0; found = rw (x, y) (ap unbroken (h.1 ∙ q)); escape = Escape.digits (both (One.one e) (both (One.one y) h.2)) }
 
-    go : (x y z : Bool) → simple c.code ≡ x → isDigit c.code ≡ y → one_of "u" c.code ≡ z → Good (b ∷ c ∷ t) ⊎ Bad (b ∷ c ∷ t)
+    go : (x y z : Bool) → simple c.code ≡ x → isDigit c.code ≡ y → oneOf "u" c.code ≡ z → Good (b ∷ c ∷ t) ⊎ Bad (b ∷ c ∷ t)
     go true y z ex ey ez = inl (record { count = 1; found = rw ex; escape = Escape.simple (both (One.one e) (One.one ex)) })
     go false true z ex ey ez = inl (number ex ey (upto-finds 2 1 t))
     go false false true ex ey ez = hex ex ey ez (hexes-finds 4 1 t)

@@ -9,27 +9,27 @@ use lib.Dec.{eqb}
 use native.Mathlib.Omega.{arith}
 use Rattle.chars.specs.paper.Text.{Text, from}
 use Rattle.chars.specs.computed.Runs.{afterRun}
-use Rattle.chars.specs.paper.Quoted.{one_of}
+use Rattle.chars.specs.paper.Quoted.{oneOf}
 use Rattle.chars.proofs.Bools.{clash}
 use Rattle.chars.proofs.theorems.Promises.{text-laws}
 use Rattle.token.specs.paper.Tests.{isAny, begins, endsLine}
 use Rattle.token.specs.paper.Kinds.{Kind, isComment, isLineEnd}
 use Rattle.token.specs.paper.Shapes.{One, both, LineEnd, HasShape, Stands}
 use Rattle.token.specs.paper.Reading.{Piece, hasPiece, AfterComment, NoEndAfter, Cut}
-use Rattle.token.specs.computed.Flags.{GapKind, fresh, push, cut_of}
+use Rattle.token.specs.computed.Flags.{GapKind, fresh, push, cutOf}
 use Rattle.token.specs.declared.gap.Gap.{Gap}
 use Rattle.token.specs.computed.Answer.{Found, Start, scan, scanReturn}
-use Rattle.token.proofs.Base.{zero_one}
-use Rattle.token.proofs.theorems.Runs.{after_next, after_stop, run-after, run-suffix, after-least}
+use Rattle.token.proofs.Base.{zero-one}
+use Rattle.token.proofs.theorems.Runs.{after-next, after-stop, run-after, run-suffix, after-least}
 use Rattle.token.proofs.theorems.Dispatch.{apart, clear-head, scan-by, starts-blank, starts-lf, starts-cr}
-use Rattle.token.proofs.theorems.Complete.{code_is}
+use Rattle.token.proofs.theorems.Complete.{code-is}
 open text-laws use {suffix-same}
 
 -- ---- lists that end in p
 
-abbrev head_or : Piece → List Piece → Piece
-head_or d [] = d
-head_or d (x ∷ l) = x
+abbrev headOr : Piece → List Piece → Piece
+headOr d [] = d
+headOr d (x ∷ l) = x
 
 no-cons : {A : Type 0} (x : Piece) (l : List Piece) → [] ≡ x ∷ l → A
 no-cons x l e = absurd (let z : ◌≡◌ {A = ℕ} 0 (suc (length l)) = ap length e in omega arith)
@@ -47,7 +47,7 @@ split2 (g ∷ gap) p (x ∷ front) back e = go (split2 gap p front back (ap (dro
     go : (back ≡ []) ⊎ ((b : List Piece) × (back ≡ b ++ (p ∷ [])) × (gap ≡ front ++ b))
         → (back ≡ []) ⊎ ((b : List Piece) × (back ≡ b ++ (p ∷ [])) × ((g ∷ gap) ≡ x ∷ (front ++ b)))
     go (inl h) = inl h
-    go (inr (b, h, k)) = inr (b, h, rw (← k) (ap {B = List Piece} (λ z. z ∷ gap) (ap (head_or g) e)))
+    go (inr (b, h, k)) = inr (b, h, rw (← k) (ap {B = List Piece} (λ z. z ∷ gap) (ap (headOr g) e)))
 
 has-snoc : (t : Kind → Bool) (l : List Piece) (p : Piece) → hasPiece t (l ++ (p ∷ [])) ≡ hasPiece t l || t p.kind
 has-snoc t [] p = go (t p.kind)
@@ -69,9 +69,9 @@ or-true : (b : Bool) → b || true ≡ true
 or-true true = refl
 or-true false = refl
 
-or_left : (a b : Bool) → a || b ≡ false → a ≡ false
-or_left true b e = e
-or_left false b e = refl
+or-left : (a b : Bool) → a || b ≡ false → a ≡ false
+or-left true b e = e
+or-left false b e = refl
 
 -- ---- after-comment marks
 
@@ -107,7 +107,7 @@ mark-blank gap p z y = (there, back)
         go (inr (b, e, k)) =
             let c : hasPiece isComment b ≡ true = sym (or-false _) ∙ sym (ap (λ x. hasPiece isComment b || x) z) ∙ sym (has-snoc isComment b p)
             ∙ sym (ap (hasPiece isComment) e) ∙ h.comment in
-            let d : hasPiece isLineEnd b ≡ false = or_left (hasPiece isLineEnd b) (isLineEnd p.kind)
+            let d : hasPiece isLineEnd b ≡ false = or-left (hasPiece isLineEnd b) (isLineEnd p.kind)
             (sym (has-snoc isLineEnd b p) ∙ sym (ap (hasPiece isLineEnd) e) ∙ h.noEnd) in
             record { front = h.front; back = b; split = k; comment = c; noEnd = d }
 
@@ -129,11 +129,11 @@ cut-back script gap p h = go (split2 gap p h.front (b ∷ h.back) h.split)
 
     by : (c : List Piece) → (b ∷ h.back) ≡ c ++ (p ∷ []) → gap ≡ h.front ++ c → Answer
     by [] e k =
-        let q : b ≡ p = ap (head_or b) e in
+        let q : b ≡ p = ap (headOr b) e in
         let g : gap ≡ h.front = k ∙ append-nil h.front in
         inr (sym (ap (λ (x : Piece). x.kind) q), ap (hasPiece isLineEnd) g ∙ h.after, rw (← q) h.unended)
     by (x ∷ c) e k =
-        let q : b ≡ x = ap (head_or b) e in
+        let q : b ≡ x = ap (headOr b) e in
         inl (record {
           front = h.front;
           back = c;
@@ -178,7 +178,7 @@ end-ends = refl
 plain-ends : (s : Text) → isAny " \t" s ≡ false → isAny "\n" s ≡ false → isAny "\r" s ≡ false → lineEnds s ≡ false
 unfolding begins
 plain-ends [] a b d = end-ends
-plain-ends (c ∷ s) a b d = ap endsLine (after_stop blanks c s a) ∙ go (eqb c.code 10) (eqb c.code 13) refl refl b d
+plain-ends (c ∷ s) a b d = ap endsLine (after-stop blanks c s a) ∙ go (eqb c.code 10) (eqb c.code 13) refl refl b d
   where
     go : (x y : Bool) → eqb c.code 10 ≡ x → eqb c.code 13 ≡ y → x || false ≡ false → y || false ≡ false → endsLine (c ∷ s) ≡ false
     go false false p q e f = rw (p, q)
@@ -207,9 +207,9 @@ pub other-ends : (n : ℕ) (s : Text) → spaces (scan n s) ≡ false → lineEn
 other-ends n s e = go (isAny " \t" s) (isAny "\n" s) (isAny "\r" s) refl refl refl
   where
     go : (x y z : Bool) → isAny " \t" s ≡ x → isAny "\n" s ≡ y → isAny "\r" s ≡ z → lineEnds s ≡ false
-    go true y z p q r = clash (sym e ∙ ap spaces (scan-by n s Start.blank (starts-blank s (clear-head (one_of " \t") refl s p) p)))
-    go false true z p q r = clash (sym e ∙ ap spaces (scan-by n s Start.lf (starts-lf s (clear-head (one_of "\n") refl s q) q)))
-    go false false true p q r = clash (sym e ∙ ap spaces (scan-by n s Start.cr (starts-cr s (clear-head (one_of "\r") refl s r) r)) ∙ return-spaces s)
+    go true y z p q r = clash (sym e ∙ ap spaces (scan-by n s Start.blank (starts-blank s (clear-head (oneOf " \t") refl s p) p)))
+    go false true z p q r = clash (sym e ∙ ap spaces (scan-by n s Start.lf (starts-lf s (clear-head (oneOf "\n") refl s q) q)))
+    go false false true p q r = clash (sym e ∙ ap spaces (scan-by n s Start.cr (starts-cr s (clear-head (oneOf "\r") refl s r) r)) ∙ return-spaces s)
     go false false false p q r = plain-ends s p q r
 
 pub blank-same : (s r : Text) → Stands Kind.blank s r → lineEnds s ≡ lineEnds r
@@ -217,16 +217,16 @@ unfolding Stands HasShape
 blank-same s r h = go h.0
   where
     go : {s r : Text} → One blanks s r → lineEnds s ≡ lineEnds r
-    go (One.one {c} {s} e) = ap endsLine (after_next blanks c s e)
+    go (One.one {c} {s} e) = ap endsLine (after-next blanks c s e)
 
 pub line-end-ends : (s r : Text) → Stands Kind.lineEnd s r → lineEnds s ≡ true
 unfolding Stands HasShape begins
 line-end-ends s r h = go s r h.0
   where
     go : (s r : Text) → LineEnd s r → lineEnds s ≡ true
-    go s r (inl (One.one {c} {s = t} e)) = ap endsLine (after_stop blanks c t (apart " \t" (one_of "\n") refl (c ∷ t) e)) ∙ rw (code_is 10 c.code e)
+    go s r (inl (One.one {c} {s = t} e)) = ap endsLine (after-stop blanks c t (apart " \t" (oneOf "\n") refl (c ∷ t) e)) ∙ rw (code-is 10 c.code e)
     go s r (inr (both (One.one {c} {s = t} e) (One.one {c = d} f))) =
-        ap endsLine (after_stop blanks c t (apart " \t" (one_of "\r") refl (c ∷ t) e)) ∙ rw (code_is 13 c.code e, code_is 10 d.code f)
+        ap endsLine (after-stop blanks c t (apart " \t" (oneOf "\r") refl (c ∷ t) e)) ∙ rw (code-is 13 c.code e, code-is 10 d.code f)
 
 no-end-is : (s : Text) → NoEndAfter s → lineEnds s ≡ false
 no-end-is s (r, l, e) =
@@ -239,7 +239,7 @@ is-no-end : (s : Text) → lineEnds s ≡ false → NoEndAfter s
 is-no-end s e = (afterRun blanks s, (run-after blanks s, λ q w. after-least blanks w), e)
 
 line-no-block : Kind.lineComment ≡ Kind.blockComment → ⊥
-line-no-block e = zero_one (cc)
+line-no-block e = zero-one (cc)
 
 -- ---- the flags
 
@@ -252,10 +252,10 @@ pub record Knows (script : List ℕ) (gap : List Piece) (g : Gap) (s : Text) : T
 iff-of : {P : Type 0} {a b : Bool} → a ≡ b → a ≡ true ↔ P → b ≡ true ↔ P
 iff-of e h = ((λ q. h.0 (e ∙ q)), λ p. sym e ∙ h.1 p)
 
-no_end : (c w e : Bool) → e ≡ false → c || w && not e ≡ c || w
-no_end true w e h = refl
-no_end false true e h = rw h
-no_end false false e h = refl
+no-end : (c w e : Bool) → e ≡ false → c || w && not e ≡ c || w
+no-end true w e h = refl
+no-end false true e h = rw h
+no-end false false e h = refl
 
 yes-end : (c w e : Bool) → e ≡ true → c || w && not e ≡ c || false
 yes-end true w e h = refl
@@ -263,24 +263,24 @@ yes-end false true e h = rw h
 yes-end false false e h = refl
 
 -- the cut, where no line end follows
-pub cut-here : {script : List ℕ} {gap : List Piece} {g : Gap} {s : Text} → Knows script gap g s → lineEnds s ≡ false → cut_of g ≡ true ↔ Cut script gap
-cut-here {g} {s} K h = iff-of (no_end g.cut g.pending (lineEnds s) h) K.cut
+pub cut-here : {script : List ℕ} {gap : List Piece} {g : Gap} {s : Text} → Knows script gap g s → lineEnds s ≡ false → cutOf g ≡ true ↔ Cut script gap
+cut-here {g} {s} K h = iff-of (no-end g.cut g.pending (lineEnds s) h) K.cut
 
-pub knows_fresh : (script : List ℕ) (s : Text) → Knows script [] fresh s
-knows_fresh script s =
+pub knows-fresh : (script : List ℕ) (s : Text) → Knows script [] fresh s
+knows-fresh script s =
     record {
       newline = refl;
       comment = ((λ e. clash e), λ h. clash (nothing h.front h.back h.split h.comment));
-      cut = ((λ e. clash e), λ h. no_front h.front h.back _ h.split);
+      cut = ((λ e. clash e), λ h. no-front h.front h.back _ h.split);
     }
   where
     nothing : (f b : List Piece) → [] ≡ f ++ b → hasPiece isComment b ≡ true → false ≡ true
     nothing [] b e c = ap (hasPiece isComment) e ∙ c
     nothing (x ∷ f) b e c = no-cons x (f ++ b) e
 
-    no_front : (f b : List Piece) (x : Piece) → [] ≡ f ++ (x ∷ b) → false ≡ true
-    no_front [] b x e = no-cons x b e
-    no_front (y ∷ f) b x e = no-cons y (f ++ (x ∷ b)) e
+    no-front : (f b : List Piece) (x : Piece) → [] ≡ f ++ (x ∷ b) → false ≡ true
+    no-front [] b x e = no-cons x b e
+    no-front (y ∷ f) b x e = no-cons y (f ++ (x ∷ b)) e
 
 -- a cut that p, which is no block comment, leaves as it is
 same-cut : (script : List ℕ) (gap : List Piece) (p : Piece) {b : Bool} → b ≡ true ↔ Cut script gap → (p.kind ≡ Kind.blockComment → ⊥)
@@ -315,14 +315,14 @@ module _ (script : List ℕ) (gap : List Piece) (g : Gap) (s : Text) (K : Knows 
         cut = iff-of (yes-end g.cut g.pending (lineEnds s) h) (same-cut script gap p K.cut (λ e. clash (sym (ap isLineEnd e) ∙ y)));
       }
 
-  pub knows_line : p.kind ≡ Kind.lineComment → lineEnds s ≡ false → Knows script (gap ++ (p ∷ [])) (push GapKind.lineComment g) r
-  knows_line q h =
+  pub knows-line : p.kind ≡ Kind.lineComment → lineEnds s ≡ false → Knows script (gap ++ (p ∷ [])) (push GapKind.lineComment g) r
+  knows-line q h =
       let z : isComment p.kind ≡ true = rw q in
       let y : isLineEnd p.kind ≡ false = rw q in
       record {
         newline = keep-newline y;
         comment = ((λ e. mark-comment gap p z y), λ h. refl);
-        cut = iff-of (sym (or-false (cut_of g))) (same-cut script gap p (cut-here K h) (λ e. line-no-block (sym q ∙ e)));
+        cut = iff-of (sym (or-false (cutOf g))) (same-cut script gap p (cut-here K h) (λ e. line-no-block (sym q ∙ e)));
       }
 
   pub knows-block : p.kind ≡ Kind.blockComment → lineEnds s ≡ false → from script p.end ≡ r
@@ -333,10 +333,10 @@ module _ (script : List ℕ) (gap : List Piece) (g : Gap) (s : Text) (K : Knows 
       record {
         newline = keep-newline y;
         comment = ((λ e. mark-comment gap p z y), λ h. refl);
-        cut = ((λ e. there (cut_of g) g.newline (lineEnds r) refl refl refl e), λ h. back (cut-back script gap p h));
+        cut = ((λ e. there (cutOf g) g.newline (lineEnds r) refl refl refl e), λ h. back (cut-back script gap p h));
       }
     where
-      there : (a b c : Bool) → cut_of g ≡ a → g.newline ≡ b → lineEnds r ≡ c → a || b && not c ≡ true → Cut script (gap ++ (p ∷ []))
+      there : (a b c : Bool) → cutOf g ≡ a → g.newline ≡ b → lineEnds r ≡ c → a || b && not c ≡ true → Cut script (gap ++ (p ∷ []))
       there true b c ea eb ec e = cut-keep script gap p ((cut-here K h).0 ea)
       there false true false ea eb ec e =
           record {
@@ -352,9 +352,9 @@ module _ (script : List ℕ) (gap : List Piece) (g : Gap) (s : Text) (K : Knows 
       there false false c ea eb ec e = clash e
 
       back : Cut script gap ⊎ ((p.kind ≡ Kind.blockComment) × (hasPiece isLineEnd gap ≡ true) × NoEndAfter (from script p.end))
-          → cut_of g || g.newline && not (lineEnds r) ≡ true
+          → cutOf g || g.newline && not (lineEnds r) ≡ true
       back (inl c) = rw ((cut-here K h).1 c)
       back (inr (k, l, n)) =
           let a : g.newline ≡ true = K.newline ∙ l in
           let b : lineEnds r ≡ false = no-end-is r (rw t at n) in
-          rw (a, b) (or-true (cut_of g))
+          rw (a, b) (or-true (cutOf g))

@@ -12,14 +12,14 @@ use borrow.Author.Tests.{eqb-true}
 use Rattle.chars.specs.paper.Quoted.{codes}
 use Rattle.chars.specs.paper.Text.{Char, Text}
 use Rattle.chars.specs.computed.Runs.{afterRun}
-use Rattle.chars.proofs.Bools.{clash, and_both}
+use Rattle.chars.proofs.Bools.{clash, and-both}
 use Rattle.chars.proofs.theorems.Promises.{text-laws}
-use Rattle.token.specs.paper.Tests.{isAny, begins, starts_with, opensLine, opensBlock, closesBlock, endOfLine}
+use Rattle.token.specs.paper.Tests.{isAny, begins, startsWith, opensLine, opensBlock, closesBlock, endOfLine}
 use Rattle.token.specs.paper.Shapes.{Shape, One, Run, Times, ◌then◌, both, LineComment, Block, Item, Items}
 use Rattle.token.specs.computed.Flags.{GapKind}
 use Rattle.token.specs.computed.Answer.{Found, scanLine, close, blockOr, scanBlock}
 use Rattle.token.proofs.Base.{no-some}
-use Rattle.token.proofs.theorems.Runs.{after_next, run-after}
+use Rattle.token.proofs.theorems.Runs.{after-next, run-after}
 use Rattle.token.proofs.theorems.Prefixed.{after-fails}
 open text-laws use {run-stays}
 
@@ -27,18 +27,18 @@ open text-laws use {run-stays}
 
 pub pass-run : (p : Text → Bool) {s m : Text} → Run p s m → afterRun p s ≡ afterRun p m
 pass-run p Run.stop = refl
-pass-run p (Run.next {c} {s} e w) = after_next p c s e ∙ pass-run p w
+pass-run p (Run.next {c} {s} e w) = after-next p c s e ∙ pass-run p w
 
 -- ---- two characters
 
 -- a text that begins with two given codes
-pub two-codes : (x y : ℕ) (s : Text) → starts_with (x ∷ y ∷ []) s ≡ true
+pub two-codes : (x y : ℕ) (s : Text) → startsWith (x ∷ y ∷ []) s ≡ true
     → (a : Char) × (b : Char) × (t : Text) × (s ≡ a ∷ b ∷ t) × (a.code ≡ x) × (b.code ≡ y)
 two-codes x y [] e = clash e
-two-codes x y (a ∷ []) e = clash (and_both (eqb a.code x) false e).1
+two-codes x y (a ∷ []) e = clash (and-both (eqb a.code x) false e).1
 two-codes x y (a ∷ b ∷ t) e =
-    let h = and_both (eqb a.code x) (eqb b.code y && true) e in
-    (a, b, t, refl, eqb-true _ _ h.0, eqb-true _ _ (and_both (eqb b.code y) true h.1).0)
+    let h = and-both (eqb a.code x) (eqb b.code y && true) e in
+    (a, b, t, refl, eqb-true _ _ h.0, eqb-true _ _ (and-both (eqb b.code y) true h.1).0)
 
 -- ---- line comments
 
@@ -119,15 +119,15 @@ close-skip d (suc k) (c ∷ s) = close-skip d k s
 open-no-close : (s : Text) → opensBlock s ≡ true → closesBlock s ≡ false
 unfolding begins
 open-no-close [] e = clash e
-open-no-close (c ∷ s) e = let z = eqb-true c.code 47 (and_both (eqb c.code 47) (starts_with (codes "*") s) e).0 in rw z
+open-no-close (c ∷ s) e = let z = eqb-true c.code 47 (and-both (eqb c.code 47) (startsWith (codes "*") s) e).0 in rw z
 
 close-char : (d : ℕ) (c : Char) (s : Text) → opensBlock (c ∷ s) ≡ false → closesBlock (c ∷ s) ≡ false → close d 0 (c ∷ s) ≡ close d 0 s
 unfolding close
 close-char d c s o k = rw (k, o)
 
-close_open : (d : ℕ) {s r : Text} → SlashStar s r → close d 0 s ≡ close (suc d) 0 r
+close-open : (d : ℕ) {s r : Text} → SlashStar s r → close d 0 s ≡ close (suc d) 0 r
 unfolding close
-close_open d o = go o (opening-opens o).0
+close-open d o = go o (opening-opens o).0
   where
     go : {s r : Text} → SlashStar s r → opensBlock s ≡ true → close d 0 s ≡ close (suc d) 0 r
     go (both (One.one {c = a} e) (One.one {c = b} {s} f)) z = rw (open-no-close (a ∷ b ∷ s) z, z) (close-skip (suc d) 0 s)
@@ -139,9 +139,9 @@ close-last k = go k (closing-closes k).0
     go : {s r : Text} → StarSlash s r → closesBlock s ≡ true → close 0 0 s ≡ some r
     go (both (One.one {c = a} e) (One.one {c = b} {s} f)) z = rw z
 
-close_more : (d : ℕ) {s r : Text} → StarSlash s r → close (suc d) 0 s ≡ close d 0 r
+close-more : (d : ℕ) {s r : Text} → StarSlash s r → close (suc d) 0 s ≡ close d 0 r
 unfolding close
-close_more d k = go k (closing-closes k).0
+close-more d k = go k (closing-closes k).0
   where
     go : {s r : Text} → StarSlash s r → closesBlock s ≡ true → close (suc d) 0 s ≡ close d 0 r
     go (both (One.one {c = a} e) (One.one {c = b} {s} f)) z = rw z
@@ -149,7 +149,7 @@ close_more d k = go k (closing-closes k).0
 -- inside of open comments a block comment, an item and items are passed
 mutual
   pass-block : {s r : Text} → Block s r → (d : ℕ) → close d 0 s ≡ close d 0 r
-  pass-block (Block.block o i k) d = close_open d o ∙ pass-items i (suc d) ∙ close_more d k
+  pass-block (Block.block o i k) d = close-open d o ∙ pass-items i (suc d) ∙ close-more d k
 
   pass-item : {s r : Text} → Item s r → (d : ℕ) → close d 0 s ≡ close d 0 r
   pass-item (Item.comment b) d = pass-block b d
@@ -202,16 +202,16 @@ close-finds (suc f) d (c ∷ s) l = go (closesBlock (c ∷ s)) (opensBlock (c �
     char o k (inr (r, q, w)) = inr (r, close-char d c s o k ∙ q, closes-item (Item.char o k) w)
 
     opened : {s t : Text} → SlashStar s t → Outcome (suc d) t → Outcome d s
-    opened o (inl n) = inl (close_open d o ∙ n)
-    opened o (inr (r, q, w)) = inr (r, close_open d o ∙ q, closes-open o w)
+    opened o (inl n) = inl (close-open d o ∙ n)
+    opened o (inr (r, q, w)) = inr (r, close-open d o ∙ q, closes-open o w)
 
     shut : (d : ℕ) {s t : Text} → StarSlash s t → ((e : ℕ) → Outcome e t) → Outcome d s
     shut zero {t} k below = inr (t, close-last k, Closes.last Items.done k)
     shut (suc d) {s} {t} k below = by (below d)
       where
         by : Outcome d t → Outcome (suc d) s
-        by (inl n) = inl (close_more d k ∙ n)
-        by (inr (r, q, w)) = inr (r, close_more d k ∙ q, Closes.more Items.done k w)
+        by (inl n) = inl (close-more d k ∙ n)
+        by (inr (r, q, w)) = inr (r, close-more d k ∙ q, Closes.more Items.done k w)
 
     go : (x y : Bool) → closesBlock (c ∷ s) ≡ x → opensBlock (c ∷ s) ≡ y → Below → Outcome d (c ∷ s)
     go true y ex ey below = shut d (closing (c ∷ s) ex) (λ e. below e (drop 1 s) (simp length-drop (omega arith)))

@@ -7,21 +7,21 @@ use mathlib.Core.Logic.{inl, inr}
 use mathlib.Core.List.{List, [], ◌∷◌}
 use lib.Dec.{eqb}
 use borrow.Author.Tests.{eqb-true}
-use Rattle.chars.specs.paper.Quoted.{codes, one_of}
+use Rattle.chars.specs.paper.Quoted.{codes, oneOf}
 use Rattle.chars.specs.paper.Classes.{isIdStart}
 use Rattle.chars.specs.paper.Text.{Char, Text, headIs}
-use Rattle.chars.proofs.Bools.{clash, and_both}
+use Rattle.chars.proofs.Bools.{clash, and-both}
 use Rattle.chars.specs.promises.Codes.{every}
 use Rattle.chars.proofs.theorems.Promises.{code_laws}
 use Rattle.token.proofs.Classes.{slash-sign}
-use Rattle.token.specs.paper.Tests.{isAny, begins, starts_with, opensComment, quote, digit, opSign, freeSign, apostrophe}
+use Rattle.token.specs.paper.Tests.{isAny, begins, startsWith, opensComment, quote, digit, opSign, freeSign, apostrophe}
 use Rattle.token.specs.paper.Kinds.{Kind, TokenType}
 use Rattle.token.specs.paper.Shapes.{One, both, Ident, Operator, Backtick, Prefix, Str, TokenShape, HasShape}
 use Rattle.token.specs.paper.Refusals.{StartsShape, Met}
 use Rattle.token.specs.computed.Answer.{starts}
 use Rattle.token.proofs.theorems.Runs.{run1-found}
 use Rattle.token.proofs.theorems.Gaps.{line-found, block-found}
-use Rattle.token.proofs.theorems.Numbers.{one_found, text-found}
+use Rattle.token.proofs.theorems.Numbers.{one-found, text-found}
 use Rattle.token.proofs.theorems.Idents.{ident-found}
 use Rattle.token.proofs.theorems.Strings.{body-found}
 use Rattle.token.proofs.theorems.Prefixed.{backtick-found}
@@ -45,11 +45,11 @@ module _ (s : Text) where
   by-digit : digit s ≡ true → starts s ≡ true
   by-digit e = rw (e, or-true)
 
-  by_word : headIs isIdStart s ≡ true → starts s ≡ true
-  by_word e = rw (e, or-true)
+  by-word : headIs isIdStart s ≡ true → starts s ≡ true
+  by-word e = rw (e, or-true)
 
-  by_sign : opSign s ≡ true → starts s ≡ true
-  by_sign e = rw (e, or-true)
+  by-sign : opSign s ≡ true → starts s ≡ true
+  by-sign e = rw (e, or-true)
 
   by-backtick : isAny "`" s ≡ true → starts s ≡ true
   by-backtick e = rw (e, or-true)
@@ -61,15 +61,15 @@ module _ (s : Text) where
   by-apostrophe e = rw (e, or-true)
 
 -- a comment begins with an operator sign
-slash : (t : List ℕ) (s : Text) → starts_with (47 ∷ t) s ≡ true → opSign s ≡ true
+slash : (t : List ℕ) (s : Text) → startsWith (47 ∷ t) s ≡ true → opSign s ≡ true
 slash t [] e = clash e
-slash t (c ∷ s) e = rw (eqb-true c.code 47 (and_both (eqb c.code 47) (starts_with t s) e).0) slash-sign
+slash t (c ∷ s) e = rw (eqb-true c.code 47 (and-both (eqb c.code 47) (startsWith t s) e).0) slash-sign
 
 ident-starts : (s r : Text) → Ident s r → starts s ≡ true
-ident-starts s r h = by_word s (ident-found s r h).0
+ident-starts s r h = by-word s (ident-found s r h).0
 
 operator-starts : (s r : Text) → Operator s r → starts s ≡ true
-operator-starts s r h = by_sign s (and_both (opSign s) (not (opensComment s)) (run1-found freeSign h).0).0
+operator-starts s r h = by-sign s (and-both (opSign s) (not (opensComment s)) (run1-found freeSign h).0).0
 
 backtick-starts : (s r : Text) → Backtick s r → starts s ≡ true
 backtick-starts s r h = by-backtick s (backtick-found s r h).0
@@ -82,8 +82,8 @@ str-starts : (s r : Text) → Str s r → starts s ≡ true
 str-starts s r (inl b) = by-quote s (body-found false s r b).0
 str-starts s r (inr (both {m} p b)) = prefix-starts s m p
 
-single-starts : (t : String) → every (one_of "()[]{},;.") (codes t) ≡ true → (s r : Text) → One (isAny t) s r → starts s ≡ true
-single-starts t h s r (One.one {c} e) = by-single s (carry (one_of "()[]{},;.") (codes t) c.code h e)
+single-starts : (t : String) → every (oneOf "()[]{},;.") (codes t) ≡ true → (s r : Text) → One (isAny t) s r → starts s ≡ true
+single-starts t h s r (One.one {c} e) = by-single s (carry (oneOf "()[]{},;.") (codes t) c.code h e)
 
 token-starts : (y : TokenType) (s r : Text) → TokenShape y s r → starts s ≡ true
 unfolding TokenShape
@@ -108,22 +108,22 @@ token-starts (TokenType.key k) s r (inr h) = operator-starts s r h.0
 
 pub shape-starts : (k : Kind) (s r : Text) → HasShape k s r → starts s ≡ true
 unfolding HasShape begins
-shape-starts Kind.blank s r h = by-blank s (one_found (isAny " \t") s r h).0
-shape-starts Kind.lineEnd s r (inl o) = by-lf s (one_found (isAny "\n") s r o).0
-shape-starts Kind.lineEnd s r (inr (both {m} a b)) = by-cr s (one_found (isAny "\r") s m a).0
-shape-starts Kind.lineComment s r h = by_sign s (slash (codes "/") s (line-found s r h).0)
-shape-starts Kind.blockComment s r h = by_sign s (slash (codes "*") s (block-found s r h).0)
+shape-starts Kind.blank s r h = by-blank s (one-found (isAny " \t") s r h).0
+shape-starts Kind.lineEnd s r (inl o) = by-lf s (one-found (isAny "\n") s r o).0
+shape-starts Kind.lineEnd s r (inr (both {m} a b)) = by-cr s (one-found (isAny "\r") s m a).0
+shape-starts Kind.lineComment s r h = by-sign s (slash (codes "/") s (line-found s r h).0)
+shape-starts Kind.blockComment s r h = by-sign s (slash (codes "*") s (block-found s r h).0)
 shape-starts (Kind.token y) s r h = token-starts y s r h
 
 -- ---- as declared: with what is no start no shape starts
 
 -- the test is one of the first character's code
-same_start : (c d : Char) (s t : Text) → d.code ≡ c.code → starts (d ∷ t) ≡ starts (c ∷ s)
+same-start : (c d : Char) (s t : Text) → d.code ≡ c.code → starts (d ∷ t) ≡ starts (c ∷ s)
 unfolding begins
-same_start c d s t e = rw e
+same-start c d s t e = rw e
 
 pub declared-starts : (c : Char) (s : Text) → StartsShape c.code → starts (c ∷ s) ≡ true
-declared-starts c s (StartsShape.shape k d t r e h) = sym (same_start c d s t e) ∙ shape-starts k (d ∷ t) r h
+declared-starts c s (StartsShape.shape k d t r e h) = sym (same-start c d s t e) ∙ shape-starts k (d ∷ t) r h
 
 pub no-start-met : (c : Char) (s : Text) → starts (c ∷ s) ≡ false → Met (c ∷ s) 3 (c ∷ s)
 no-start-met c s e = Met.m3 refl (go (isAny "\r" (c ∷ s)) refl) (λ h. clash (sym e ∙ declared-starts c s h))

@@ -7,7 +7,7 @@ use mathlib.Core.List.{[], ◌∷◌}
 use mathlib.Core.Option.{Option, none, some}
 use lib.ListN.{length, drop}
 use native.Mathlib.Omega.{arith}
-use Rattle.chars.specs.paper.Quoted.{one_of}
+use Rattle.chars.specs.paper.Quoted.{oneOf}
 use Rattle.chars.specs.paper.Text.{Char, Text, headIs, idChar}
 use Rattle.chars.specs.computed.Runs.{afterRun}
 use Rattle.chars.specs.paper.Classes.{isIdStart, isIdChar}
@@ -16,8 +16,8 @@ use Rattle.chars.specs.promises.Texts.{Suffix}
 use Rattle.chars.proofs.theorems.Promises.{text-laws, class-laws}
 use Rattle.token.proofs.Classes.{under-no-id, sign-no-under}
 use Rattle.token.specs.paper.Tests.{isAny, opSign, quote}
-use Rattle.token.specs.paper.Kinds.{TokenType, word_of}
-use Rattle.token.specs.paper.Shapes.{One, Run, Run1, ◌then◌, both, Chunks, Tail, Ident, codes_of, TokenShape}
+use Rattle.token.specs.paper.Kinds.{TokenType, wordOf}
+use Rattle.token.specs.paper.Shapes.{One, Run, Run1, ◌then◌, both, Chunks, Tail, Ident, codesOf, TokenShape}
 use Rattle.token.specs.paper.Reading.{Valued}
 use Rattle.token.specs.computed.Answer.{Found, afterIdent, codesTo, orPrefixed, wordOr, scanIdent}
 use Rattle.token.specs.declared.kinds.Kw.{Kw}
@@ -25,11 +25,11 @@ use Rattle.token.specs.declared.kinds.TokenKind.TheVariants as tk
 use Rattle.token.proofs.Base.{no-some}
 use Rattle.token.proofs.theorems.Runs.{run-after, run-suffix, after-least, run1-run}
 use Rattle.token.proofs.theorems.Operators.{Stood}
-open text-laws use {suffix_refl, suffix_trans, suffix-same}
+open text-laws use {suffix-refl, suffix-trans, suffix-same}
 open class-laws use {sign-no-id}
 
 abbrev isUnder : ℕ → Bool
-isUnder c = one_of "_" c
+isUnder c = oneOf "_" c
 
 abbrev under : Text → Bool
 under s = isAny "_" s
@@ -38,9 +38,9 @@ under s = isAny "_" s
 abbrev turn : Bool → Bool → Bool → Char → Text → Text
 turn a b u c s = cond a (afterIdent false s) (cond b (afterIdent true s) (cond u (afterRun opSign (c ∷ s)) (c ∷ s)))
 
-after_turn : (u : Bool) (c : Char) (s : Text) → afterIdent u (c ∷ s) ≡ turn (isIdChar c.code) (isUnder c.code) u c s
+after-turn : (u : Bool) (c : Char) (s : Text) → afterIdent u (c ∷ s) ≡ turn (isIdChar c.code) (isUnder c.code) u c s
 unfolding afterIdent
-after_turn u c s = refl
+after-turn u c s = refl
 
 -- chunks, then the tail
 abbrev Rest : Text → Text → Type 0
@@ -50,15 +50,15 @@ Rest s r = (Chunks then Tail) s r
 abbrev Under : Text → Type 0
 Under s = (t : Text) → Run1 under t s → Rest t (afterIdent true s)
 
-run_more : (p : Text → Bool) {t s : Text} {c : Char} → Run p t (c ∷ s) → p (c ∷ s) ≡ true → Run p t s
-run_more p {t} {s} {c} h e = go t (c ∷ s) h refl
+run-more : (p : Text → Bool) {t s : Text} {c : Char} → Run p t (c ∷ s) → p (c ∷ s) ≡ true → Run p t s
+run-more p {t} {s} {c} h e = go t (c ∷ s) h refl
   where
     go : (t r : Text) → Run p t r → r ≡ c ∷ s → Run p t s
     go t r Run.stop q = rw q (Run.next e Run.stop)
     go t r (Run.next f w) q = Run.next f (go _ _ w q)
 
 run1-more : (p : Text → Bool) {t s : Text} {c : Char} → Run1 p t (c ∷ s) → p (c ∷ s) ≡ true → Run1 p t s
-run1-more p (Run1.run f w) e = Run1.run f (run_more p w e)
+run1-more p (Run1.run f w) e = Run1.run f (run-more p w e)
 
 -- one more id character in front, after zero or more `_`
 grow : {t s r : Text} {c : Char} → Run under t (c ∷ s) → isIdChar c.code ≡ true → Rest s r → Rest t r
@@ -68,8 +68,8 @@ grow a e (both k w) = both (Chunks.chunk (both a (Run1.run e Run.stop)) k) w
 finds : (s : Text) → Rest s (afterIdent false s) × Under s
 finds [] = unfold afterIdent in (both Chunks.done (inl refl), λ t w. both Chunks.done (inr (both w Run.stop)))
 finds (c ∷ s) = (
-  rw after_turn (plain (isIdChar c.code) (isUnder c.code) refl refl (finds s)),
-  λ t w. rw after_turn (inside (isIdChar c.code) (isUnder c.code) refl refl t w (finds s)),
+  rw after-turn (plain (isIdChar c.code) (isUnder c.code) refl refl (finds s)),
+  λ t w. rw after-turn (inside (isIdChar c.code) (isUnder c.code) refl refl t w (finds s)),
 )
   where
     plain : (a b : Bool) → isIdChar c.code ≡ a → isUnder c.code ≡ b → Rest s (afterIdent false s) × Under s → Rest (c ∷ s) (turn a b false c s)
@@ -86,11 +86,11 @@ finds (c ∷ s) = (
 -- how the automaton passes each part
 pass-id : (u : Bool) {s r : Text} → Run idChar s r → (v : Bool) × (afterIdent u s ≡ afterIdent v r)
 pass-id u Run.stop = (u, refl)
-pass-id u (Run.next {c} {s} e w) = let h = pass-id false w in (h.0, after_turn u c s ∙ rw e h.1)
+pass-id u (Run.next {c} {s} e w) = let h = pass-id false w in (h.0, after-turn u c s ∙ rw e h.1)
 
 pass-under : (u : Bool) {s r : Text} → Run under s r → (v : Bool) × (afterIdent u s ≡ afterIdent v r)
 pass-under u Run.stop = (u, refl)
-pass-under u (Run.next {c} {s} e w) = let h = pass-under true w in (h.0, after_turn u c s ∙ rw (under-no-id c.code e, e) h.1)
+pass-under u (Run.next {c} {s} e w) = let h = pass-under true w in (h.0, after-turn u c s ∙ rw (under-no-id c.code e, e) h.1)
 
 pass-chunk : (u : Bool) {s m : Text} → (Run under then Run1 idChar) s m → (v : Bool) × (afterIdent u s ≡ afterIdent v m)
 pass-chunk u (both a w) =
@@ -107,15 +107,15 @@ pass-chunks u (Chunks.chunk a k) =
 
 under-keeps : {s r : Text} → Run under s r → afterIdent true s ≡ afterIdent true r
 under-keeps Run.stop = refl
-under-keeps (Run.next {c} {s} e w) = after_turn true c s ∙ rw (under-no-id c.code e, e) (under-keeps w)
+under-keeps (Run.next {c} {s} e w) = after-turn true c s ∙ rw (under-no-id c.code e, e) (under-keeps w)
 
 under-word : (u : Bool) {s r : Text} → Run1 under s r → afterIdent u s ≡ afterIdent true r
-under-word u (Run1.run {c} {s} e w) = after_turn u c s ∙ rw (under-no-id c.code e, e) (under-keeps w)
+under-word u (Run1.run {c} {s} e w) = after-turn u c s ∙ rw (under-no-id c.code e, e) (under-keeps w)
 
 after-shorter : (u : Bool) (s : Text) → length (afterIdent u s) ≤ length s
 unfolding afterIdent
 after-shorter u [] = omega arith
-after-shorter u (c ∷ s) = rw after_turn (go (isIdChar c.code) (isUnder c.code) u (after-shorter true s) (after-shorter false s))
+after-shorter u (c ∷ s) = rw after-turn (go (isIdChar c.code) (isUnder c.code) u (after-shorter true s) (after-shorter false s))
   where
     go : (a b u : Bool) → length (afterIdent true s) ≤ length s → length (afterIdent false s) ≤ length s → length (turn a b u c s) ≤ length (c ∷ s)
     go true b u h k = omega arith
@@ -125,7 +125,7 @@ after-shorter u (c ∷ s) = rw after_turn (go (isIdChar c.code) (isUnder c.code)
 
 signs-least : {s r : Text} → Run opSign s r → length (afterIdent true s) ≤ length r
 signs-least {s} Run.stop = after-shorter true s
-signs-least (Run.next {c} {s} e w) = rw (after_turn, sign-no-id c.code e, sign-no-under c.code e) (after-least opSign (Run.next e w))
+signs-least (Run.next {c} {s} e w) = rw (after-turn, sign-no-id c.code e, sign-no-under c.code e) (after-least opSign (Run.next e w))
 
 tail-least : (u : Bool) (s r : Text) → Tail s r → length (afterIdent u s) ≤ length r
 tail-least u s r (inl e) = rw (← e) (after-shorter u s)
@@ -135,18 +135,18 @@ rest-least : (s r : Text) → Rest s r → length (afterIdent false s) ≤ lengt
 rest-least s r (both {m} k t) = let x = pass-chunks false k in rw x.1 (tail-least x.0 m r t)
 
 chunk-suffix : {s m : Text} → (Run under then Run1 idChar) s m → Suffix m s
-chunk-suffix (both a w) = suffix_trans (run-suffix idChar (run1-run idChar w)) (run-suffix under a)
+chunk-suffix (both a w) = suffix-trans (run-suffix idChar (run1-run idChar w)) (run-suffix under a)
 
 chunks-suffix : {s r : Text} → Chunks s r → Suffix r s
-chunks-suffix Chunks.done = suffix_refl _
-chunks-suffix (Chunks.chunk a k) = suffix_trans (chunks-suffix k) (chunk-suffix a)
+chunks-suffix Chunks.done = suffix-refl _
+chunks-suffix (Chunks.chunk a k) = suffix-trans (chunks-suffix k) (chunk-suffix a)
 
 tail-suffix : (s r : Text) → Tail s r → Suffix r s
-tail-suffix s r (inl e) = rw e (suffix_refl r)
-tail-suffix s r (inr (both w k)) = suffix_trans (run-suffix opSign k) (run-suffix under (run1-run under w))
+tail-suffix s r (inl e) = rw e (suffix-refl r)
+tail-suffix s r (inr (both w k)) = suffix-trans (run-suffix opSign k) (run-suffix under (run1-run under w))
 
 pub rest-suffix : (s r : Text) → Rest s r → Suffix r s
-rest-suffix s r (both {m} k t) = suffix_trans (tail-suffix m r t) (chunks-suffix k)
+rest-suffix s r (both {m} k t) = suffix-trans (tail-suffix m r t) (chunks-suffix k)
 
 -- the shape of an identifier, taken apart
 pub start-rest : (s r : Text) → (One (headIs isIdStart) then Chunks then Tail) s r → (headIs isIdStart s ≡ true) × Rest (drop 1 s) r
@@ -167,7 +167,7 @@ ident-found s r h =
 
 -- ---- the token
 
-pub scan-ident : (n : ℕ) (s : Text) → scanIdent n s ≡ wordOr n s (afterIdent false (drop 1 s)) (word_of (codes_of s (afterIdent false (drop 1 s))))
+pub scan-ident : (n : ℕ) (s : Text) → scanIdent n s ≡ wordOr n s (afterIdent false (drop 1 s)) (wordOf (codesOf s (afterIdent false (drop 1 s))))
 unfolding scanIdent codesTo
 scan-ident n s = refl
 
@@ -178,7 +178,7 @@ plain-ident-found n s r h =
     let q = ident-found s r h.0.0 in
     (q.0, scan-ident n s ∙ rw (← q.1) (rw (h.0.1, h.1)))
 
-pub word-key-found : (n : ℕ) (s r : Text) (k : Kw) → Ident s r → word_of (codes_of s r) ≡ some k
+pub word-key-found : (n : ℕ) (s r : Text) (k : Kw) → Ident s r → wordOf (codesOf s r) ≡ some k
     → (headIs isIdStart s ≡ true) × (scanIdent n s ≡ Found.token (tk.Kw k) r)
 word-key-found n s r k h e =
     let q = ident-found s r h in
@@ -186,10 +186,10 @@ word-key-found n s r k h e =
 
 -- where no quote follows, what it finds stands
 pub ident-stands : (n : ℕ) (s : Text) → headIs isIdStart s ≡ true
-    → (quote (afterIdent false (drop 1 s)) ≡ false) ⊎ ((k : Kw) × (word_of (codes_of s (afterIdent false (drop 1 s))) ≡ some k))
+    → (quote (afterIdent false (drop 1 s)) ≡ false) ⊎ ((k : Kw) × (wordOf (codesOf s (afterIdent false (drop 1 s))) ≡ some k))
     → Stood n s (scanIdent n s)
 unfolding TokenShape orPrefixed
-ident-stands n s e o = go (word_of (codes_of s r)) refl o
+ident-stands n s e o = go (wordOf (codesOf s r)) refl o
   where
     r : Text
     r = afterIdent false (drop 1 s)
@@ -197,7 +197,7 @@ ident-stands n s e o = go (word_of (codes_of s r)) refl o
     id : Ident s r
     id = ident-finds s e
 
-    go : (w : Option Kw) → word_of (codes_of s r) ≡ w → (quote r ≡ false) ⊎ ((k : Kw) × (word_of (codes_of s r) ≡ some k)) → Stood n s (scanIdent n s)
+    go : (w : Option Kw) → wordOf (codesOf s r) ≡ w → (quote r ≡ false) ⊎ ((k : Kw) × (wordOf (codesOf s r) ≡ some k)) → Stood n s (scanIdent n s)
     go none f (inl q) =
         record {
           type = TokenType.ident;

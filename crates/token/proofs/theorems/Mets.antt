@@ -8,22 +8,22 @@ use lib.ListN.{length, drop}
 use lib.Dec.{eqb, leb, ltb}
 use native.Mathlib.Omega.{arith}
 use borrow.Author.Tests.{eqb-true, leb-true, ltb-true, ltb-false, not-true}
-use Rattle.chars.specs.paper.Quoted.{between, one_of}
+use Rattle.chars.specs.paper.Quoted.{between, oneOf}
 use Rattle.chars.specs.paper.Classes.{isIdStart, isOpSign}
 use Rattle.chars.specs.paper.Text.{Char, Text, headIs}
 use Rattle.chars.specs.computed.Runs.{afterRun}
-use Rattle.chars.proofs.Bools.{clash, and_both}
+use Rattle.chars.proofs.Bools.{clash, and-both}
 use Rattle.chars.specs.promises.Texts.{Suffix}
 use Rattle.chars.proofs.theorems.Promises.{text-laws}
 use Rattle.token.proofs.Classes.{slash-sign, slash-no-start}
 use Rattle.token.specs.paper.Tests.{isDigit, isHexDigit, isAny, begins, quote, threeQuotes, backslash, dollarBrace, digit, hexDigit, opSign, freeSign, notBacktick, apostrophe}
-use Rattle.token.specs.paper.Shapes.{One, Run, Times, both, Single, single_char, tripleChar, Block, Name}
+use Rattle.token.specs.paper.Shapes.{One, Run, Times, both, Single, singleChar, tripleChar, Block, Name}
 use Rattle.token.specs.paper.Refusals.{BadEscape, Opens, InSingle, InTriple, WithinSingle, Met, GivesWay, First}
 use Rattle.token.specs.computed.Flags.{GapKind}
-use Rattle.token.specs.computed.Answer.{Found, Start, start_of, starts, scan, scanReturn, scanBlock, scanString, plain_of, escapedOf, scanCharSym, afterIdent, broken, exactHexes, afterSlash, wrong, closePlain, closePrefixed, closeTriple, closeString}
+use Rattle.token.specs.computed.Answer.{Found, Start, startOf, starts, scan, scanReturn, scanBlock, scanString, plainOf, escapedOf, scanCharSym, afterIdent, broken, exactHexes, afterSlash, wrong, closePlain, closePrefixed, closeTriple, closeString}
 use Rattle.token.specs.declared.kinds.TokenKind.TheVariants as tk
 use Rattle.token.proofs.theorems.Runs.{run1-finds, run-suffix}
-use Rattle.token.proofs.theorems.Numbers.{one-drop, one_found, text-found, six-found}
+use Rattle.token.proofs.theorems.Numbers.{one-drop, one-found, text-found, six-found}
 use Rattle.token.proofs.theorems.Idents.{ident-found, ident-finds, scan-ident}
 use Rattle.token.proofs.theorems.Escapes.{slash-found, slash-finds, Good, Bad, u-other, simple}
 use Rattle.token.proofs.theorems.Ticks.{Fell, scan-tick, char-stands, charAhead, semiAhead}
@@ -33,7 +33,7 @@ use Rattle.token.proofs.theorems.Shorter.{one-strict, times-suffix, escape-suffi
 use Rattle.token.proofs.theorems.Gaps.{pass-run, block-stands}
 use Rattle.token.proofs.theorems.Starts.{starts-declared}
 use Rattle.token.proofs.theorems.Dispatch.{clear-head, Clear, or-false, quote-any, scan-by, starts-block, starts-cr, starts-number, starts-word, starts-backtick, starts-string, starts-tick}
-open text-laws use {suffix_refl, suffix-cons, suffix_trans, suffix-same}
+open text-laws use {suffix-refl, suffix-cons, suffix-trans, suffix-same}
 
 -- a class without `/` opens no comment
 clear-digit : (s : Text) → digit s ≡ true → Clear s
@@ -44,7 +44,7 @@ clear-word : (s : Text) → headIs isIdStart s ≡ true → Clear s
 clear-word s e = clear-head isIdStart slash-no-start s e
 
 clear-quote : (s : Text) → quote s ≡ true → Clear s
-clear-quote s e = clear-head (one_of "\"") refl s (sym (quote-any s) ∙ e)
+clear-quote s e = clear-head (oneOf "\"") refl s (sym (quote-any s) ∙ e)
 
 -- ---- 12 to 14
 
@@ -60,13 +60,13 @@ hexes-lack (suc m) k (Times.more {n} {c} {s} f w) l e = rw f (hexes-lack m (suc 
 
 bad-found : (b q : Text) (j : ℕ) → BadEscape b j q → (backslash b ≡ true) × (afterSlash (drop 1 b) ≡ broken j q)
 unfolding afterSlash
-bad-found b q j (BadEscape.e12 o) = let h = one_found backslash b [] o in (h.0, rw (← h.1))
+bad-found b q j (BadEscape.e12 o) = let h = one-found backslash b [] o in (h.0, rw (← h.1))
 bad-found b q j (BadEscape.e13 n l (both (One.one e) (both (One.one {c} f) w)) z) =
     let o = u-other c.code f in
     (e, rw (o.0, o.1, f) (hexes-lack 4 1 w l z))
 bad-found b q j (BadEscape.e14 {c} {r} o z) =
-    let h = one_found backslash b (c ∷ r) o in
-    let x = or-false (simple c.code || isDigit c.code) (one_of "u" c.code) z in
+    let h = one-found backslash b (c ∷ r) o in
+    let x = or-false (simple c.code || isDigit c.code) (oneOf "u" c.code) z in
     let y = or-false (simple c.code) (isDigit c.code) x.0 in
     (h.0, rw (← h.1) (rw (y.0, y.1, x.1)))
 
@@ -77,13 +77,13 @@ unfolding scanString
 wrong-scan n false s o q j (h, e) w =
     let e' : quote s ≡ true = rw h e in
     let w' : closeString false s ≡ wrong j q = rw h w in
-    scan-by n s Start.string (starts-string s (clear-quote s e') e') ∙ ap (plain_of n s) w'
+    scan-by n s Start.string (starts-string s (clear-quote s e') e') ∙ ap (plainOf n s) w'
 wrong-scan n true s o q j (inl h, e) w =
     let k = ident-found s o h.0 in
     scan-by n s Start.word (starts-word s (clear-word s k.0) k.0) ∙ scan-ident n s ∙ rw (← k.1) (rw h.1 (or-string n tk.Ident s o e ∙ rw w))
 wrong-scan n true s o q j (inr h, e) w =
     let k = backtick-found s o h in
-    scan-by n s Start.backtick (starts-backtick s (clear-head (one_of "`") refl s k.0) k.0) ∙ k.1 n ∙ or-string n tk.BacktickId s o e ∙ rw w
+    scan-by n s Start.backtick (starts-backtick s (clear-head (oneOf "`") refl s k.0) k.0) ∙ k.1 n ∙ or-string n tk.BacktickId s o e ∙ rw w
 
 -- ---- the first in a string
 
@@ -92,12 +92,12 @@ data Past (i : ℕ) (q m : Text) : Type 0 where
   right : length m < length q → Past i q m
   tie : between 12 14 i ≡ true → m ≡ q → Past i q m
 
-past_of : (i : ℕ) {q m : Text} → between 12 14 i ≡ true → Suffix m q → Past i q m
-past_of i {q} {m} e h = go (ltb (length m) (length q)) refl
+past-of : (i : ℕ) {q m : Text} → between 12 14 i ≡ true → Suffix m q → Past i q m
+past-of i {q} {m} e h = go (ltb (length m) (length q)) refl
   where
     go : (b : Bool) → ltb (length m) (length q) ≡ b → Past i q m
     go true l = Past.right (ltb-true (length m) (length q) l)
-    go false l = let a = ltb-false (length m) (length q) l in let b = h.within in Past.tie e (suffix-same h (suffix_refl q) (omega arith))
+    go false l = let a = ltb-false (length m) (length q) l in let b = h.within in Past.tie e (suffix-same h (suffix-refl q) (omega arith))
 
 -- where 7, 8 and 12 to 14 are met: at the end, at an LF and from a backslash on
 abbrev stops : Text → Bool
@@ -113,22 +113,22 @@ slash-stops [] e = refl
 slash-stops (c ∷ s) e = ap (λ x. isAny "\n" (c ∷ s) || x) e ∙ or-true (isAny "\n" (c ∷ s))
 
 -- a class without LF and backslash does not stop
-no_stop : (p : ℕ → Bool) → p 10 ≡ false → p 92 ≡ false → (c : Char) (s : Text) → p c.code ≡ true → stops (c ∷ s) ≡ false
+no-stop : (p : ℕ → Bool) → p 10 ≡ false → p 92 ≡ false → (c : Char) (s : Text) → p c.code ≡ true → stops (c ∷ s) ≡ false
 unfolding begins
-no_stop p x y c s e = go (eqb c.code 10) (eqb c.code 92) refl refl
+no-stop p x y c s e = go (eqb c.code 10) (eqb c.code 92) refl refl
   where
     go : (a b : Bool) → eqb c.code 10 ≡ a → eqb c.code 92 ≡ b → stops (c ∷ s) ≡ false
     go true b q r = clash (sym x ∙ sym (ap p (eqb-true c.code 10 q)) ∙ e)
     go false true q r = clash (sym y ∙ sym (ap p (eqb-true c.code 92 r)) ∙ e)
     go false false q r = rw (q, r)
 
-no_slash : (c : Char) (s : Text) → stops (c ∷ s) ≡ false → backslash (c ∷ s) ≡ false
-no_slash c s e = (or-false (isAny "\n" (c ∷ s)) (backslash (c ∷ s)) e).1
+no-slash : (c : Char) (s : Text) → stops (c ∷ s) ≡ false → backslash (c ∷ s) ≡ false
+no-slash c s e = (or-false (isAny "\n" (c ∷ s)) (backslash (c ∷ s)) e).1
 
 pub within-suffix : {p : Bool} {s m : Text} → WithinSingle p s m → Suffix m s
-within-suffix WithinSingle.here = suffix_refl _
+within-suffix WithinSingle.here = suffix-refl _
 within-suffix (WithinSingle.char {c} e b w) = suffix-cons c (within-suffix w)
-within-suffix (WithinSingle.escape e w) = suffix_trans (within-suffix w) (escape-suffix e)
+within-suffix (WithinSingle.escape e w) = suffix-trans (within-suffix w) (escape-suffix e)
 within-suffix (WithinSingle.wrong-escape {c} e n w) = suffix-cons c (within-suffix w)
 
 -- a character that does not stop is passed
@@ -138,19 +138,19 @@ step c s e h w = go w refl h
     go : {t m : Text} → WithinSingle false t m → t ≡ c ∷ s → stops m ≡ true → WithinSingle false s m
     go WithinSingle.here q h = clash (sym e ∙ sym (ap stops q) ∙ h)
     go (WithinSingle.char x b w) q h = rw (← ap (drop 1) q) w
-    go (WithinSingle.escape {s = t} {m = k} x w) q h = clash (sym (no_slash c s e) ∙ sym (ap backslash q) ∙ (slash-found t k x).0)
+    go (WithinSingle.escape {s = t} {m = k} x w) q h = clash (sym (no-slash c s e) ∙ sym (ap backslash q) ∙ (slash-found t k x).0)
     go (WithinSingle.wrong-escape x n w) q h = rw (← ap (drop 1) q) w
 
 times-past : {n : ℕ} {t q m : Text} → Times hexDigit n t q → WithinSingle false t m → stops m ≡ true → Suffix m q
 unfolding isHexDigit isDigit
 times-past Times.done w h = within-suffix w
-times-past (Times.more {c} {s} e v) w h = times-past v (step c s (no_stop isHexDigit refl refl c s e) h w) h
+times-past (Times.more {c} {s} e v) w h = times-past v (step c s (no-stop isHexDigit refl refl c s e) h w) h
 
 bad-past : {c : Char} {s q m : Text} {i : ℕ} → BadEscape (c ∷ s) i q → WithinSingle false s m → stops m ≡ true → Past i q m
-bad-past (BadEscape.e12 (One.one e)) w h = past_of 12 refl (within-suffix w)
+bad-past (BadEscape.e12 (One.one e)) w h = past-of 12 refl (within-suffix w)
 bad-past (BadEscape.e13 n l (both (One.one e) (both (One.one {c} {s} f) v)) z) w h =
-    past_of 13 refl (times-past v (step c s (no_stop (one_of "u") refl refl c s f) h w) h)
-bad-past (BadEscape.e14 (One.one e) z) w h = past_of 14 refl (within-suffix w)
+    past-of 13 refl (times-past v (step c s (no-stop (oneOf "u") refl refl c s f) h w) h)
+bad-past (BadEscape.e14 (One.one e) z) w h = past-of 14 refl (within-suffix w)
 
 bad-right : {b q : Text} {j : ℕ} → BadEscape b j q → length q < length b
 bad-right (BadEscape.e12 o) = (one-strict o).1
@@ -171,10 +171,10 @@ plain-past (WithinSingle.char {c} {s} {r = m} e b w) h = go (isAny "\n" (c ∷ s
         → Single false (c ∷ s) m ⊎ ((i : ℕ) × (q : Text) × (closePlain 0 (c ∷ s) ≡ wrong i q) × Past i q m)
     go true x k = let l = (within-suffix w).within in inr (8, c ∷ s, single-newline false (c ∷ s) x, Past.right (omega arith))
     go false x k =
-        let f : single_char false (c ∷ s) ≡ true = rw (e, x) b in
+        let f : singleChar false (c ∷ s) ≡ true = rw (e, x) b in
         on f k
       where
-        on : single_char false (c ∷ s) ≡ true → Single false s m ⊎ ((i : ℕ) × (q : Text) × (closePlain 0 s ≡ wrong i q) × Past i q m)
+        on : singleChar false (c ∷ s) ≡ true → Single false s m ⊎ ((i : ℕ) × (q : Text) × (closePlain 0 s ≡ wrong i q) × Past i q m)
             → Single false (c ∷ s) m ⊎ ((i : ℕ) × (q : Text) × (closePlain 0 (c ∷ s) ≡ wrong i q) × Past i q m)
         on f (inl v) = inl (Single.char f v)
         on f (inr (i, q, g, d)) = inr (i, q, single-char false c s f ∙ g, d)
@@ -291,10 +291,10 @@ triple-meets n p s m j (o, h, e, both {m = t} a w) f = go (triple-past p w)
 -- ---- the others
 
 tick-scan : (n : ℕ) (s : Text) → apostrophe s ≡ true → scan n s ≡ scanCharSym s
-tick-scan n s e = scan-by n s Start.charSym (starts-tick s (clear-head (one_of "'") refl s e) e)
+tick-scan n s e = scan-by n s Start.charSym (starts-tick s (clear-head (oneOf "'") refl s e) e)
 
 other-scan : (n : ℕ) (c : Char) (r : Text) → starts (c ∷ r) ≡ false → scan n (c ∷ r) ≡ Found.stuck 3 (c ∷ r)
-unfolding start_of
+unfolding startOf
 other-scan n c r e =
     let o = ten (isAny " \t" (c ∷ r)) (isAny "\n" (c ∷ r)) (isAny "\r" (c ∷ r)) (isAny "()[]{},;." (c ∷ r)) (digit (c ∷ r))
     (headIs isIdStart (c ∷ r)) (opSign (c ∷ r)) (isAny "`" (c ∷ r)) (quote (c ∷ r)) (apostrophe (c ∷ r)) e in
@@ -326,7 +326,7 @@ other-scan n c r e =
 -- where a refusal is met the scanner gives it, or one that goes before it
 pub met-meets : (n : ℕ) (s : Text) (j : ℕ) (q : Text) → Met s j q → Meets (scan n s) j q
 met-meets n s j q (Met.m1 e f) =
-    exactly (scan-by n s Start.cr (starts-cr s (clear-head (one_of "\r") refl s e) e)
+    exactly (scan-by n s Start.cr (starts-cr s (clear-head (oneOf "\r") refl s e) e)
     ∙ (unfold scanReturn in (rw (or-false (begins "\n" s) (begins "\r\n" s) f).1)))
 met-meets n s j q (Met.m2 e f) = exactly (scan-by n s Start.block (starts-block s e) ∙ go (block-stands s e))
   where
@@ -340,14 +340,14 @@ met-meets n s j q (Met.m3 {c} {r} h k e) = exactly (rw h (other-scan n c r (go (
     go true f = absurd (e ((starts-declared c r).0 f))
     go false f = f
 met-meets n s j q (Met.m4 (both (One.one {c = b} {s = t} e) w)) = exactly
-    (scan-by n s Start.backtick (starts-backtick s (clear-head (one_of "`") refl s e) e) ∙ scan-backtick n b t
+    (scan-by n s Start.backtick (starts-backtick s (clear-head (oneOf "`") refl s e) e) ∙ scan-backtick n b t
     ∙ rw (first t w, pass-run notBacktick w) (unfold afterRun in refl))
   where
     first : (t : Text) → Run notBacktick t [] → back t ≡ false
     first t Run.stop = refl
     first t (Run.next {c} {s} f v) = not-true (back (c ∷ s)) f
 met-meets n s j q (Met.m5 (Times.more {c = a} e (Times.more {c = b} {s = r} f Times.done))) = exactly
-    (scan-by n s Start.backtick (starts-backtick s (clear-head (one_of "`") refl s e) e) ∙ scan-backtick n a (b ∷ r) ∙ rw f)
+    (scan-by n s Start.backtick (starts-backtick s (clear-head (oneOf "`") refl s e) e) ∙ scan-backtick n a (b ∷ r) ∙ rw f)
 met-meets n s j q (Met.m6 long {r} h l) = exactly
     (let d = (text-found long s r h).0 in
     scan-by n s Start.number (starts-number s (clear-digit s d) d) ∙ six-found long s r h l)
@@ -382,49 +382,49 @@ met-meets n s j q (Met.m16 (One.one {c = t} e) k nc ns) =
     go false true y z ew ex ey ez = absurd (symbol _ (inl (ident-finds q ex)))
     go false false true z ew ex ey ez = absurd (symbol _ (inr (inl (run1-finds freeSign q ey refl))))
     go false false false true ew ex ey ez =
-        let h = and_both (isAny ";" q) (not (opSign (drop 1 q))) ez in
+        let h = and-both (isAny ";" q) (not (opSign (drop 1 q))) ez in
         absurd (symbol _ (inr (inr (one-drop (isAny ";") q h.0 refl, not-true (opSign (drop 1 q)) h.1))))
     go false false false false ew ex ey ez = rw (ew, k, ex, ey, ez)
 
 -- at the script's end none is met
-abbrev number_in : Found → ℕ
-number_in (Found.gap g r) = 0
-number_in (Found.token t r) = 0
-number_in (Found.stuck j q) = j
+abbrev numberIn : Found → ℕ
+numberIn (Found.gap g r) = 0
+numberIn (Found.token t r) = 0
+numberIn (Found.stuck j q) = j
 
-end-scan : number_in (scan 0 []) ≡ 3
-unfolding scan start_of begins
+end-scan : numberIn (scan 0 []) ≡ 3
+unfolding scan startOf begins
 end-scan = refl
 
-end_none : (j : ℕ) (q : Text) → j ≡ 3 → Met [] j q → ⊥
-end_none j q z (Met.m1 e f) = omega arith
-end_none j q z (Met.m2 e f) = omega arith
-end_none j q z (Met.m3 {c} {r} h k e) = let y : ◌≡◌ {A = ℕ} 0 (suc (length r)) = ap length h in omega arith
-end_none j q z (Met.m4 h) = omega arith
-end_none j q z (Met.m5 h) = omega arith
-end_none j q z (Met.m6 long h l) = omega arith
-end_none j q z (Met.m7 p h) = omega arith
-end_none j q z (Met.m8 p h e) = omega arith
-end_none j q z (Met.m9 p h) = omega arith
-end_none j q z (Met.m10 p h e) = omega arith
-end_none j q z (Met.m11 h e) = omega arith
-end_none j q z (Met.m12 {b} h w) = go j q z w
+end-none : (j : ℕ) (q : Text) → j ≡ 3 → Met [] j q → ⊥
+end-none j q z (Met.m1 e f) = omega arith
+end-none j q z (Met.m2 e f) = omega arith
+end-none j q z (Met.m3 {c} {r} h k e) = let y : ◌≡◌ {A = ℕ} 0 (suc (length r)) = ap length h in omega arith
+end-none j q z (Met.m4 h) = omega arith
+end-none j q z (Met.m5 h) = omega arith
+end-none j q z (Met.m6 long h l) = omega arith
+end-none j q z (Met.m7 p h) = omega arith
+end-none j q z (Met.m8 p h e) = omega arith
+end-none j q z (Met.m9 p h) = omega arith
+end-none j q z (Met.m10 p h e) = omega arith
+end-none j q z (Met.m11 h e) = omega arith
+end-none j q z (Met.m12 {b} h w) = go j q z w
   where
     go : (j : ℕ) (q : Text) → j ≡ 3 → BadEscape b j q → ⊥
     go j q z (BadEscape.e12 o) = omega arith
     go j q z (BadEscape.e13 n l o e) = omega arith
     go j q z (BadEscape.e14 o e) = omega arith
-end_none j q z (Met.m15 h e) = omega arith
-end_none j q z (Met.m16 o k a b) = omega arith
+end-none j q z (Met.m15 h e) = omega arith
+end-none j q z (Met.m16 o k a b) = omega arith
 
 abbrev restIn : Found → Text
 restIn (Found.gap g r) = r
 restIn (Found.token t r) = r
 restIn (Found.stuck j q) = q
 
-end_rest : restIn (scan 0 []) ≡ []
-unfolding scan start_of begins
-end_rest = refl
+end-rest : restIn (scan 0 []) ≡ []
+unfolding scan startOf begins
+end-rest = refl
 
 pub met-end : (j : ℕ) (q : Text) → Met [] j q → ⊥
 met-end j q h = go (met-meets 0 [] j q h)
@@ -433,22 +433,22 @@ met-end j q h = go (met-meets 0 [] j q h)
     go M = by M.after
       where
         i : M.number ≡ 3
-        i = sym (ap number_in M.found) ∙ end-scan
+        i = sym (ap numberIn M.found) ∙ end-scan
 
         r : M.rest ≡ []
-        r = sym (ap restIn M.found) ∙ end_rest
+        r = sym (ap restIn M.found) ∙ end-rest
 
         by : After M.number M.rest j q → ⊥
-        by (After.same e f) = end_none j q (sym e ∙ i) h
+        by (After.same e f) = end-none j q (sym e ∙ i) h
         by (After.right l) = let z = ap length r in omega arith
         by (After.tie e g) = clash (sym (ap (between 12 14) i) ∙ e.1)
 
 -- ---- the first
 
-one_way : (i j : ℕ) → GivesWay i j → GivesWay j i → ⊥
-one_way i j h k =
-    let a = leb-true i 8 (and_both (leb 7 i) (leb i 8) h.0).1 in
-    let b = leb-true 12 i (and_both (leb 12 i) (leb i 14) k.1).0 in
+one-way : (i j : ℕ) → GivesWay i j → GivesWay j i → ⊥
+one-way i j h k =
+    let a = leb-true i 8 (and-both (leb 7 i) (leb i 8) h.0).1 in
+    let b = leb-true 12 i (and-both (leb 12 i) (leb i 14) k.1).0 in
     omega arith
 
 module _ (n : ℕ) (s : Text) (F : Fell s (scan n s)) where
@@ -457,13 +457,13 @@ module _ (n : ℕ) (s : Text) (F : Fell s (scan n s)) where
   against j u h =
       let M = met-meets n s j u h in
       let e = sym M.found ∙ F.found in
-      let a : M.number ≡ F.number = ap number_in e in
+      let a : M.number ≡ F.number = ap numberIn e in
       let b : M.rest ≡ F.rest = ap restIn e in
       rw (← a, ← b) M.after
 
   -- is the first that is met
-  pub first_of : First s F.number F.rest
-  first_of = record { met = F.met; left = λ i u h. left (against i u h); before = λ i h. before i (against i F.rest h) }
+  pub first-of : First s F.number F.rest
+  first-of = record { met = F.met; left = λ i u h. left (against i u h); before = λ i h. before i (against i F.rest h) }
     where
       left : {i : ℕ} {u : Text} → After F.number F.rest i u → length u ≤ length F.rest
       left (After.same e f) = let z = ap length f in omega arith
@@ -481,7 +481,7 @@ module _ (n : ℕ) (s : Text) (F : Fell s (scan n s)) where
     where
       tied : GivesWay j F.number → F.rest ≡ u → (F.number ≡ j) ⊎ GivesWay F.number j → (F.number ≡ j) × (F.rest ≡ u)
       tied f g (inl e) = (e, g)
-      tied f g (inr e) = absurd (one_way j F.number f e)
+      tied f g (inr e) = absurd (one-way j F.number f e)
 
       go : After F.number F.rest j u → (F.number ≡ j) × (F.rest ≡ u)
       go (After.same e f) = (e, f)

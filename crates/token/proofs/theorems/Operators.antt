@@ -7,8 +7,8 @@ use mathlib.Core.Option.{Option, none, some}
 use Rattle.chars.specs.paper.Text.{Text}
 use Rattle.chars.specs.computed.Runs.{afterRun}
 use Rattle.token.specs.paper.Tests.{opensComment, freeSign}
-use Rattle.token.specs.paper.Kinds.{TokenType, run_of}
-use Rattle.token.specs.paper.Shapes.{Operator, TokenShape, codes_of}
+use Rattle.token.specs.paper.Kinds.{TokenType, runOf}
+use Rattle.token.specs.paper.Shapes.{Operator, TokenShape, codesOf}
 use Rattle.token.specs.paper.Reading.{Valued}
 use Rattle.token.specs.computed.Answer.{Found, codesTo, runOr, scanOperator}
 use Rattle.token.specs.declared.kinds.Kw.{Kw}
@@ -26,13 +26,13 @@ pub record Stood (n : ℕ) (s : Text) (f : Found) : Type 0 where
   pub shape : TokenShape type s rest
   pub valued : Valued n s rest type token
 
-scan-operator : (s : Text) → scanOperator s ≡ runOr (afterRun freeSign s) (run_of (codes_of s (afterRun freeSign s)))
+scan-operator : (s : Text) → scanOperator s ≡ runOr (afterRun freeSign s) (runOf (codesOf s (afterRun freeSign s)))
 unfolding scanOperator codesTo
 scan-operator s = refl
 
 pub operator-stands : (n : ℕ) (s : Text) → freeSign s ≡ true → Stood n s (scanOperator s)
 unfolding TokenShape
-operator-stands n s e = go (run_of (codes_of s r)) (opensComment r) refl refl
+operator-stands n s e = go (runOf (codesOf s r)) (opensComment r) refl refl
   where
     r : Text
     r = afterRun freeSign s
@@ -40,7 +40,7 @@ operator-stands n s e = go (run_of (codes_of s r)) (opensComment r) refl refl
     op : Operator s r
     op = run1-finds freeSign s e refl
 
-    go : (o : Option Kw) (b : Bool) → run_of (codes_of s r) ≡ o → opensComment r ≡ b → Stood n s (scanOperator s)
+    go : (o : Option Kw) (b : Bool) → runOf (codesOf s r) ≡ o → opensComment r ≡ b → Stood n s (scanOperator s)
     go none b eo eb =
         record {
           type = TokenType.opId;
@@ -71,14 +71,14 @@ operator-stands n s e = go (run_of (codes_of s r)) (opensComment r) refl refl
 
 pub op-id-found : (s r : Text) → TokenShape TokenType.opId s r → (freeSign s ≡ true) × (scanOperator s ≡ Found.token tk.OpId r)
 unfolding TokenShape
-op-id-found s r h = let q = run1-found freeSign h.0 in (q.0, scan-operator s ∙ rw (← q.1) (go (run_of (codes_of s r)) refl h.1))
+op-id-found s r h = let q = run1-found freeSign h.0 in (q.0, scan-operator s ∙ rw (← q.1) (go (runOf (codesOf s r)) refl h.1))
   where
-    go : (w : Option Kw) → run_of (codes_of s r) ≡ w → (run_of (codes_of s r) ≡ none) ⊎ (opensComment r ≡ true)
-        → runOr r (run_of (codes_of s r)) ≡ Found.token tk.OpId r
+    go : (w : Option Kw) → runOf (codesOf s r) ≡ w → (runOf (codesOf s r) ≡ none) ⊎ (opensComment r ≡ true)
+        → runOr r (runOf (codesOf s r)) ≡ Found.token tk.OpId r
     go none e o = rw e
     go (some k) e (inl f) = no-some (sym f ∙ e)
     go (some k) e (inr f) = rw (e, f)
 
-pub run-key-found : (s r : Text) (k : Kw) → Operator s r → run_of (codes_of s r) ≡ some k → opensComment r ≡ false
+pub run-key-found : (s r : Text) (k : Kw) → Operator s r → runOf (codesOf s r) ≡ some k → opensComment r ≡ false
     → (freeSign s ≡ true) × (scanOperator s ≡ Found.token (tk.Kw k) r)
 run-key-found s r k h e f = let q = run1-found freeSign h in (q.0, scan-operator s ∙ rw (← q.1) (rw (e, f)))

@@ -13,17 +13,17 @@ use Rattle.chars.specs.paper.Classes.{isIdStart}
 use Rattle.chars.specs.paper.Text.{Char, Text, place, headIs}
 use Rattle.chars.specs.computed.Runs.{afterRun}
 use Rattle.chars.proofs.Bools.{clash}
-use Rattle.token.proofs.Classes.{no_start}
+use Rattle.token.proofs.Classes.{no-start}
 use Rattle.token.specs.paper.Tests.{isAny, begins, quote, notBacktick}
-use Rattle.token.specs.paper.Kinds.{TokenType, word_of}
-use Rattle.token.specs.paper.Shapes.{One, Run, Run1, Times, both, PlainIdent, Backtick, Body, Prefix, codes_of, TokenShape}
+use Rattle.token.specs.paper.Kinds.{TokenType, wordOf}
+use Rattle.token.specs.paper.Shapes.{One, Run, Run1, Times, both, PlainIdent, Backtick, Body, Prefix, codesOf, TokenShape}
 use Rattle.token.specs.paper.Reading.{Valued}
 use Rattle.token.specs.paper.Refusals.{Met}
 use Rattle.token.specs.computed.Answer.{Found, afterIdent, closeString, prefixedOf, orPrefixed, wordOr, scanIdent, backtickOr, scanBacktick}
 use Rattle.token.specs.declared.kinds.Kw.{Kw}
 use Rattle.token.specs.declared.kinds.TokenKind.{TokenKind}
 use Rattle.token.specs.declared.kinds.TokenKind.TheVariants as tk
-use Rattle.token.proofs.theorems.Runs.{after_next, after_stop, run-after}
+use Rattle.token.proofs.theorems.Runs.{after-next, after-stop, run-after}
 use Rattle.token.proofs.theorems.Operators.{Stood}
 use Rattle.token.proofs.theorems.Ticks.{Fell}
 use Rattle.token.proofs.theorems.Idents.{ident-finds, ident-found, ident-stands, scan-ident}
@@ -36,7 +36,7 @@ start-no-quote [] e = refl
 start-no-quote (c ∷ s) e = go (eqb c.code 34) refl
   where
     go : (b : Bool) → eqb c.code 34 ≡ b → quote (c ∷ s) ≡ false
-    go true q = clash (sym (no_start "\"" refl c.code (rw q)) ∙ e)
+    go true q = clash (sym (no-start "\"" refl c.code (rw q)) ∙ e)
     go false q = rw q
 
 pub tick-no-quote : (s : Text) → isAny "`" s ≡ true → quote s ≡ false
@@ -79,8 +79,8 @@ prefixed-found n k s m r b = let h = body-found true m r b in or-string n k s m 
 
 -- ---- identifiers
 
-pub word_stands : (n : ℕ) (s : Text) → headIs isIdStart s ≡ true → Stood n s (scanIdent n s) ⊎ Fell s (scanIdent n s)
-word_stands n s e = go (word_of (codes_of s r)) (quote r) refl refl
+pub word-stands : (n : ℕ) (s : Text) → headIs isIdStart s ≡ true → Stood n s (scanIdent n s) ⊎ Fell s (scanIdent n s)
+word-stands n s e = go (wordOf (codesOf s r)) (quote r) refl refl
   where
     r : Text
     r = afterIdent false (drop 1 s)
@@ -88,7 +88,7 @@ word_stands n s e = go (word_of (codes_of s r)) (quote r) refl refl
     moved : {f g : Found} → f ≡ g → Stood n s g ⊎ Fell s g → Stood n s f ⊎ Fell s f
     moved p h = rw p h
 
-    go : (w : Option Kw) (b : Bool) → word_of (codes_of s r) ≡ w → quote r ≡ b → Stood n s (scanIdent n s) ⊎ Fell s (scanIdent n s)
+    go : (w : Option Kw) (b : Bool) → wordOf (codesOf s r) ≡ w → quote r ≡ b → Stood n s (scanIdent n s) ⊎ Fell s (scanIdent n s)
     go (some k) b ew eb = inl (ident-stands n s e (inr (k, ew)))
     go none false ew eb = inl (ident-stands n s e (inl eb))
     go none true ew eb =
@@ -115,8 +115,8 @@ run-stops : (p : Text → Bool) {s : Text} (c : Char) (r : Text) → Run p s (c 
 run-stops p {s} c r w e = go s (c ∷ r) w refl
   where
     go : (s m : Text) → Run p s m → m ≡ c ∷ r → afterRun p s ≡ c ∷ r
-    go s m Run.stop q = rw q (after_stop p c r e)
-    go s m (Run.next {c = d} {s = t} f v) q = after_next p d t f ∙ go t m v q
+    go s m Run.stop q = rw q (after-stop p c r e)
+    go s m (Run.next {c = d} {s = t} f v) q = after-next p d t f ∙ go t m v q
 
 -- after the longest run the test fails
 pub after-fails : (p : Text → Bool) (s : Text) (c : Char) (r : Text) → afterRun p s ≡ c ∷ r → p (c ∷ r) ≡ false
@@ -125,12 +125,12 @@ after-fails p [] c r q = absurd (let z : ◌≡◌ {A = ℕ} 0 (suc (length r)) 
 after-fails p (d ∷ s) c r q = go (p (d ∷ s)) refl (after-fails p s c r)
   where
     go : (b : Bool) → p (d ∷ s) ≡ b → (afterRun p s ≡ c ∷ r → p (c ∷ r) ≡ false) → p (c ∷ r) ≡ false
-    go true e h = h (sym (after_next p d s e) ∙ q)
-    go false e h = rw (← (sym (after_stop p d s e) ∙ q)) e
+    go true e h = h (sym (after-next p d s e) ∙ q)
+    go false e h = rw (← (sym (after-stop p d s e) ∙ q)) e
 
 pub backtick-found : (s r : Text) → Backtick s r → (isAny "`" s ≡ true) × ((n : ℕ) → scanBacktick n s ≡ orPrefixed n tk.BacktickId s r)
 backtick-found s r (both (One.one {c = b} e) (both (Run1.run {c} {s = u} f w) (One.one {c = d} g))) =
-    let a : afterRun notBacktick (c ∷ u) ≡ d ∷ r = after_next notBacktick c u f ∙ run-stops notBacktick d r w (rw g) in
+    let a : afterRun notBacktick (c ∷ u) ≡ d ∷ r = after-next notBacktick c u f ∙ run-stops notBacktick d r w (rw g) in
     (e, λ n. scan-backtick n b (c ∷ u) ∙ rw (not-true (back (c ∷ u)) f, a))
 
 pub backtick-stands : (n : ℕ) (s : Text) → isAny "`" s ≡ true → Stood n s (scanBacktick n s) ⊎ Fell s (scanBacktick n s)

@@ -11,23 +11,23 @@ use Rattle.chars.specs.computed.Runs.{afterRun}
 use Rattle.chars.proofs.Bools.{clash}
 use Rattle.chars.specs.promises.Texts.{Suffix}
 use Rattle.chars.proofs.theorems.Promises.{text-laws}
-use Rattle.token.specs.paper.Shapes.{Run, Run1, Longest, codes_of}
-open text-laws use {suffix_refl, suffix-cons, suffix-same}
+use Rattle.token.specs.paper.Shapes.{Run, Run1, Longest, codesOf}
+open text-laws use {suffix-refl, suffix-cons, suffix-same}
 
-pub codes-none : (s : Text) → codes_of s s ≡ []
+pub codes-none : (s : Text) → codesOf s s ≡ []
 codes-none s = rw sub_self
 
-pub codes-more : (c : Char) (s r : Text) → length r ≤ length s → codes_of (c ∷ s) r ≡ c.code ∷ codes_of s r
+pub codes-more : (c : Char) (s r : Text) → length r ≤ length s → codesOf (c ∷ s) r ≡ c.code ∷ codesOf s r
 codes-more c s r h = let e : suc (length s) - length r ≡ suc (length s - length r) = omega arith in rw e
 
 module _ (p : Text → Bool) where
-  pub after_next : (c : Char) (s : Text) → p (c ∷ s) ≡ true → afterRun p (c ∷ s) ≡ afterRun p s
+  pub after-next : (c : Char) (s : Text) → p (c ∷ s) ≡ true → afterRun p (c ∷ s) ≡ afterRun p s
   unfolding afterRun
-  after_next c s e = rw (e, afterRun)
+  after-next c s e = rw (e, afterRun)
 
-  pub after_stop : (c : Char) (s : Text) → p (c ∷ s) ≡ false → afterRun p (c ∷ s) ≡ c ∷ s
+  pub after-stop : (c : Char) (s : Text) → p (c ∷ s) ≡ false → afterRun p (c ∷ s) ≡ c ∷ s
   unfolding afterRun
-  after_stop c s e = rw (e, afterRun)
+  after-stop c s e = rw (e, afterRun)
 
   pub run-after : (s : Text) → Run p s (afterRun p s)
   unfolding afterRun
@@ -35,16 +35,16 @@ module _ (p : Text → Bool) where
   run-after (c ∷ s) = go (p (c ∷ s)) refl (run-after s)
     where
       go : (b : Bool) → p (c ∷ s) ≡ b → Run p s (afterRun p s) → Run p (c ∷ s) (afterRun p (c ∷ s))
-      go true e h = rw (after_next c s e) (Run.next e h)
-      go false e h = rw (after_stop c s e) Run.stop
+      go true e h = rw (after-next c s e) (Run.next e h)
+      go false e h = rw (after-stop c s e) Run.stop
 
   pub run-suffix : {s r : Text} → Run p s r → Suffix r s
-  run-suffix Run.stop = suffix_refl _
+  run-suffix Run.stop = suffix-refl _
   run-suffix (Run.next {c} e h) = suffix-cons c (run-suffix h)
 
   pub after-least : {s q : Text} → Run p s q → length (afterRun p s) ≤ length q
   after-least {s} Run.stop = (run-suffix (run-after s)).within
-  after-least (Run.next {c} {s} e h) = rw (after_next c s e) (after-least h)
+  after-least (Run.next {c} {s} e h) = rw (after-next c s e) (after-least h)
 
   pub run1-run : {s r : Text} → Run1 p s r → Run p s r
   run1-run (Run1.run e w) = Run.next e w
@@ -55,7 +55,7 @@ module _ (p : Text → Bool) where
   -- where the first character passes, the function finds the longest run of one or more
   pub run1-finds : (s : Text) → p s ≡ true → p [] ≡ false → Longest (Run1 p) s (afterRun p s)
   run1-finds [] e z = clash (sym z ∙ e)
-  run1-finds (c ∷ s) e z = (rw (after_next c s e) (Run1.run e (run-after s)), λ q w. after-least (run1-run w))
+  run1-finds (c ∷ s) e z = (rw (after-next c s e) (Run1.run e (run-after s)), λ q w. after-least (run1-run w))
 
   -- and what is the longest run is what it finds
   pub run1-found : {s r : Text} → Longest (Run1 p) s r → (p s ≡ true) × (r ≡ afterRun p s)
@@ -66,4 +66,4 @@ module _ (p : Text → Bool) where
   )
     where
       again : (s : Text) {r : Text} → Run1 p s r → Run1 p s (afterRun p s)
-      again s (Run1.run {c} {s = t} e w) = rw (after_next c t e) (Run1.run e (run-after t))
+      again s (Run1.run {c} {s = t} e w) = rw (after-next c t e) (Run1.run e (run-after t))

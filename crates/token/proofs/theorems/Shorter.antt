@@ -13,34 +13,34 @@ use Rattle.token.specs.paper.Kinds.{Kind, TokenType}
 use Rattle.token.specs.paper.Shapes.{One, Run, Run1, Times, UpTo, ◌then◌, both, Block, Item, Items, LineEnd, LineComment, Digits, NumberText, Chunks, Tail, Ident, Operator, Backtick, Escape, Single, Body, Prefix, Str, Character, Name, Symbol, TokenShape, HasShape, Stands}
 use Rattle.token.proofs.theorems.Runs.{run-suffix}
 use Rattle.token.proofs.theorems.Idents.{rest-suffix}
-open text-laws use {drop-suffix, suffix_refl, suffix-cons, suffix_trans}
+open text-laws use {drop-suffix, suffix-refl, suffix-cons, suffix-trans}
 
 -- a proper suffix
 abbrev pub Strict : Text → Text → Type 0
 Strict r s = Suffix r s × (length r < length s)
 
 pub strict-then : {r m s : Text} → Strict m s → Suffix r m → Strict r s
-strict-then h k = let a = k.within in let b = h.1 in (suffix_trans k h.0, omega arith)
+strict-then h k = let a = k.within in let b = h.1 in (suffix-trans k h.0, omega arith)
 
 then-strict : {r m s : Text} → Suffix m s → Strict r m → Strict r s
-then-strict h k = let a = h.within in let b = k.1 in (suffix_trans k.0 h, omega arith)
+then-strict h k = let a = h.within in let b = k.1 in (suffix-trans k.0 h, omega arith)
 
 pub one-strict : {p : Text → Bool} {s r : Text} → One p s r → Strict r s
-one-strict (One.one {c} {s} e) = (suffix-cons c (suffix_refl s), omega arith)
+one-strict (One.one {c} {s} e) = (suffix-cons c (suffix-refl s), omega arith)
 
 run1-strict : (p : Text → Bool) {s r : Text} → Run1 p s r → Strict r s
 run1-strict p (Run1.run {c} {s} e w) = let h = run-suffix p w in let a = h.within in (suffix-cons c h, omega arith)
 
 pub times-suffix : {p : Text → Bool} {n : ℕ} {s r : Text} → Times p n s r → Suffix r s
-times-suffix Times.done = suffix_refl _
+times-suffix Times.done = suffix-refl _
 times-suffix (Times.more {c} e w) = suffix-cons c (times-suffix w)
 
 times-strict : {p : Text → Bool} (n : ℕ) {s r : Text} → Times p (suc n) s r → Strict r s
 times-strict n (Times.more {c} e w) = let h = times-suffix w in let a = h.within in (suffix-cons c h, omega arith)
 
 upto-suffix : {p : Text → Bool} {n : ℕ} {s r : Text} → UpTo p n s r → Suffix r s
-upto-suffix UpTo.full = suffix_refl _
-upto-suffix (UpTo.fewer e) = suffix_refl _
+upto-suffix UpTo.full = suffix-refl _
+upto-suffix (UpTo.fewer e) = suffix-refl _
 upto-suffix (UpTo.more {c} e w) = suffix-cons c (upto-suffix w)
 
 pair-strict : {p q : Text → Bool} {s r : Text} → (One p then One q) s r → Strict r s
@@ -48,30 +48,30 @@ pair-strict (both a b) = strict-then (one-strict a) (one-strict b).0
 
 mutual
   block-strict : {s r : Text} → Block s r → Strict r s
-  block-strict (Block.block o i k) = strict-then (pair-strict o) (suffix_trans (pair-strict k).0 (items-suffix i))
+  block-strict (Block.block o i k) = strict-then (pair-strict o) (suffix-trans (pair-strict k).0 (items-suffix i))
 
   item-suffix : {s r : Text} → Item s r → Suffix r s
   item-suffix (Item.comment b) = (block-strict b).0
-  item-suffix (Item.char {c} {s} o k) = suffix-cons c (suffix_refl s)
+  item-suffix (Item.char {c} {s} o k) = suffix-cons c (suffix-refl s)
 
   items-suffix : {s r : Text} → Items s r → Suffix r s
-  items-suffix Items.done = suffix_refl _
-  items-suffix (Items.item i w) = suffix_trans (items-suffix w) (item-suffix i)
+  items-suffix Items.done = suffix-refl _
+  items-suffix (Items.item i w) = suffix-trans (items-suffix w) (item-suffix i)
 
 pub escape-suffix : {s r : Text} → Escape s r → Suffix r s
-escape-suffix (Escape.simple (both a b)) = suffix_trans (one-strict b).0 (one-strict a).0
-escape-suffix (Escape.digits (both a (both b w))) = suffix_trans (upto-suffix w) (suffix_trans (one-strict b).0 (one-strict a).0)
-escape-suffix (Escape.hexes (both a (both b w))) = suffix_trans (times-suffix w) (suffix_trans (one-strict b).0 (one-strict a).0)
+escape-suffix (Escape.simple (both a b)) = suffix-trans (one-strict b).0 (one-strict a).0
+escape-suffix (Escape.digits (both a (both b w))) = suffix-trans (upto-suffix w) (suffix-trans (one-strict b).0 (one-strict a).0)
+escape-suffix (Escape.hexes (both a (both b w))) = suffix-trans (times-suffix w) (suffix-trans (one-strict b).0 (one-strict a).0)
 
 pub single-suffix : {p : Bool} {s r : Text} → Single p s r → Suffix r s
-single-suffix Single.done = suffix_refl _
+single-suffix Single.done = suffix-refl _
 single-suffix (Single.char {c} e w) = suffix-cons c (single-suffix w)
-single-suffix (Single.escape e w) = suffix_trans (single-suffix w) (escape-suffix e)
+single-suffix (Single.escape e w) = suffix-trans (single-suffix w) (escape-suffix e)
 
 body-strict : (p : Bool) {s r : Text} → Body p s r → Strict r s
-body-strict p (Body.single e (both a (both w b))) = strict-then (one-strict a) (suffix_trans (one-strict b).0 (single-suffix w))
+body-strict p (Body.single e (both a (both w b))) = strict-then (one-strict a) (suffix-trans (one-strict b).0 (single-suffix w))
 body-strict p (Body.triple e (both a (both w (both b l)))) =
-    strict-then (times-strict 2 a) (suffix_trans (suffix_trans (run-suffix quote l.0) (times-suffix b)) (run-suffix _ w))
+    strict-then (times-strict 2 a) (suffix-trans (suffix-trans (run-suffix quote l.0) (times-suffix b)) (run-suffix _ w))
 
 ident-strict : (s r : Text) → Ident s r → Strict r s
 ident-strict s r h = go h.0
@@ -83,7 +83,7 @@ operator-strict : (s r : Text) → Operator s r → Strict r s
 operator-strict s r h = run1-strict freeSign h.0
 
 backtick-strict : (s r : Text) → Backtick s r → Strict r s
-backtick-strict s r (both a (both w b)) = strict-then (one-strict a) (suffix_trans (one-strict b).0 (run1-strict notBacktick w).0)
+backtick-strict s r (both a (both w b)) = strict-then (one-strict a) (suffix-trans (one-strict b).0 (run1-strict notBacktick w).0)
 
 digits-strict : {v : ℕ} {s r : Text} → Digits v s r → Strict r s
 digits-strict (Digits.hex {s} e h) = then-strict (drop-suffix 2 s) (run1-strict hexDigit h.0)
@@ -102,8 +102,8 @@ str-strict s r (inl b) = body-strict false b
 str-strict s r (inr (both {m} p b)) = strict-then (prefix-strict s m p) (body-strict true b).0
 
 character-strict : (s r : Text) → Character s r → Strict r s
-character-strict s r (inl (both a (both e b))) = strict-then (one-strict a) (suffix_trans (one-strict b).0 (escape-suffix e))
-character-strict s r (inr (both a (both e b))) = strict-then (one-strict a) (suffix_trans (one-strict b).0 (one-strict e).0)
+character-strict s r (inl (both a (both e b))) = strict-then (one-strict a) (suffix-trans (one-strict b).0 (escape-suffix e))
+character-strict s r (inr (both a (both e b))) = strict-then (one-strict a) (suffix-trans (one-strict b).0 (one-strict e).0)
 
 name-suffix : (s r : Text) → Name s r → Suffix r s
 name-suffix s r (inl h) = (ident-strict s r h).0

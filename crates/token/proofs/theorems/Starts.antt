@@ -9,11 +9,11 @@ use borrow.Author.Tests.{eqb-true}
 use Rattle.chars.specs.paper.Quoted.{codes}
 use Rattle.chars.specs.paper.Classes.{isIdStart}
 use Rattle.chars.specs.paper.Text.{Char, Text}
-use Rattle.chars.proofs.Bools.{clash, and_both}
+use Rattle.chars.proofs.Bools.{clash, and-both}
 use Rattle.chars.specs.promises.Codes.{every}
 use Rattle.chars.proofs.theorems.Promises.{code_laws}
 use Rattle.token.proofs.Classes.{slash-sign}
-use Rattle.token.specs.paper.Tests.{isDigit, isHexDigit, begins, starts_with}
+use Rattle.token.specs.paper.Tests.{isDigit, isHexDigit, begins, startsWith}
 use Rattle.token.specs.paper.Kinds.{Kind, TokenType}
 use Rattle.token.specs.paper.Shapes.{One, Run, Run1, both, Escape, Single, Body, TokenShape, HasShape}
 use Rattle.token.specs.paper.Refusals.{StartsShape, Met}
@@ -24,7 +24,7 @@ use Rattle.token.proofs.theorems.Operators.{Stood, operator-stands}
 use Rattle.token.proofs.theorems.Idents.{ident-stands}
 use Rattle.token.proofs.theorems.Heads.{declared-starts}
 use Rattle.token.proofs.theorems.Dispatch.{Fact, start-fact, sign-of, digit-one}
-use Rattle.token.proofs.theorems.Complete.{code_is}
+use Rattle.token.proofs.theorems.Complete.{code-is}
 open code_laws use {carry}
 
 -- ---- texts that begin with a given start
@@ -106,17 +106,17 @@ start-shape c s e = go (start-fact (c ∷ s))
 
     go : {x : Start} → Fact (c ∷ s) x → StartsShape c.code
     go (Fact.line f) = let h = line-stands (c ∷ s) f in own-shape Kind.lineComment c s h.0 h.2
-    go (Fact.block f) = coded 47 (eqb-true c.code 47 (and_both (eqb c.code 47) (starts_with (codes "*") s) f).0) slash-shape
+    go (Fact.block f) = coded 47 (eqb-true c.code 47 (and-both (eqb c.code 47) (startsWith (codes "*") s) f).0) slash-shape
     go (Fact.blank z f) = own-shape Kind.blank c s s (One.one f)
     go (Fact.lf z f) = own-shape Kind.lineEnd c s s (inl (One.one f))
-    go (Fact.cr z f) = coded 13 (code_is 13 c.code f) return-shape
+    go (Fact.cr z f) = coded 13 (code-is 13 c.code f) return-shape
     go (Fact.sign z f) = let h = sign-of (c ∷ s) f in own-shape (Kind.token h.0) c s s h.1
     go (Fact.number z f) = digit-shape c.code f
     go (Fact.word z f) = word-shape c.code f
     go (Fact.operator z f) = stood-shape 0 c s _ (operator-stands 0 (c ∷ s) f)
-    go (Fact.backtick z f) = coded 96 (code_is 96 c.code f) backtick-shape
-    go (Fact.string z f) = coded 34 (eqb-true c.code 34 (and_both (eqb c.code 34) true f).0) quote-shape
-    go (Fact.charSym z f) = coded 39 (code_is 39 c.code f) tick-shape
+    go (Fact.backtick z f) = coded 96 (code-is 96 c.code f) backtick-shape
+    go (Fact.string z f) = coded 34 (eqb-true c.code 34 (and-both (eqb c.code 34) true f).0) quote-shape
+    go (Fact.charSym z f) = coded 39 (code-is 39 c.code f) tick-shape
     go (Fact.other f) = clash (sym f ∙ e)
 
 -- the computed test is what is declared

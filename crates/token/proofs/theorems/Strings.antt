@@ -11,14 +11,14 @@ use borrow.Author.Tests.{eqb-true, not-true}
 use Rattle.chars.specs.paper.Quoted.{codes}
 use Rattle.chars.specs.paper.Text.{Char, Text}
 use Rattle.chars.specs.computed.Runs.{afterRun}
-use Rattle.chars.proofs.Bools.{clash, and_both}
+use Rattle.chars.proofs.Bools.{clash, and-both}
 use Rattle.chars.proofs.theorems.Promises.{text-laws}
-use Rattle.token.specs.paper.Tests.{isAny, begins, starts_with, quote, threeQuotes, backslash, dollarBrace}
-use Rattle.token.specs.paper.Shapes.{One, Run, Times, both, Escape, allowed, single_char, Single, tripleChar, Body}
+use Rattle.token.specs.paper.Tests.{isAny, begins, startsWith, quote, threeQuotes, backslash, dollarBrace}
+use Rattle.token.specs.paper.Shapes.{One, Run, Times, both, Escape, allowed, singleChar, Single, tripleChar, Body}
 use Rattle.token.specs.paper.Refusals.{WithinSingle, Opens, Met}
 use Rattle.token.specs.computed.Answer.{unbroken, broken, afterSlash, Closing, closed, wrong, closePlain, closePrefixed, closeTriple, closeString}
-use Rattle.token.proofs.theorems.Runs.{after_next, run-after, after-least, run-suffix}
-use Rattle.token.proofs.theorems.Numbers.{one-drop, one_found}
+use Rattle.token.proofs.theorems.Runs.{after-next, run-after, after-least, run-suffix}
+use Rattle.token.proofs.theorems.Numbers.{one-drop, one-found}
 use Rattle.token.proofs.theorems.Escapes.{slash-found, slash-finds, Good, Bad}
 open text-laws use {suffix-same}
 
@@ -36,17 +36,17 @@ lf-code (c ∷ s) e = go (eqb c.code 10) refl e
 slash-code : (s : Text) → backslash s ≡ true → (quote s ≡ false) × (threeQuotes s ≡ false) × (isAny "\n" s ≡ false)
 unfolding begins
 slash-code [] e = clash e
-slash-code (c ∷ s) e = let z = eqb-true c.code 92 (and_both (eqb c.code 92) true e).0 in (rw z, rw z, rw z)
+slash-code (c ∷ s) e = let z = eqb-true c.code 92 (and-both (eqb c.code 92) true e).0 in (rw z, rw z, rw z)
 
 dollar-code : (s : Text) → dollarBrace s ≡ true → (quote s ≡ false) × (threeQuotes s ≡ false) × (isAny "\n" s ≡ false) × (backslash s ≡ false)
 unfolding begins
 dollar-code [] e = clash e
-dollar-code (c ∷ s) e = let z = eqb-true c.code 36 (and_both (eqb c.code 36) (starts_with (codes "{") s) e).0 in (rw z, rw z, rw z, rw z)
+dollar-code (c ∷ s) e = let z = eqb-true c.code 36 (and-both (eqb c.code 36) (startsWith (codes "{") s) e).0 in (rw z, rw z, rw z, rw z)
 
 three-quote : (s : Text) → threeQuotes s ≡ true → quote s ≡ true
 unfolding begins
 three-quote [] e = clash e
-three-quote (c ∷ s) e = let h = and_both (eqb c.code 34) (starts_with (codes "\"\"") s) e in rw h.0
+three-quote (c ∷ s) e = let h = and-both (eqb c.code 34) (startsWith (codes "\"\"") s) e in rw h.0
 
 -- ---- single strings
 
@@ -61,15 +61,15 @@ abbrev pub closeOne : Bool → Text → Closing
 closeOne true s = closePrefixed s
 closeOne false s = closePlain 0 s
 
-pub single-char : (p : Bool) (c : Char) (s : Text) → single_char p (c ∷ s) ≡ true → closeOne p (c ∷ s) ≡ closeOne p s
+pub single-char : (p : Bool) (c : Char) (s : Text) → singleChar p (c ∷ s) ≡ true → closeOne p (c ∷ s) ≡ closeOne p s
 unfolding closePlain closePrefixed
 single-char true c s e =
-    let a = and_both (not (quote (c ∷ s)) && not (isAny "\n" (c ∷ s))) (not (dollarBrace (c ∷ s))) e in
-    let b = and_both (not (quote (c ∷ s))) (not (isAny "\n" (c ∷ s))) a.0 in
+    let a = and-both (not (quote (c ∷ s)) && not (isAny "\n" (c ∷ s))) (not (dollarBrace (c ∷ s))) e in
+    let b = and-both (not (quote (c ∷ s))) (not (isAny "\n" (c ∷ s))) a.0 in
     rw (not-true (quote (c ∷ s)) b.0, not-true (isAny "\n" (c ∷ s)) b.1, not-true (dollarBrace (c ∷ s)) a.1)
 single-char false c s e =
-    let a = and_both (not (quote (c ∷ s)) && not (isAny "\n" (c ∷ s))) (not (backslash (c ∷ s))) e in
-    let b = and_both (not (quote (c ∷ s))) (not (isAny "\n" (c ∷ s))) a.0 in
+    let a = and-both (not (quote (c ∷ s)) && not (isAny "\n" (c ∷ s))) (not (backslash (c ∷ s))) e in
+    let b = and-both (not (quote (c ∷ s))) (not (isAny "\n" (c ∷ s))) a.0 in
     rw (not-true (quote (c ∷ s)) b.0, not-true (isAny "\n" (c ∷ s)) b.1, not-true (backslash (c ∷ s)) a.1)
 
 pub plain-slash : (s : Text) → backslash s ≡ true → closePlain 0 s ≡ elim (afterSlash (drop 1 s)) [ unbroken n ↦ closePlain n (drop 1 s) | broken j q ↦ wrong j q ]
@@ -92,24 +92,24 @@ pub data SingleEnd : Bool → Text → Type 0 where
   slash : {m : Text} → backslash m ≡ true → Bad m → SingleEnd false m
   dollar : {m : Text} → dollarBrace m ≡ true → SingleEnd true m
 
-single_step : (p : Bool) (c : Char) (s : Text) → SingleEnd p (c ∷ s) ⊎ (single_char p (c ∷ s) ≡ true) ⊎ ((p ≡ false) × Good (c ∷ s))
-single_step true c s = go (quote (c ∷ s)) (isAny "\n" (c ∷ s)) (dollarBrace (c ∷ s)) refl refl refl
+single-step : (p : Bool) (c : Char) (s : Text) → SingleEnd p (c ∷ s) ⊎ (singleChar p (c ∷ s) ≡ true) ⊎ ((p ≡ false) × Good (c ∷ s))
+single-step true c s = go (quote (c ∷ s)) (isAny "\n" (c ∷ s)) (dollarBrace (c ∷ s)) refl refl refl
   where
     go : (x y z : Bool) → quote (c ∷ s) ≡ x → isAny "\n" (c ∷ s) ≡ y → dollarBrace (c ∷ s) ≡ z
-        → SingleEnd true (c ∷ s) ⊎ (single_char true (c ∷ s) ≡ true) ⊎ ((true ≡ false) × Good (c ∷ s))
+        → SingleEnd true (c ∷ s) ⊎ (singleChar true (c ∷ s) ≡ true) ⊎ ((true ≡ false) × Good (c ∷ s))
     go true y z ex ey ez = inl (SingleEnd.closes true ex)
     go false true z ex ey ez = inl (SingleEnd.newline true ey)
     go false false true ex ey ez = inl (SingleEnd.dollar ez)
     go false false false ex ey ez = inr (inl (rw (ex, ey, ez)))
-single_step false c s = go (quote (c ∷ s)) (isAny "\n" (c ∷ s)) (backslash (c ∷ s)) refl refl refl
+single-step false c s = go (quote (c ∷ s)) (isAny "\n" (c ∷ s)) (backslash (c ∷ s)) refl refl refl
   where
     esc : backslash (c ∷ s) ≡ true → Good (c ∷ s) ⊎ Bad (c ∷ s)
-        → SingleEnd false (c ∷ s) ⊎ (single_char false (c ∷ s) ≡ true) ⊎ ((false ≡ false) × Good (c ∷ s))
+        → SingleEnd false (c ∷ s) ⊎ (singleChar false (c ∷ s) ≡ true) ⊎ ((false ≡ false) × Good (c ∷ s))
     esc e (inl g) = inr (inr (refl, g))
     esc e (inr b) = inl (SingleEnd.slash e b)
 
     go : (x y z : Bool) → quote (c ∷ s) ≡ x → isAny "\n" (c ∷ s) ≡ y → backslash (c ∷ s) ≡ z
-        → SingleEnd false (c ∷ s) ⊎ (single_char false (c ∷ s) ≡ true) ⊎ ((false ≡ false) × Good (c ∷ s))
+        → SingleEnd false (c ∷ s) ⊎ (singleChar false (c ∷ s) ≡ true) ⊎ ((false ≡ false) × Good (c ∷ s))
     go true y z ex ey ez = inl (SingleEnd.closes false ex)
     go false true z ex ey ez = inl (SingleEnd.newline false ey)
     go false false true ex ey ez = esc ez (slash-finds (c ∷ s) ez)
@@ -120,9 +120,9 @@ pub single-ends : (p : Bool) (f : ℕ) (s : Text) → length s ≤ f → (m : Te
 single-ends p zero [] l = ([], Single.done, SingleEnd.ends p)
 single-ends p (suc f) [] l = ([], Single.done, SingleEnd.ends p)
 single-ends p zero (c ∷ s) l = absurd (omega arith)
-single-ends p (suc f) (c ∷ s) l = go (single_step p c s) (λ t h. single-ends p f t h)
+single-ends p (suc f) (c ∷ s) l = go (single-step p c s) (λ t h. single-ends p f t h)
   where
-    go : SingleEnd p (c ∷ s) ⊎ (single_char p (c ∷ s) ≡ true) ⊎ ((p ≡ false) × Good (c ∷ s))
+    go : SingleEnd p (c ∷ s) ⊎ (singleChar p (c ∷ s) ≡ true) ⊎ ((p ≡ false) × Good (c ∷ s))
         → ((t : Text) → length t ≤ f → (m : Text) × Single p t m × SingleEnd p m) → (m : Text) × Single p (c ∷ s) m × SingleEnd p m
     go (inl e) next = (c ∷ s, Single.done, e)
     go (inr (inl e)) next = let h = next s (omega arith) in (h.0, Single.char e h.1, h.2)
@@ -166,8 +166,8 @@ single-dollar (c ∷ s) e = let h = dollar-code (c ∷ s) e in rw (h.0, h.2, e)
 pub triple-char : (p : Bool) (c : Char) (s : Text) → tripleChar p (c ∷ s) ≡ true → closeTriple p (c ∷ s) ≡ closeTriple p s
 unfolding closeTriple
 triple-char p c s e =
-    let a = and_both (not (threeQuotes (c ∷ s)) && not (backslash (c ∷ s))) (allowed p (c ∷ s)) e in
-    let b = and_both (not (threeQuotes (c ∷ s))) (not (backslash (c ∷ s))) a.0 in
+    let a = and-both (not (threeQuotes (c ∷ s)) && not (backslash (c ∷ s))) (allowed p (c ∷ s)) e in
+    let b = and-both (not (threeQuotes (c ∷ s))) (not (backslash (c ∷ s))) a.0 in
     rw (not-true (threeQuotes (c ∷ s)) b.0, not-true (backslash (c ∷ s)) b.1) (go p a.1)
   where
     go : (p : Bool) → allowed p (c ∷ s) ≡ true → ◌≡◌ {A = Closing} (cond (p && dollarBrace (c ∷ s)) (wrong 11 (c ∷ s)) (closeTriple p s)) (closeTriple p s)
@@ -220,25 +220,25 @@ triple-dollar (c ∷ s) e = let h = dollar-code (c ∷ s) e in rw (h.1, h.3, e)
 three-times : (m : Text) → threeQuotes m ≡ true → Times quote 3 m (drop 3 m)
 unfolding begins
 three-times [] e = clash e
-three-times (a ∷ []) e = clash (and_both (eqb a.code 34) false e).1
-three-times (a ∷ b ∷ []) e = let h = and_both (eqb a.code 34) (eqb b.code 34 && false) e in clash (and_both (eqb b.code 34) false h.1).1
+three-times (a ∷ []) e = clash (and-both (eqb a.code 34) false e).1
+three-times (a ∷ b ∷ []) e = let h = and-both (eqb a.code 34) (eqb b.code 34 && false) e in clash (and-both (eqb b.code 34) false h.1).1
 three-times (a ∷ b ∷ c ∷ s) e =
-    let h = and_both (eqb a.code 34) (eqb b.code 34 && (eqb c.code 34 && true)) e in
-    let k = and_both (eqb b.code 34) (eqb c.code 34 && true) h.1 in
-    let l = and_both (eqb c.code 34) true k.1 in
+    let h = and-both (eqb a.code 34) (eqb b.code 34 && (eqb c.code 34 && true)) e in
+    let k = and-both (eqb b.code 34) (eqb c.code 34 && true) h.1 in
+    let l = and-both (eqb c.code 34) true k.1 in
     Times.more {c = a} {s = b ∷ c ∷ s} (rw h.0) (Times.more {c = b} {s = c ∷ s} (rw k.0) (Times.more {c = c} {s = s} (rw l.0) Times.done))
 
 three-begin : (a b c : Char) (s : Text) → quote (a ∷ b ∷ c ∷ s) ≡ true → quote (b ∷ c ∷ s) ≡ true → quote (c ∷ s) ≡ true
     → threeQuotes (a ∷ b ∷ c ∷ s) ≡ true
 unfolding begins
-three-begin a b c s e f g = rw ((and_both (eqb a.code 34) true e).0, (and_both (eqb b.code 34) true f).0, (and_both (eqb c.code 34) true g).0)
+three-begin a b c s e f g = rw ((and-both (eqb a.code 34) true e).0, (and-both (eqb b.code 34) true f).0, (and-both (eqb c.code 34) true g).0)
 
 pub times-three : (m r : Text) → Times quote 3 m r → (threeQuotes m ≡ true) × (r ≡ drop 3 m)
 times-three m r (Times.more {c = a} e (Times.more {c = b} f (Times.more {c} {s} g Times.done))) = (three-begin a b c s e f g, refl)
 
 times-after : {m r : Text} (n : ℕ) → Times quote n m r → afterRun quote m ≡ afterRun quote r
 times-after zero Times.done = refl
-times-after (suc n) (Times.more {c} {s} e w) = after_next quote c s e ∙ times-after n w
+times-after (suc n) (Times.more {c} {s} e w) = after-next quote c s e ∙ times-after n w
 
 -- ---- from the opening on
 
@@ -254,7 +254,7 @@ in-triple p o e = rw e
 -- a string that stands is what the function finds
 pub body-found : (p : Bool) (o r : Text) → Body p o r → (quote o ≡ true) × (closeString p o ≡ closed r)
 body-found p o r (Body.single e (both (One.one {s} q) (both {m} w c))) =
-    let x = one_found quote m r c in
+    let x = one-found quote m r c in
     (q, in-single p o e ∙ single-pass p w ∙ single-close p m x.0 ∙ ap closed (sym x.1))
 body-found p o r (Body.triple e (both {m = t} a (both {m = u} w (both {m = v} c l)))) =
     let x = times-three o t a in
@@ -270,20 +270,20 @@ single-within : {p : Bool} {s m : Text} → Single p s m → WithinSingle p s m
 single-within Single.done = WithinSingle.here
 single-within (Single.char {p} {c} {s} {r} e w) = go p e (single-within w)
   where
-    go : (p : Bool) → single_char p (c ∷ s) ≡ true → WithinSingle p s r → WithinSingle p (c ∷ s) r
+    go : (p : Bool) → singleChar p (c ∷ s) ≡ true → WithinSingle p s r → WithinSingle p (c ∷ s) r
     go true e v =
-        let a = and_both (not (quote (c ∷ s)) && not (isAny "\n" (c ∷ s))) (not (dollarBrace (c ∷ s))) e in
-        WithinSingle.char (not-true (quote (c ∷ s)) (and_both (not (quote (c ∷ s))) (not (isAny "\n" (c ∷ s))) a.0).0) refl v
+        let a = and-both (not (quote (c ∷ s)) && not (isAny "\n" (c ∷ s))) (not (dollarBrace (c ∷ s))) e in
+        WithinSingle.char (not-true (quote (c ∷ s)) (and-both (not (quote (c ∷ s))) (not (isAny "\n" (c ∷ s))) a.0).0) refl v
     go false e v =
-        let a = and_both (not (quote (c ∷ s)) && not (isAny "\n" (c ∷ s))) (not (backslash (c ∷ s))) e in
-        WithinSingle.char (not-true (quote (c ∷ s)) (and_both (not (quote (c ∷ s))) (not (isAny "\n" (c ∷ s))) a.0).0) a.1 v
+        let a = and-both (not (quote (c ∷ s)) && not (isAny "\n" (c ∷ s))) (not (backslash (c ∷ s))) e in
+        WithinSingle.char (not-true (quote (c ∷ s)) (and-both (not (quote (c ∷ s))) (not (isAny "\n" (c ∷ s))) a.0).0) a.1 v
 single-within (Single.escape e w) = WithinSingle.escape e (single-within w)
 
 triple-within : (p : Bool) {s m : Text} → Run (tripleChar p) s m → Run (λ t. not (threeQuotes t)) s m
 triple-within p Run.stop = Run.stop
 triple-within p (Run.next {c} {s} e w) =
-    let a = and_both (not (threeQuotes (c ∷ s)) && not (backslash (c ∷ s))) (allowed p (c ∷ s)) e in
-    Run.next (and_both (not (threeQuotes (c ∷ s))) (not (backslash (c ∷ s))) a.0).0 (triple-within p w)
+    let a = and-both (not (threeQuotes (c ∷ s)) && not (backslash (c ∷ s))) (allowed p (c ∷ s)) e in
+    Run.next (and-both (not (threeQuotes (c ∷ s))) (not (backslash (c ∷ s))) a.0).0 (triple-within p w)
 
 -- what the function finds stands, or its refusal is met
 pub record Closed (p : Bool) (o : Text) : Type 0 where

@@ -16,9 +16,9 @@ use Rattle.token.specs.paper.Refusals.{Met, First, Refused}
 use Rattle.token.specs.computed.Answer.{Answer, tokenized, refused, answer}
 use Rattle.token.specs.paper.Records.{mostNeed, recordBytes}
 use Rattle.token.specs.Theorems.{Theorems}
-use Rattle.token.proofs.theorems.Unique.{one-kind, none_end, one-reading}
+use Rattle.token.proofs.theorems.Unique.{one-kind, none-end, one-reading}
 use Rattle.token.proofs.theorems.Alone.{tokens-one, records-length}
-use Rattle.token.proofs.theorems.Mets.{met-end, first_of, first-only}
+use Rattle.token.proofs.theorems.Mets.{met-end, first-of, first-only}
 use Rattle.token.proofs.theorems.Walks.{Walked, answer-finds}
 open valid-laws use {valid}
 open text-laws use {from-length}
@@ -35,15 +35,15 @@ no-cons : {A : Type 0} (c : Char) (s : Text) → [] ≡ c ∷ s → A
 no-cons c s e = absurd (let z : ◌≡◌ {A = ℕ} 0 (suc (length s)) = ap length e in omega arith)
 
 -- a script that is read to its end does not stop before it
-no_both : {n : ℕ} {s r q : Text} {ps qs : List Piece} (c : Char) (t : Text) → Pieces n s ps r → r ≡ [] → Pieces n s qs q → q ≡ c ∷ t
+no-both : {n : ℕ} {s r q : Text} {ps qs : List Piece} (c : Char) (t : Text) → Pieces n s ps r → r ≡ [] → Pieces n s qs q → q ≡ c ∷ t
     → ((k : Kind) (o : Text) → Stands k q o → ⊥) → ⊥
-no_both c t Pieces.done e Pieces.done f h = no-cons c t (sym e ∙ f)
-no_both c t Pieces.done e (Pieces.piece {k} {m} g v) f h = none_end k m (rw e at g)
-no_both c t (Pieces.piece {k} {m} g w) e Pieces.done f h = h k m g
-no_both {n} c t (Pieces.piece {k} {s} {m} g w) e (Pieces.piece {k = l} {m = o} {r = z} {ps = qs} g' v) f h =
+no-both c t Pieces.done e Pieces.done f h = no-cons c t (sym e ∙ f)
+no-both c t Pieces.done e (Pieces.piece {k} {m} g v) f h = none-end k m (rw e at g)
+no-both c t (Pieces.piece {k} {m} g w) e Pieces.done f h = h k m g
+no-both {n} c t (Pieces.piece {k} {s} {m} g w) e (Pieces.piece {k = l} {m = o} {r = z} {ps = qs} g' v) f h =
     let j = one-kind k l s m o g g' in
     let v' : Pieces n m qs z = rw j.1 v in
-    no_both c t w e v' f h
+    no-both c t w e v' f h
 
 -- pieces that stop where nothing stands stop at one place
 stop-same : {n : ℕ} {s r q : Text} {ps qs : List Piece} → Pieces n s ps r → ((k : Kind) (o : Text) → Stands k r o → ⊥) → Pieces n s qs q
@@ -56,13 +56,13 @@ stop-same {n} (Pieces.piece {k} {s} {m} g w) e (Pieces.piece {k = l} {m = o} {r 
     let v' : Pieces n m qs z = rw j.1 v in
     stop-same w e v' f
 
-abbrev number_in : Answer → ℕ
-number_in (tokenized ts) = 0
-number_in (refused j a) = j
+abbrev numberIn : Answer → ℕ
+numberIn (tokenized ts) = 0
+numberIn (refused j a) = j
 
-abbrev place_in : Answer → ℕ
-place_in (tokenized ts) = 0
-place_in (refused j a) = a
+abbrev placeIn : Answer → ℕ
+placeIn (tokenized ts) = 0
+placeIn (refused j a) = a
 
 module _ (script : List ℕ) where
   -- where the answer has tokens, there is a reading, and these are its tokens
@@ -79,7 +79,7 @@ module _ (script : List ℕ) where
     where
       go : Walked script [] (from script 0) (answer script) → (ts : List Token) × (answer script ≡ tokenized ts) × Tokens script [] ps ts
       go (Walked.reads qs ts f x y b) = (ts, f, rw (one-reading script ps qs h x) y)
-      go (Walked.stops qs c t z f x y) = absurd (no_both c t h refl x refl y)
+      go (Walked.stops qs c t z f x y) = absurd (no-both c t h refl x refl y)
 
   -- the refusal is the first that is met
   pub refusal : (j a : ℕ) → (answer script ≡ refused j a) ↔ Refused script j a
@@ -88,9 +88,9 @@ module _ (script : List ℕ) where
       there : answer script ≡ refused j a → Walked script [] (from script 0) (answer script) → Refused script j a
       there e (Walked.reads ps ts f x y b) = clash (ap isTokenized (sym e ∙ f))
       there e (Walked.stops ps c t z f x y) =
-          let k : z.number ≡ j = ap number_in (sym f ∙ e) in
-          let p : place (length script) z.rest ≡ a = ap place_in (sym f ∙ e) in
-          record { pieces = ps; text = c ∷ t; up = x; no-piece = y; rest = z.rest; first = rw (← k) (first_of (length script) (c ∷ t) z); place_is = p }
+          let k : z.number ≡ j = ap numberIn (sym f ∙ e) in
+          let p : place (length script) z.rest ≡ a = ap placeIn (sym f ∙ e) in
+          record { pieces = ps; text = c ∷ t; up = x; no-piece = y; rest = z.rest; first = rw (← k) (first-of (length script) (c ∷ t) z); place-is = p }
 
       back : Refused script j a → Walked script [] (from script 0) (answer script) → answer script ≡ refused j a
       back h (Walked.reads ps ts f x y b) = go h.text h.up h.no-piece h.first.met
@@ -98,13 +98,13 @@ module _ (script : List ℕ) where
           go : (r : Text) → Pieces (length script) (from script 0) h.pieces r → ((k : Kind) (o : Text) → Stands k r o → ⊥) → Met r j h.rest
               → answer script ≡ refused j a
           go [] u n m = absurd (met-end j h.rest m)
-          go (c ∷ t) u n m = absurd (no_both c t x refl u refl n)
+          go (c ∷ t) u n m = absurd (no-both c t x refl u refl n)
       back h (Walked.stops ps c t z f x y) =
           let s : c ∷ t ≡ h.text = stop-same x y h.up h.no-piece in
           let m : First (c ∷ t) j h.rest = rw s h.first in
           let o = first-only (length script) (c ∷ t) z j h.rest m in
           f ∙ ap (λ k. refused k (place (length script) z.rest)) o.0 ∙ ap (λ u. refused j (place (length script) u)) o.1
-          ∙ ap (refused j) h.place_is
+          ∙ ap (refused j) h.place-is
 
   -- a script of n bytes needs at most 17 times n plus 13 bytes
   pub need : (ts : List Token) → answer script ≡ tokenized ts → recordBytes ts ≤ mostNeed (length script)
@@ -128,7 +128,7 @@ module _ (script : List ℕ) where
   )
 
   one-refusal : (i j a b : ℕ) → Refused script i a → Refused script j b → (i ≡ j) × (a ≡ b)
-  one-refusal i j a b h k = let e = sym ((refusal i a).1 h) ∙ (refusal j b).1 k in (ap number_in e, ap place_in e)
+  one-refusal i j a b h k = let e = sym ((refusal i a).1 h) ∙ (refusal j b).1 k in (ap numberIn e, ap placeIn e)
 
   pub decided : ((ps : List Piece) × Reading script ps) ⊎ ((j : ℕ) × (a : ℕ) × Refused script j a)
   decided = go (answer script) refl
@@ -137,8 +137,8 @@ module _ (script : List ℕ) where
       go (tokenized ts) e = let h = sound ts e in inl (h.0, h.1)
       go (refused j a) e = inr (j, a, (refusal j a).0 e)
 
-  never_both : (ps : List Piece) (j a : ℕ) → Reading script ps → Refused script j a → ⊥
-  never_both ps j a h k = clash (ap isTokenized (sym ((refusal j a).1 k) ∙ (complete ps h).1))
+  never-both : (ps : List Piece) (j a : ℕ) → Reading script ps → Refused script j a → ⊥
+  never-both ps j a h k = clash (ap isTokenized (sym ((refusal j a).1 k) ∙ (complete ps h).1))
 
   pub theorems : Theorems script
   theorems =
@@ -151,7 +151,7 @@ module _ (script : List ℕ) where
         refuses = refusal;
         one-refusal = one-refusal;
         decided = decided;
-        never_both = never_both;
+        never-both = never-both;
         bytes = records-length;
         need = λ ts h. need ts (answer-tokens ts h);
       }

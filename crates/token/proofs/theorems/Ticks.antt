@@ -6,13 +6,13 @@ use mathlib.Core.Bool.{Bool, true, false, cond, not, ◌&&◌}
 use mathlib.Core.Logic.{◌⊎◌, inl, inr}
 use mathlib.Core.List.{[], ◌∷◌}
 use lib.ListN.{drop}
-use Rattle.chars.specs.paper.Quoted.{one_of}
+use Rattle.chars.specs.paper.Quoted.{oneOf}
 use Rattle.chars.specs.paper.Text.{Char, Text, headIs}
 use Rattle.chars.specs.computed.Runs.{afterRun}
 use Rattle.chars.specs.paper.Classes.{isIdStart, isOpSign, isPrintable}
-use Rattle.chars.proofs.Bools.{clash, and_both}
+use Rattle.chars.proofs.Bools.{clash, and-both}
 use Rattle.chars.proofs.theorems.Promises.{class-laws}
-use Rattle.token.proofs.Classes.{no_start, no_sign}
+use Rattle.token.proofs.Classes.{no-start, no-sign}
 use Rattle.token.specs.paper.Tests.{isAny, backslash, opSign, opensComment, freeSign, apostrophe, plainChar}
 use Rattle.token.specs.paper.Kinds.{TokenType}
 use Rattle.token.specs.paper.Shapes.{One, ◌then◌, both, Character, Name, Symbol, TokenShape}
@@ -21,7 +21,7 @@ use Rattle.token.specs.paper.Refusals.{Met}
 use Rattle.token.specs.computed.Answer.{Found, afterIdent, unbroken, afterSlash, escapedOf, scanCharSym}
 use Rattle.token.specs.declared.kinds.TokenKind.TheVariants as tk
 use Rattle.token.proofs.theorems.Runs.{run1-finds, run1-found}
-use Rattle.token.proofs.theorems.Numbers.{one-drop, one_found}
+use Rattle.token.proofs.theorems.Numbers.{one-drop, one-found}
 use Rattle.token.proofs.theorems.Operators.{Stood}
 use Rattle.token.proofs.theorems.Idents.{ident-finds, ident-found}
 use Rattle.token.proofs.theorems.Escapes.{slash-found, slash-finds, Good, Bad}
@@ -40,17 +40,17 @@ head-other p q f [] e = clash e
 head-other p q f (c ∷ s) e = f c.code e
 
 free-sign : (s : Text) → freeSign s ≡ true → opSign s ≡ true
-free-sign s e = (and_both (opSign s) (not (opensComment s)) e).0
+free-sign s e = (and-both (opSign s) (not (opensComment s)) e).0
 
 free-no-start : (s : Text) → freeSign s ≡ true → headIs isIdStart s ≡ false
 free-no-start s e = head-other isOpSign isIdStart sign-no-start s (free-sign s e)
 
 semi-no-start : (s : Text) → isAny ";" s ≡ true → headIs isIdStart s ≡ false
 semi-no-start [] e = refl
-semi-no-start (c ∷ s) e = no_start ";" refl c.code e
+semi-no-start (c ∷ s) e = no-start ";" refl c.code e
 
 semi-no-free : (s : Text) → isAny ";" s ≡ true → freeSign s ≡ false
-semi-no-free s e = rw (head-other (one_of ";") isOpSign (no_sign ";" refl) s e)
+semi-no-free s e = rw (head-other (oneOf ";") isOpSign (no-sign ";" refl) s e)
 
 -- the test for a printable character between ticks
 abbrev pub charAhead : Text → Bool
@@ -72,13 +72,13 @@ scan-tick t m = refl
 -- the plain character shape, from the test and back
 pub char-stands : (t : Char) (m : Text) → apostrophe (t ∷ m) ≡ true → charAhead m ≡ true → Character (t ∷ m) (drop 2 m)
 char-stands t [] e f = clash f
-char-stands t (c ∷ m) e f = let h = and_both (plainChar (c ∷ m)) (apostrophe m) f in inr (both (One.one e) (both (One.one h.0) (go m h.1)))
+char-stands t (c ∷ m) e f = let h = and-both (plainChar (c ∷ m)) (apostrophe m) f in inr (both (One.one e) (both (One.one h.0) (go m h.1)))
   where
     go : (m : Text) → apostrophe m ≡ true → One apostrophe m (drop 1 m)
     go m e = one-drop apostrophe m e refl
 
 plain-no-slash : (m : Text) → plainChar m ≡ true → backslash m ≡ false
-plain-no-slash m e = not-true (backslash m) (and_both (headIs isPrintable m) (not (backslash m)) e).1
+plain-no-slash m e = not-true (backslash m) (and-both (headIs isPrintable m) (not (backslash m)) e).1
 
 -- a character that stands: by an escape, or by the test
 pub data CharIs (t : Char) (m r : Text) : Type 0 where
@@ -86,17 +86,17 @@ pub data CharIs (t : Char) (m r : Text) : Type 0 where
       → CharIs t m r
   plain : backslash m ≡ false → charAhead m ≡ true → r ≡ drop 2 m → CharIs t m r
 
-char_is : (t : Char) (m r : Text) → Character (t ∷ m) r → CharIs t m r
-char_is t m r (inl (both (One.one e) (both {m = q} w o))) =
+char-is : (t : Char) (m r : Text) → Character (t ∷ m) r → CharIs t m r
+char-is t m r (inl (both (One.one e) (both {m = q} w o))) =
     let h = slash-found m q w in
-    let x = one_found apostrophe q r o in
+    let x = one-found apostrophe q r o in
     CharIs.escaped h.1 h.0 h.2 (rw (← h.3) x.0) (rw (← h.3) x.1)
-char_is t m r (inr (both (One.one e) (both (One.one {s = u} f) o))) =
-    let x = one_found apostrophe u r o in
+char-is t m r (inr (both (One.one e) (both (One.one {s = u} f) o))) =
+    let x = one-found apostrophe u r o in
     CharIs.plain (plain-no-slash m f) (rw (f, x.0)) x.1
 
-pub no_char : (t : Char) (m : Text) → backslash m ≡ false → charAhead m ≡ false → (r : Text) → Character (t ∷ m) r → ⊥
-no_char t m b f r h = go (char_is t m r h)
+pub no-char : (t : Char) (m : Text) → backslash m ≡ false → charAhead m ≡ false → (r : Text) → Character (t ∷ m) r → ⊥
+no-char t m b f r h = go (char-is t m r h)
   where
     go : CharIs t m r → ⊥
     go (CharIs.escaped k x y z w) = clash (sym b ∙ x)
@@ -111,7 +111,7 @@ pub data NameIs (m r : Text) : Type 0 where
 name-is : (m r : Text) → Name m r → NameIs m r
 name-is m r (inl h) = let q = ident-found m r h in NameIs.word q.0 q.1
 name-is m r (inr (inl h)) = let q = run1-found freeSign h in NameIs.run q.0 q.1
-name-is m r (inr (inr h)) = let q = one_found (isAny ";") m r h.0 in NameIs.semi q.0 (rw (← q.1) h.1) q.1
+name-is m r (inr (inr h)) = let q = one-found (isAny ";") m r h.0 in NameIs.semi q.0 (rw (← q.1) h.1) q.1
 
 -- ---- what it finds stands, or its refusal is met
 
@@ -145,19 +145,19 @@ tick-stands n (t ∷ m) e = go (backslash m) refl
 
     -- a symbol
     symbol : backslash m ≡ false → charAhead m ≡ false → (r : Text) → Name m r → TokenShape TokenType.charSym (t ∷ m) r
-    symbol k f r h = unfold TokenShape in (inr (both (One.one e) h, no_char t m k f, k))
+    symbol k f r h = unfold TokenShape in (inr (both (One.one e) h, no-char t m k f, k))
 
-    no_name : headIs isIdStart m ≡ false → freeSign m ≡ false → semiAhead m ≡ false → (r : Text) → NameIs m r → ⊥
-    no_name x y z r (NameIs.word a b) = clash (sym x ∙ a)
-    no_name x y z r (NameIs.run a b) = clash (sym y ∙ a)
-    no_name x y z r (NameIs.semi a b c) = clash (sym z ∙ rw (a, b))
+    no-name : headIs isIdStart m ≡ false → freeSign m ≡ false → semiAhead m ≡ false → (r : Text) → NameIs m r → ⊥
+    no-name x y z r (NameIs.word a b) = clash (sym x ∙ a)
+    no-name x y z r (NameIs.run a b) = clash (sym y ∙ a)
+    no-name x y z r (NameIs.semi a b c) = clash (sym z ∙ rw (a, b))
 
     names : (x y z : Bool) → backslash m ≡ false → charAhead m ≡ false → headIs isIdStart m ≡ x → freeSign m ≡ y → semiAhead m ≡ z → Answer
     names true y z k f ex ey ez = inl (stood (afterIdent false (drop 1 m)) (scan-tick t m ∙ rw (f, k, ex)) (symbol k f _ (inl (ident-finds m ex))))
     names false true z k f ex ey ez =
         inl (stood (afterRun freeSign m) (scan-tick t m ∙ rw (f, k, ex, ey)) (symbol k f _ (inr (inl (run1-finds freeSign m ey refl)))))
     names false false true k f ex ey ez =
-        let h = and_both (isAny ";" m) (not (opSign (drop 1 m))) ez in
+        let h = and-both (isAny ";" m) (not (opSign (drop 1 m))) ez in
         inl (stood (drop 1 m) (scan-tick t m ∙ rw (f, k, ex, ey, ez))
         (symbol k f _ (inr (inr (one-drop (isAny ";") m h.0 refl, not-true (opSign (drop 1 m)) h.1)))))
     names false false false k f ex ey ez =
@@ -165,14 +165,14 @@ tick-stands n (t ∷ m) e = go (backslash m) refl
           number = 16;
           rest = m;
           found = scan-tick t m ∙ rw (f, k, ex, ey, ez);
-          met = Met.m16 (One.one e) k (no_char t m k f) (λ r h. bad-name r h);
+          met = Met.m16 (One.one e) k (no-char t m k f) (λ r h. bad-name r h);
         })
       where
         bad-name : (r : Text) → Symbol (t ∷ m) r → ⊥
         bad-name r h = below r h.0
           where
             below : (r : Text) → (One apostrophe then Name) (t ∷ m) r → ⊥
-            below r (both (One.one u) w) = no_name ex ey ez r (name-is m r w)
+            below r (both (One.one u) w) = no-name ex ey ez r (name-is m r w)
 
     chars : (b : Bool) → backslash m ≡ false → charAhead m ≡ b → Answer
     chars true k f = inl (stood (drop 2 m) (scan-tick t m ∙ rw (f, k)) (unfold TokenShape in (inl (char-stands t m e f))))
@@ -185,9 +185,9 @@ tick-stands n (t ∷ m) e = go (backslash m) refl
 -- ---- what stands is what it finds
 
 pub char-found : (s r : Text) → Character s r → (apostrophe s ≡ true) × (scanCharSym s ≡ Found.token tk.CharSym r)
-char-found [] r (inl (both o w)) = clash (one_found apostrophe [] _ o).0
-char-found [] r (inr (both o w)) = clash (one_found apostrophe [] _ o).0
-char-found (t ∷ m) r h = (first h, go (char_is t m r h))
+char-found [] r (inl (both o w)) = clash (one-found apostrophe [] _ o).0
+char-found [] r (inr (both o w)) = clash (one-found apostrophe [] _ o).0
+char-found (t ∷ m) r h = (first h, go (char-is t m r h))
   where
     first : Character (t ∷ m) r → apostrophe (t ∷ m) ≡ true
     first (inl (both (One.one e) w)) = e

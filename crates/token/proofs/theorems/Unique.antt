@@ -10,40 +10,40 @@ use Rattle.token.specs.paper.Tests.{begins}
 use Rattle.token.specs.paper.Kinds.{Kind, TokenType, withoutValues}
 use Rattle.token.specs.paper.Shapes.{Stands}
 use Rattle.token.specs.paper.Reading.{Piece, Pieces, Reading, Valued}
-use Rattle.token.specs.paper.Records.{values_of}
+use Rattle.token.specs.paper.Records.{valuesOf}
 use Rattle.token.specs.computed.Flags.{GapKind}
-use Rattle.token.specs.computed.Answer.{Found, start_of, scan}
+use Rattle.token.specs.computed.Answer.{Found, startOf, scan}
 use Rattle.token.specs.declared.kinds.TokenKind.{TokenKind}
 use Rattle.token.specs.declared.kinds.TokenKind.TheVariants as tk
 use Rattle.token.proofs.theorems.Ticks.{Fell}
 use Rattle.token.proofs.theorems.Dispatch.{Hit}
 use Rattle.token.proofs.theorems.Complete.{scan-hits}
 
-abbrev pub kind_of : TokenKind → Kind
-kind_of tk.Ident = Kind.token TokenType.ident
-kind_of tk.OpId = Kind.token TokenType.opId
-kind_of tk.BacktickId = Kind.token TokenType.backtickId
-kind_of (tk.IntLit v) = Kind.token TokenType.intLit
-kind_of (tk.LongLit v) = Kind.token TokenType.longLit
-kind_of (tk.Str a e) = Kind.token TokenType.str
-kind_of tk.CharSym = Kind.token TokenType.charSym
-kind_of tk.LParen = Kind.token TokenType.lParen
-kind_of tk.RParen = Kind.token TokenType.rParen
-kind_of tk.LBracket = Kind.token TokenType.lBracket
-kind_of tk.RBracket = Kind.token TokenType.rBracket
-kind_of tk.LBrace = Kind.token TokenType.lBrace
-kind_of tk.RBrace = Kind.token TokenType.rBrace
-kind_of tk.Comma = Kind.token TokenType.comma
-kind_of tk.Semi = Kind.token TokenType.semi
-kind_of tk.Dot = Kind.token TokenType.dot
-kind_of (tk.Newline b) = Kind.lineEnd
-kind_of tk.Eof = Kind.blank
-kind_of (tk.Kw k) = Kind.token (TokenType.key k)
+abbrev pub kindOf : TokenKind → Kind
+kindOf tk.Ident = Kind.token TokenType.ident
+kindOf tk.OpId = Kind.token TokenType.opId
+kindOf tk.BacktickId = Kind.token TokenType.backtickId
+kindOf (tk.IntLit v) = Kind.token TokenType.intLit
+kindOf (tk.LongLit v) = Kind.token TokenType.longLit
+kindOf (tk.Str a e) = Kind.token TokenType.str
+kindOf tk.CharSym = Kind.token TokenType.charSym
+kindOf tk.LParen = Kind.token TokenType.lParen
+kindOf tk.RParen = Kind.token TokenType.rParen
+kindOf tk.LBracket = Kind.token TokenType.lBracket
+kindOf tk.RBracket = Kind.token TokenType.rBracket
+kindOf tk.LBrace = Kind.token TokenType.lBrace
+kindOf tk.RBrace = Kind.token TokenType.rBrace
+kindOf tk.Comma = Kind.token TokenType.comma
+kindOf tk.Semi = Kind.token TokenType.semi
+kindOf tk.Dot = Kind.token TokenType.dot
+kindOf (tk.Newline b) = Kind.lineEnd
+kindOf tk.Eof = Kind.blank
+kindOf (tk.Kw k) = Kind.token (TokenType.key k)
 
 -- the table of the kinds without values: each is its own kind's, and has none
 abbrev Bare : TokenType → Option TokenKind → Type 0
 Bare y none = Unit {0}
-Bare y (some t) = (Kind.token y ≡ kind_of t) × (values_of t ≡ [])
+Bare y (some t) = (Kind.token y ≡ kindOf t) × (valuesOf t ≡ [])
 
 bare-all : (y : TokenType) → Bare y (withoutValues y)
 bare-all TokenType.ident = (refl, refl)
@@ -64,10 +64,10 @@ bare-all TokenType.semi = (refl, refl)
 bare-all TokenType.dot = (refl, refl)
 bare-all (TokenType.key k) = (refl, refl)
 
-pub bare-kind : (y : TokenType) (t : TokenKind) → withoutValues y ≡ some t → (Kind.token y ≡ kind_of t) × (values_of t ≡ [])
+pub bare-kind : (y : TokenType) (t : TokenKind) → withoutValues y ≡ some t → (Kind.token y ≡ kindOf t) × (valuesOf t ≡ [])
 bare-kind y t e = rw e at (bare-all y)
 
-valued-kind : {n : ℕ} {s r : Text} {y : TokenType} {t : TokenKind} → Valued n s r y t → Kind.token y ≡ kind_of t
+valued-kind : {n : ℕ} {s r : Text} {y : TokenType} {t : TokenKind} → Valued n s r y t → Kind.token y ≡ kindOf t
 valued-kind {y} {t} (Valued.bare e) = (bare-kind y t e).0
 valued-kind (Valued.intLit h) = refl
 valued-kind (Valued.longLit h) = refl
@@ -82,7 +82,7 @@ gapKind GapKind.blockComment = Kind.blockComment
 
 abbrev kindFound : Found → Kind
 kindFound (Found.gap g r) = gapKind g
-kindFound (Found.token t r) = kind_of t
+kindFound (Found.token t r) = kindOf t
 kindFound (Found.stuck j q) = Kind.blank
 
 abbrev restFound : Found → Text
@@ -120,17 +120,17 @@ fell-none n s f k r h = clash (sym (exact (scan-hits n k s r h)).free ∙ ap isS
 
 -- nothing stands at the end
 none-scan : isStuck (scan 0 []) ≡ true
-unfolding scan start_of begins
+unfolding scan startOf begins
 none-scan = refl
 
-pub none_end : (k : Kind) (r : Text) → Stands k [] r → ⊥
-none_end k r h = clash (sym (exact (scan-hits 0 k [] r h)).free ∙ none-scan)
+pub none-end : (k : Kind) (r : Text) → Stands k [] r → ⊥
+none-end k r h = clash (sym (exact (scan-hits 0 k [] r h)).free ∙ none-scan)
 
 -- the same pieces lead to the same end, and to the script's end the same pieces lead
 unique : {n : ℕ} {s r q : Text} {ps qs : List Piece} → Pieces n s ps r → r ≡ [] → Pieces n s qs q → q ≡ [] → ps ≡ qs
 unique Pieces.done e Pieces.done f = refl
-unique {n} Pieces.done e (Pieces.piece {k} {m} h w) f = absurd (none_end k m (rw e at h))
-unique {n} (Pieces.piece {k} {m} h w) e Pieces.done f = absurd (none_end k m (rw f at h))
+unique {n} Pieces.done e (Pieces.piece {k} {m} h w) f = absurd (none-end k m (rw e at h))
+unique {n} (Pieces.piece {k} {m} h w) e Pieces.done f = absurd (none-end k m (rw f at h))
 unique {n} (Pieces.piece {k} {s} {m} {ps} h w) e (Pieces.piece {k = l} {m = o} {r = z} {ps = qs} g v) f =
     let j = one-kind k l s m o h g in
     let v' : Pieces n m qs z = rw j.1 v in

@@ -14,7 +14,7 @@ use Rattle.token.specs.paper.Shapes.{Stands}
 use Rattle.token.specs.paper.Reading.{Piece, Pieces, Valued, Tokens, AfterComment, Cut}
 use Rattle.token.specs.paper.Records.{values, recordLength, perByte, mostNeed, recordBytes}
 use Rattle.words.specs.Words.{le4, le8}
-use Rattle.token.specs.computed.Flags.{GapKind, fresh, push, cut_of}
+use Rattle.token.specs.computed.Flags.{GapKind, fresh, push, cutOf}
 use Rattle.token.specs.declared.gap.Gap.{Gap}
 use Rattle.token.specs.computed.Answer.{Found, scan, Answer, tokenized, refused, prepend, gapBefore, walk, answer}
 use Rattle.token.specs.declared.kinds.TokenKind.{TokenKind}
@@ -23,7 +23,7 @@ use Rattle.token.proofs.theorems.Ticks.{Fell}
 use Rattle.token.proofs.theorems.Dispatch.{Hit, Scanned, scan-stands}
 use Rattle.token.proofs.theorems.Unique.{bare-kind, fell-none}
 use Rattle.token.proofs.theorems.Shorter.{Strict, stands-strict, two-str, two-long}
-use Rattle.token.proofs.theorems.Flags.{Knows, cut-here, knows_fresh, knows-blank, knows-end, knows_line, knows-block, spaces, end-ends, blank-same, line-end-ends, other-ends}
+use Rattle.token.proofs.theorems.Flags.{Knows, cut-here, knows-fresh, knows-blank, knows-end, knows-line, knows-block, spaces, end-ends, blank-same, line-end-ends, other-ends}
 open text-laws use {text-suffix, text-place}
 
 -- ---- one step of the walk
@@ -46,18 +46,18 @@ unfolding walk
 walk-gap n f c s r g e h = rw (e, walk) (ap (gapBefore g c.at (place n r) f.comment) (walk-rest n (push g f) c s r h))
 
 pub walk-token : (n : ℕ) (f : Gap) (c : Char) (s r : Text) (t : TokenKind) → scan n (c ∷ s) ≡ Found.token t r → Strict r (c ∷ s)
-    → walk n 0 f (c ∷ s) ≡ prepend (record { kind = t; start = c.at; end = place n r; cut = cut_of f }) (walk n 0 fresh r)
+    → walk n 0 f (c ∷ s) ≡ prepend (record { kind = t; start = c.at; end = place n r; cut = cutOf f }) (walk n 0 fresh r)
 unfolding walk
 walk-token n f c s r t e h =
-    rw (e, walk) (ap (prepend (record { kind = t; start = c.at; end = place n r; cut = cut_of f })) (walk-rest n fresh c s r h))
+    rw (e, walk) (ap (prepend (record { kind = t; start = c.at; end = place n r; cut = cutOf f })) (walk-rest n fresh c s r h))
 
 pub walk-stuck : (n : ℕ) (f : Gap) (c : Char) (s q : Text) (j : ℕ) → scan n (c ∷ s) ≡ Found.stuck j q → walk n 0 f (c ∷ s) ≡ refused j (place n q)
 unfolding walk
 walk-stuck n f c s q j e = rw (e, walk)
 
-pub walk_end : (n : ℕ) (f : Gap) → walk n 0 f [] ≡ tokenized (record { kind = tk.Eof; start = n; end = n; cut = cut_of f } ∷ [])
+pub walk-end : (n : ℕ) (f : Gap) → walk n 0 f [] ≡ tokenized (record { kind = tk.Eof; start = n; end = n; cut = cutOf f } ∷ [])
 unfolding walk
-walk_end n f = refl
+walk-end n f = refl
 
 -- ---- the answer from a text on
 
@@ -126,9 +126,9 @@ module _ (script : List ℕ) where
   pub walk-finds : (fuel : ℕ) (s : Text) (gap : List Piece) (f : Gap) → length s ≤ fuel → ScriptText script s → Knows script gap f s
       → Walked script gap s (walk (length script) 0 f s)
   walk-finds zero [] gap f l t K =
-      Walked.reads [] _ (walk_end (length script) f) Pieces.done (Tokens.eof (cut-here K end-ends)) (eof-bytes (length script) (cut_of f))
+      Walked.reads [] _ (walk-end (length script) f) Pieces.done (Tokens.eof (cut-here K end-ends)) (eof-bytes (length script) (cutOf f))
   walk-finds (suc fuel) [] gap f l t K =
-      Walked.reads [] _ (walk_end (length script) f) Pieces.done (Tokens.eof (cut-here K end-ends)) (eof-bytes (length script) (cut_of f))
+      Walked.reads [] _ (walk-end (length script) f) Pieces.done (Tokens.eof (cut-here K end-ends)) (eof-bytes (length script) (cutOf f))
   walk-finds zero (c ∷ s) gap f l t K = absurd (omega arith)
   walk-finds (suc fuel) (c ∷ s) gap f l t K = go (scan-stands (length script) c s) (λ r gap f h t K. walk-finds fuel r gap f h t K)
     where
@@ -153,14 +153,14 @@ module _ (script : List ℕ) where
           (below r _ (push GapKind.lineEnd f) (shorter r m) u (knows-end script gap f (c ∷ s) K _ r refl (line-end-ends (c ∷ s) r h)))
       by k r h m u (Hit.lineComment e) below =
           skipped gap Kind.lineComment (c ∷ s) r _ _ (walk-gap n f c s r GapKind.lineComment e m) (inr refl) h
-          (below r _ (push GapKind.lineComment f) (shorter r m) u (knows_line script gap f (c ∷ s) K _ r refl (other-ends n (c ∷ s) (ap spaces e))))
+          (below r _ (push GapKind.lineComment f) (shorter r m) u (knows-line script gap f (c ∷ s) K _ r refl (other-ends n (c ∷ s) (ap spaces e))))
       by k r h m u (Hit.blockComment e) below =
           skipped gap Kind.blockComment (c ∷ s) r _ _ (walk-gap n f c s r GapKind.blockComment e m) (inr refl) h
           (below r _ (push GapKind.blockComment f) (shorter r m) u
           (knows-block script gap f (c ∷ s) K _ r refl (other-ends n (c ∷ s) (ap spaces e)) (text-place script r u)))
       by k r h m u (Hit.token {y} {t = x} e v) below =
-          tokened gap y x (cut_of f) (c ∷ s) r _ _ (walk-token n f c s r x e m) (cut-here K (other-ends n (c ∷ s) (ap spaces e)))
-          (rw (text-place script (c ∷ s) t, text-place script r u) v) h (below r [] fresh (shorter r m) u (knows_fresh script r))
+          tokened gap y x (cutOf f) (c ∷ s) r _ _ (walk-token n f c s r x e m) (cut-here K (other-ends n (c ∷ s) (ap spaces e)))
+          (rw (text-place script (c ∷ s) t, text-place script r u) v) h (below r [] fresh (shorter r m) u (knows-fresh script r))
 
       go : Scanned (length script) (c ∷ s) (scan (length script) (c ∷ s)) → Below → Walked script gap (c ∷ s) (walk (length script) 0 f (c ∷ s))
       go (Scanned.hit {k} {r} h e) below = let m = stands-strict k (c ∷ s) r h in by k r h m (text-suffix script r (c ∷ s) m.0 t) e below
@@ -169,4 +169,4 @@ module _ (script : List ℕ) where
 
   pub answer-finds : Walked script [] (from script 0) (answer script)
   unfolding answer
-  answer-finds = walk-finds (length (from script 0)) (from script 0) [] fresh (omega arith) (0, refl) (knows_fresh script (from script 0))
+  answer-finds = walk-finds (length (from script 0)) (from script 0) [] fresh (omega arith) (0, refl) (knows-fresh script (from script 0))

@@ -11,10 +11,10 @@ use Rattle.chars.specs.paper.Text.{from}
 use Rattle.token.specs.paper.Kinds.{Token}
 use Rattle.token.specs.paper.Records.{headLength, lineLength, recordLength, recordOf}
 use Rattle.token.specs.computed.Flags.{fresh}
-use Rattle.token.specs.code.ByteClass.{class_at}
+use Rattle.token.specs.code.ByteClass.{classAt}
 use Rattle.token.specs.code.Records.{storedIf, lineEndAt, trail, State, trailFrom, Reaches}
-use Rattle.token.specs.code.Names.{here_of}
-use Rattle.token.specs.code.Walk.{plainGap, gapAt, countAt, stateAt, Good, moved_to, lineBehind, commentBehind, Steps}
+use Rattle.token.specs.code.Names.{hereOf}
+use Rattle.token.specs.code.Walk.{plainGap, gapAt, countAt, stateAt, Good, movedTo, lineBehind, commentBehind, Steps}
 use Rattle.token.specs.declared.walk.Walked.{Walked}
 use Rattle.token.proofs.lexer.Turns.{Turn}
 use Rattle.token.proofs.records.Measures.{newline-length}
@@ -29,12 +29,12 @@ steps-trans a b = record { good = b.good; reaches = reach-trans a.reaches b.reac
 -- ---- the numbers of a state
 
 -- one more record: a head, and values
-one_more : (b v n k : ℕ) → b ≡ headLength * n + v → (b + (headLength + k) - (v + k)) / headLength ≡ n + 1
-one_more b v n k e = omega (arith, e)
+one-more : (b v n k : ℕ) → b ≡ headLength * n + v → (b + (headLength + k) - (v + k)) / headLength ≡ n + 1
+one-more b v n k e = omega (arith, e)
 
 -- no longer all bytes
-no_longer : (l b k : ℕ) → l ≤ b + 1 → eqb l (b + (headLength + k)) ≡ false
-no_longer l b k h = ne_eqb l (b + (headLength + k)) (λ e. absurd (omega (arith, e)))
+no-longer : (l b k : ℕ) → l ≤ b + 1 → eqb l (b + (headLength + k)) ≡ false
+no-longer l b k h = ne_eqb l (b + (headLength + k)) (λ e. absurd (omega (arith, e)))
 
 abbrev made : ℕ → ℕ → Bool → Bool → ℕ → State
 made i b newline comment n = record { at = i; gap = plainGap newline comment; count = n; bytes = b }
@@ -44,7 +44,7 @@ made-is i b {p} {q} {u} {v} {m} {n} e f h = ap (λ z. made i b z q m) e ∙ ap (
 
 -- where the walk reaches a state, and the code's numbers make it
 module _ {s : List ℕ} {x : Walked} {out next : List ℕ} {z : State} (r : Reaches s (stateAt x) out z next) where
-  pub steps-to : (y : Walked) → stateAt y ≡ z → y.class ≡ class_at s y.at → y.bytes ≡ headLength * countAt y + y.values → y.line ≤ y.bytes + 1 → y.mark ≤ y.bytes + 1
+  pub steps-to : (y : Walked) → stateAt y ≡ z → y.class ≡ classAt s y.at → y.bytes ≡ headLength * countAt y + y.values → y.line ≤ y.bytes + 1 → y.mark ≤ y.bytes + 1
       → Steps s x out y next
   steps-to y e c w l m =
       let k = subst (λ v. Reaches s (stateAt x) out v next) (sym e) r in
@@ -55,31 +55,31 @@ module _ {s : List ℕ} {x : Walked} {out next : List ℕ} {z : State} (r : Reac
 module _ {s : List ℕ} {x : Walked} (g : Good s x) where
   pub step-token : {t : Token} {e : ℕ} → Turn s x.at (gapAt x) t e fresh → (k : ℕ) → headLength + k ≡ recordLength t.kind → (out next : List ℕ)
       → next ≡ storedIf out x.bytes (recordOf t)
-      → Steps s x out (record { at = e; class = class_at s e; bytes = x.bytes + (headLength + k); values = x.values + k; line = x.line; mark = x.mark }) next
+      → Steps s x out (record { at = e; class = classAt s e; bytes = x.bytes + (headLength + k); values = x.values + k; line = x.line; mark = x.mark }) next
   step-token {t} {e} u k p out next q =
-      let n = one_more x.bytes x.values (countAt x) k g.whole in
+      let n = one-more x.bytes x.values (countAt x) k g.whole in
       let r = reach-turn (reach-start g.stands) u fresh refl (headLength + k) p next q in
-      let a = no_longer x.line x.bytes k g.line in
-      let b = no_longer x.mark x.bytes k g.mark in
+      let a = no-longer x.line x.bytes k g.line in
+      let b = no-longer x.mark x.bytes k g.mark in
       let l = g.line in
       let m = g.mark in
       steps-to r _ (made-is e (x.bytes + (headLength + k)) a b n) refl (omega (arith, n, g.whole)) (omega arith) (omega arith)
 
   -- a line end, alone or behind a comment
-  pub step_line : {a e : ℕ} {mark : Bool} → Turn s x.at (gapAt x) (lineEndAt a e mark) e (plainGap true false) → (out next : List ℕ)
+  pub step-line : {a e : ℕ} {mark : Bool} → Turn s x.at (gapAt x) (lineEndAt a e mark) e (plainGap true false) → (out next : List ℕ)
       → next ≡ storedIf out x.bytes (recordOf (lineEndAt a e mark)) → Steps s x out (lineBehind s x e) next
-  step_line {a} {e} {mark} u out next q =
-      let n = one_more x.bytes x.values (countAt x) 1 g.whole in
+  step-line {a} {e} {mark} u out next q =
+      let n = one-more x.bytes x.values (countAt x) 1 g.whole in
       let r = reach-turn (reach-start g.stands) u (plainGap true false) refl lineLength (sym (newline-length _)) next q in
       let c = eq-eqb (x.bytes + lineLength) (x.bytes + lineLength) refl in
-      let b = no_longer x.mark x.bytes 1 g.mark in
+      let b = no-longer x.mark x.bytes 1 g.mark in
       let m = g.mark in
       steps-to r _ (made-is e (x.bytes + lineLength) c b n) refl (omega (arith, n, g.whole)) (omega arith) (omega arith)
 
   -- on to another place, in the same gap: blanks
-  pub step_same : (k : ℕ) → x.at ≤ k → k ≤ length s → trail (length s) 0 (gapAt x) (from s k) ≡ trailFrom s (stateAt x) → (out : List ℕ)
-      → Steps s x out (moved_to x (here_of s k)) out
-  step_same k l w e out =
+  pub step-same : (k : ℕ) → x.at ≤ k → k ≤ length s → trail (length s) 0 (gapAt x) (from s k) ≡ trailFrom s (stateAt x) → (out : List ℕ)
+      → Steps s x out (movedTo x (hereOf s k)) out
+  step-same k l w e out =
       steps-to (reach-same (reach-start g.stands) k (gapAt x) l w e) _ refl refl g.whole g.line g.mark
 
   -- a comment that no cut comes of

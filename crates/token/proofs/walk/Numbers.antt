@@ -4,7 +4,7 @@ use mathlib.Core.Path.{◌≡◌, sym}
 use mathlib.Core.List.{List}
 use borrow.Author.Tests.{eq-eqb, ne_eqb}
 use Rattle.token.specs.code.ByteClass.{quoteClass, backtickClass}
-use Rattle.token.specs.code.Names.{here_of, nameEnd}
+use Rattle.token.specs.code.Names.{hereOf, nameEnd}
 use Rattle.token.specs.code.Quoted.{backtickEnd}
 use Rattle.token.specs.code.Walk.{nameNumber, prefixEnd}
 
@@ -18,7 +18,7 @@ module _ (s : List ℕ) (k i : ℕ) where
   unfolding prefixEnd
   prefix-quote q = sym (rw (eq-eqb k quoteClass q))
 
-  pub prefix-backtick : (k ≡ quoteClass → ⊥) → k ≡ backtickClass → here_of s (backtickEnd s i) ≡ prefixEnd s k i
+  pub prefix-backtick : (k ≡ quoteClass → ⊥) → k ≡ backtickClass → hereOf s (backtickEnd s i) ≡ prefixEnd s k i
   unfolding prefixEnd
   prefix-backtick n q = sym (rw (ne_eqb k quoteClass n, eq-eqb k backtickClass q))
 

@@ -7,29 +7,29 @@ use lib.ListN.{length, get_or}
 use lib.Dec.{eqb}
 use native.Mathlib.Nat.{add-zero}
 use native.Mathlib.Omega.{arith}
-use Rattle.chars.specs.paper.Quoted.{one_of}
+use Rattle.chars.specs.paper.Quoted.{oneOf}
 use Rattle.chars.specs.paper.Text.{from}
 use Rattle.chars.specs.computed.Runs.{afterRun}
 use Rattle.chars.proofs.theorems.Promises.{text-laws}
 use Rattle.token.specs.paper.Tests.{isAny, opensLine, opensBlock, opensComment}
 use Rattle.token.specs.paper.Kinds.{Token, kindNumber}
 use Rattle.token.specs.paper.Records.{values, headLength, recordLength}
-use Rattle.token.specs.computed.Flags.{GapKind, fresh, push, cut_of}
+use Rattle.token.specs.computed.Flags.{GapKind, fresh, push, cutOf}
 use Rattle.token.specs.computed.Answer.{scan}
 use Rattle.token.specs.code.Ascii.{AsciiToken, signNumber}
-use Rattle.token.specs.code.ByteClass.{class_at, blankClass, lfClass, crClass, upToBlank}
+use Rattle.token.specs.code.ByteClass.{classAt, blankClass, lfClass, crClass, upToBlank}
 use Rattle.token.specs.code.Cursor.{cursorAt}
-use Rattle.token.specs.code.Form.{headNumber, headBytes, form_of, plainForm, byForm}
-use Rattle.token.specs.code.Names.{here_of}
-use Rattle.token.specs.code.Piece.{piece_of, pieceNumber}
+use Rattle.token.specs.code.Form.{headNumber, headBytes, formOf, plainForm, byForm}
+use Rattle.token.specs.code.Names.{hereOf}
+use Rattle.token.specs.code.Piece.{pieceOf, pieceNumber}
 use Rattle.token.specs.code.Records.{storedIf, lineEndAt, gapGoes, trail}
-use Rattle.token.specs.code.Walk.{plainGap, gapAt, Good, moved_to, plainBehind, valuesBehind, lineBehind, commentBehind, Steps}
+use Rattle.token.specs.code.Walk.{plainGap, gapAt, Good, movedTo, plainBehind, valuesBehind, lineBehind, commentBehind, Steps}
 use Rattle.token.specs.declared.gap.Gap.{Gap}
 use Rattle.token.specs.declared.kinds.TokenKind.{TokenKind}
 use Rattle.token.specs.declared.kinds.TokenKind.TheVariants as tk
 use Rattle.token.specs.declared.piece.Piece.TheVariants as piece
 use Rattle.token.specs.declared.walk.Walked.{Walked}
-use Rattle.token.proofs.names.Ascii.{told, bare-length, bare-record, sign_low, sign-number}
+use Rattle.token.proofs.names.Ascii.{told, bare-length, bare-record, sign-low, sign-number}
 use Rattle.token.proofs.byte_class.Laws.{class-signs, class-blank, class-lf, class-cr, class-number}
 use borrow.Author.Tests.{eqb-true, eq-eqb, ne_eqb}
 use Rattle.token.proofs.cursor.Blanks.{one-blank, two-blanks}
@@ -40,12 +40,12 @@ use Rattle.token.proofs.gap.Scans.{GapTo, line-end-lf, line-end-crlf, line-end-f
 use Rattle.token.proofs.gap.Laws.{opens-line, opens-block}
 use Rattle.token.proofs.names.Laws.{comment-bytes}
 use Rattle.token.specs.code.Gap.{lineEndAfter, blockEnd}
-use Rattle.chars.proofs.Bools.{and_both}
+use Rattle.chars.proofs.Bools.{and-both}
 use Rattle.token.proofs.lexer.Laws.{next-token}
 use Rattle.token.proofs.lexer.Seeks.{gap-strict}
 use Rattle.token.proofs.lexer.Trails.{trail-gap, trail-blanks}
 use Rattle.token.proofs.lexer.Turns.{Turn, turn-token}
-use Rattle.token.proofs.walk.Laws.{step-token, step_line, step_same, step-comment}
+use Rattle.token.proofs.walk.Laws.{step-token, step-line, step-same, step-comment}
 open text-laws use {at-char, place-from}
 
 -- ---- gap pieces
@@ -67,31 +67,31 @@ line-end-turn s i j g f = record { walked = gap-trail s GapKind.lineEnd i j g f;
 
 -- ---- tokens
 
-pub found_here : (s : List ℕ) (i e : ℕ) (g : Gap) (k : TokenKind) → i < length s → piece.Token k (cursorAt e) ≡ piece_of (length s) (scan (length s) (from s i))
-    → Turn s i g (record { kind = k; start = i; end = e; cut = cut_of g }) e fresh
-found_here s i e g k h f = turn-token s i g k i (cursorAt e) (cut_of g) (next-token s i g h k (cursorAt e) (cut_of g) refl f)
+pub found-here : (s : List ℕ) (i e : ℕ) (g : Gap) (k : TokenKind) → i < length s → piece.Token k (cursorAt e) ≡ pieceOf (length s) (scan (length s) (from s i))
+    → Turn s i g (record { kind = k; start = i; end = e; cut = cutOf g }) e fresh
+found-here s i e g k h f = turn-token s i g k i (cursorAt e) (cutOf g) (next-token s i g h k (cursorAt e) (cutOf g) refl f)
 
 module _ {s : List ℕ} {x : Walked} (g : Good s x) (h : x.at < length s) where
   -- with values
-  pub step-valued : (k : TokenKind) (e : ℕ) → piece.Token k (cursorAt e) ≡ piece_of (length s) (scan (length s) (from s x.at)) → (l : ℕ) → headLength + (l - headLength) ≡ recordLength k
-      → l ≡ recordLength k → (out next : List ℕ) → next ≡ storedIf out x.bytes (byForm (form_of k) x.at e false) → Steps s x out (valuesBehind x (here_of s e) l) next
+  pub step-valued : (k : TokenKind) (e : ℕ) → piece.Token k (cursorAt e) ≡ pieceOf (length s) (scan (length s) (from s x.at)) → (l : ℕ) → headLength + (l - headLength) ≡ recordLength k
+      → l ≡ recordLength k → (out next : List ℕ) → next ≡ storedIf out x.bytes (byForm (formOf k) x.at e false) → Steps s x out (valuesBehind x (hereOf s e) l) next
   step-valued k e f l p r out next q =
       let t : Token = record { kind = k; start = x.at; end = e; cut = false } in
       let z : headLength + (l - headLength) ≡ l = p ∙ sym r in
-      subst (λ n. Steps s x out (record { at = e; class = class_at s e; bytes = x.bytes + n; values = x.values + (l - headLength); line = x.line; mark = x.mark }) next) z
-      (step-token g (found_here s x.at e (gapAt x) k h f) (l - headLength) p out next (q ∙ ap (storedIf out x.bytes) (form-record t)))
+      subst (λ n. Steps s x out (record { at = e; class = classAt s e; bytes = x.bytes + n; values = x.values + (l - headLength); line = x.line; mark = x.mark }) next) z
+      (step-token g (found-here s x.at e (gapAt x) k h f) (l - headLength) p out next (q ∙ ap (storedIf out x.bytes) (form-record t)))
 
   -- without values, by the kind's number
-  pub step-bare : (k : TokenKind) (e : ℕ) → piece.Token k (cursorAt e) ≡ piece_of (length s) (scan (length s) (from s x.at)) → values k ≡ []
-      → (out next : List ℕ) → next ≡ storedIf out x.bytes (byForm (plainForm (kindNumber k)) x.at e false) → Steps s x out (plainBehind x (here_of s e)) next
+  pub step-bare : (k : TokenKind) (e : ℕ) → piece.Token k (cursorAt e) ≡ pieceOf (length s) (scan (length s) (from s x.at)) → values k ≡ []
+      → (out next : List ℕ) → next ≡ storedIf out x.bytes (byForm (plainForm (kindNumber k)) x.at e false) → Steps s x out (plainBehind x (hereOf s e)) next
   step-bare k e f v out next q =
       let t : Token = record { kind = k; start = x.at; end = e; cut = false } in
-      subst (λ n. Steps s x out (record { at = e; class = class_at s e; bytes = x.bytes + headLength; values = n; line = x.line; mark = x.mark }) next) (add-zero x.values)
-      (step-token g (found_here s x.at e (gapAt x) k h f) 0 (bare-length k v) out next (q ∙ ap (storedIf out x.bytes) (sym (bare-record t v))))
+      subst (λ n. Steps s x out (record { at = e; class = classAt s e; bytes = x.bytes + headLength; values = n; line = x.line; mark = x.mark }) next) (add-zero x.values)
+      (step-token g (found-here s x.at e (gapAt x) k h f) 0 (bare-length k v) out next (q ∙ ap (storedIf out x.bytes) (sym (bare-record t v))))
 
   -- recognised from its ASCII bytes
-  pub step-ascii : (e : ℕ) → AsciiToken s x.at e → (n : ℕ) → n ≡ pieceNumber (piece_of (length s) (scan (length s) (from s x.at))) → (out next : List ℕ)
-      → next ≡ storedIf out x.bytes (byForm (plainForm n) x.at e false) → Steps s x out (plainBehind x (here_of s e)) next
+  pub step-ascii : (e : ℕ) → AsciiToken s x.at e → (n : ℕ) → n ≡ pieceNumber (pieceOf (length s) (scan (length s) (from s x.at))) → (out next : List ℕ)
+      → next ≡ storedIf out x.bytes (byForm (plainForm n) x.at e false) → Steps s x out (plainBehind x (hereOf s e)) next
   step-ascii e a n r out next q =
       let t = told s x.at e h a in
       let z : n ≡ kindNumber t.kind = r ∙ sym (ap pieceNumber t.found) in
@@ -99,8 +99,8 @@ module _ {s : List ℕ} {x : Walked} (g : Good s x) (h : x.at < length s) where
 
 -- ---- by the class
 
-sign-inside : (s : List ℕ) (i : ℕ) → one_of "()[]{},;." (get_or s i 0) ≡ true → i < length s
-sign-inside s i e = inside s i (sign_low (get_or s i 0) e).0
+sign-inside : (s : List ℕ) (i : ℕ) → oneOf "()[]{},;." (get_or s i 0) ≡ true → i < length s
+sign-inside s i e = inside s i (sign-low (get_or s i 0) e).0
 
 pub or-first : (a b : Bool) → a || b ≡ true → b ≡ false → a ≡ true
 or-first true b e f = refl
@@ -112,14 +112,14 @@ plain-head h k start end cut e = head-fields h headLength k start end cut (omega
 
 module _ {s : List ℕ} {x : Walked} (g : Good s x) where
   -- one of the nine signs
-  pub sign-here : upToBlank x.class ≡ true → eqb x.class blankClass ≡ false → one_of "()[]{},;." (get_or s x.at 0) ≡ true
+  pub sign-here : upToBlank x.class ≡ true → eqb x.class blankClass ≡ false → oneOf "()[]{},;." (get_or s x.at 0) ≡ true
   sign-here a b =
       let u = sym (class-signs (get_or s x.at 0)) ∙ ap upToBlank (sym g.class) ∙ a in
       let v = sym (class-blank (get_or s x.at 0)) ∙ ap (λ e. eqb e blankClass) (sym g.class) ∙ b in
-      or-first (one_of "()[]{},;." (get_or s x.at 0)) (one_of " \t" (get_or s x.at 0)) u v
+      or-first (oneOf "()[]{},;." (get_or s x.at 0)) (oneOf " \t" (get_or s x.at 0)) u v
 
   pub step-sign : upToBlank x.class ≡ true → eqb x.class blankClass ≡ false → (out next : List ℕ)
-      → next ≡ storedIf out x.bytes (headBytes (headLength + 32768 * x.class) x.at (x.at + 1) false) → Steps s x out (plainBehind x (here_of s (x.at + 1))) next
+      → next ≡ storedIf out x.bytes (headBytes (headLength + 32768 * x.class) x.at (x.at + 1) false) → Steps s x out (plainBehind x (hereOf s (x.at + 1))) next
   step-sign a b out next q =
       let o = sign-here a b in
       let h = sign-inside s x.at o in
@@ -130,30 +130,30 @@ module _ {s : List ℕ} {x : Walked} (g : Good s x) where
       step-ascii g h (x.at + 1) (AsciiToken.sign o refl) m (sign-number s x.at (x.at + 1) h o) out next (q ∙ ap (storedIf out x.bytes) (plain-head _ m x.at (x.at + 1) false z))
 
   -- blanks
-  pub step-blanks : (k : ℕ) → x.at ≤ k → k ≤ length s → from s k ≡ afterRun (isAny " \t") (from s x.at) → (out : List ℕ) → Steps s x out (moved_to x (here_of s k)) out
-  step-blanks k l w e out = step_same g k l w (ap (trail (length s) 0 (gapAt x)) e ∙ trail-blanks (length s) (gapAt x) (from s x.at)) out
+  pub step-blanks : (k : ℕ) → x.at ≤ k → k ≤ length s → from s k ≡ afterRun (isAny " \t") (from s x.at) → (out : List ℕ) → Steps s x out (movedTo x (hereOf s k)) out
+  step-blanks k l w e out = step-same g k l w (ap (trail (length s) 0 (gapAt x)) e ∙ trail-blanks (length s) (gapAt x) (from s x.at)) out
 
   -- a line end
   pub step-line-end : (e : ℕ) → GapTo s GapKind.lineEnd x.at e → (out next : List ℕ)
-      → next ≡ storedIf out x.bytes (byForm (form_of (tk.Newline (eqb x.mark x.bytes))) x.at e false) → Steps s x out (lineBehind s x e) next
+      → next ≡ storedIf out x.bytes (byForm (formOf (tk.Newline (eqb x.mark x.bytes))) x.at e false) → Steps s x out (lineBehind s x e) next
   step-line-end e f out next q =
       let t = lineEndAt x.at e (eqb x.mark x.bytes) in
-      step_line g (line-end-turn s x.at e (gapAt x) f) out next (q ∙ ap (storedIf out x.bytes) (form-record t))
+      step-line g (line-end-turn s x.at e (gapAt x) f) out next (q ∙ ap (storedIf out x.bytes) (form-record t))
 
   -- a line comment
   pub step-line-comment : (e : ℕ) → GapTo s GapKind.lineComment x.at e → (out : List ℕ) → Steps s x out (commentBehind s x e) out
   step-line-comment e f out = let o = f.on in step-comment g e (omega arith) f.within (sym (gap-trail s GapKind.lineComment x.at e (gapAt x) f)) out
 
   -- a block comment, where no line end of its gap came
-  pub step_block : (e : ℕ) → GapTo s GapKind.blockComment x.at e → eqb x.line x.bytes ≡ false → (out : List ℕ) → Steps s x out (commentBehind s x e) out
-  step_block e f n out =
+  pub step-block : (e : ℕ) → GapTo s GapKind.blockComment x.at e → eqb x.line x.bytes ≡ false → (out : List ℕ) → Steps s x out (commentBehind s x e) out
+  step-block e f n out =
       let o = f.on in
       let y : push GapKind.blockComment (gapAt x) ≡ plainGap (eqb x.line x.bytes) true = rw n in
       step-comment g e (omega arith) f.within (sym (gap-trail s GapKind.blockComment x.at e (gapAt x) f ∙ ap (λ z. trail (length s) 0 z (from s e)) y)) out
 
   -- a block comment and the line end behind it, past blanks
   pub step-block-line : (e k j : ℕ) → GapTo s GapKind.blockComment x.at e → eqb x.line x.bytes ≡ true → e ≤ k → from s k ≡ afterRun (isAny " \t") (from s e) → GapTo s GapKind.lineEnd k j
-      → (out next : List ℕ) → next ≡ storedIf out x.bytes (byForm (form_of (tk.Newline true)) k j false) → Steps s x out (lineBehind s x j) next
+      → (out next : List ℕ) → next ≡ storedIf out x.bytes (byForm (formOf (tk.Newline true)) k j false) → Steps s x out (lineBehind s x j) next
   step-block-line e k j f n l b d out next q =
       let o = f.on in
       let u = d.on in
@@ -162,28 +162,28 @@ module _ {s : List ℕ} {x : Walked} (g : Good s x) where
       let w = gap-trail s GapKind.blockComment x.at e (gapAt x) f
       ∙ sym (ap (trail (length s) 0 y) b ∙ trail-blanks (length s) y (from s e))
       ∙ gap-trail s GapKind.lineEnd k j y d in
-      step_line g (record { walked = w; on = omega arith; within = d.within }) out next (q ∙ ap (storedIf out x.bytes) (form-record t))
+      step-line g (record { walked = w; on = omega arith; within = d.within }) out next (q ∙ ap (storedIf out x.bytes) (form-record t))
 
   -- the byte, from a test of its class
-  pub by-class : (f : ℕ → Bool) {b : Bool} → f x.class ≡ b → f (class_at s x.at) ≡ b
+  pub by-class : (f : ℕ → Bool) {b : Bool} → f x.class ≡ b → f (classAt s x.at) ≡ b
   by-class f e = sym (ap f g.class) ∙ e
 
-  blank-here : eqb x.class blankClass ≡ true → one_of " \t" (get_or s x.at 0) ≡ true
+  blank-here : eqb x.class blankClass ≡ true → oneOf " \t" (get_or s x.at 0) ≡ true
   blank-here e = sym (class-blank (get_or s x.at 0)) ∙ by-class (λ z. eqb z blankClass) e
 
-  pub step-one-blank : eqb x.class blankClass ≡ true → (class_at s (x.at + 1) ≡ blankClass → ⊥) → (out : List ℕ) → Steps s x out (moved_to x (here_of s (x.at + 1))) out
+  pub step-one-blank : eqb x.class blankClass ≡ true → (classAt s (x.at + 1) ≡ blankClass → ⊥) → (out : List ℕ) → Steps s x out (movedTo x (hereOf s (x.at + 1))) out
   step-one-blank e n out =
-      let o = one-blank s x.at (blank-here e) (sym (class-blank (get_or s (x.at + 1) 0)) ∙ ne_eqb (class_at s (x.at + 1)) blankClass n) in
+      let o = one-blank s x.at (blank-here e) (sym (class-blank (get_or s (x.at + 1) 0)) ∙ ne_eqb (classAt s (x.at + 1)) blankClass n) in
       step-blanks (x.at + 1) (omega arith) o.0 o.1 out
 
-  blank-next : class_at s (x.at + 1) ≡ blankClass → one_of " \t" (get_or s (x.at + 1) 0) ≡ true
-  blank-next e = sym (class-blank (get_or s (x.at + 1) 0)) ∙ eq-eqb (class_at s (x.at + 1)) blankClass e
+  blank-next : classAt s (x.at + 1) ≡ blankClass → oneOf " \t" (get_or s (x.at + 1) 0) ≡ true
+  blank-next e = sym (class-blank (get_or s (x.at + 1) 0)) ∙ eq-eqb (classAt s (x.at + 1)) blankClass e
 
-  pub two_here : eqb x.class blankClass ≡ true → class_at s (x.at + 1) ≡ blankClass → x.at + 2 ≤ length s
-  two_here e f = (two-blanks s x.at (blank-here e) (blank-next f)).0
+  pub two-here : eqb x.class blankClass ≡ true → classAt s (x.at + 1) ≡ blankClass → x.at + 2 ≤ length s
+  two-here e f = (two-blanks s x.at (blank-here e) (blank-next f)).0
 
-  pub step-more-blanks : eqb x.class blankClass ≡ true → class_at s (x.at + 1) ≡ blankClass → (k : ℕ) → k ≤ length s → x.at + 2 ≤ k
-      → from s k ≡ afterRun (isAny " \t") (from s (x.at + 2)) → (out : List ℕ) → Steps s x out (moved_to x (here_of s k)) out
+  pub step-more-blanks : eqb x.class blankClass ≡ true → classAt s (x.at + 1) ≡ blankClass → (k : ℕ) → k ≤ length s → x.at + 2 ≤ k
+      → from s k ≡ afterRun (isAny " \t") (from s (x.at + 2)) → (out : List ℕ) → Steps s x out (movedTo x (hereOf s k)) out
   step-more-blanks e f k w l q out = step-blanks k (omega arith) w (q ∙ (two-blanks s x.at (blank-here e) (blank-next f)).1) out
 
   -- line ends
@@ -202,16 +202,16 @@ module _ {s : List ℕ} {x : Walked} (g : Good s x) where
 
 -- ---- where the readers say that comments and line ends end
 
-pub block_to : (s : List ℕ) (i e : ℕ) → opensBlock (from s i) ≡ true → e ≡ blockEnd s i → (e ≡ i → ⊥) → GapTo s GapKind.blockComment i e
-block_to s i e o q n = subst (λ z. GapTo s GapKind.blockComment i z) (sym q) (block-end-found s i o (λ z. n (q ∙ z)))
+pub block-to : (s : List ℕ) (i e : ℕ) → opensBlock (from s i) ≡ true → e ≡ blockEnd s i → (e ≡ i → ⊥) → GapTo s GapKind.blockComment i e
+block-to s i e o q n = subst (λ z. GapTo s GapKind.blockComment i z) (sym q) (block-end-found s i o (λ z. n (q ∙ z)))
 
 pub line-to : (s : List ℕ) (i e : ℕ) → e ≡ lineEndAfter s i → (e ≡ i → ⊥) → GapTo s GapKind.lineEnd i e
 line-to s i e q n = subst (λ z. GapTo s GapKind.lineEnd i z) (sym q) (line-end-found s i (λ z. n (q ∙ z)))
 
 -- which comment is opened, by its second byte
 module _ (s : List ℕ) (i : ℕ) (o : opensComment (from s i) ≡ true) where
-  slash-byte : (eqb (get_or s i 0) 0x2F ≡ true) × (one_of "*/" (get_or s (i + 1) 0) ≡ true)
-  slash-byte = and_both (eqb (get_or s i 0) 0x2F) (one_of "*/" (get_or s (i + 1) 0)) (sym (comment-bytes s i) ∙ o)
+  slash-byte : (eqb (get_or s i 0) 0x2F ≡ true) × (oneOf "*/" (get_or s (i + 1) 0) ≡ true)
+  slash-byte = and-both (eqb (get_or s i 0) 0x2F) (oneOf "*/" (get_or s (i + 1) 0)) (sym (comment-bytes s i) ∙ o)
 
   pub opens-line-here : get_or s (i + 1) 0 ≡ 0x2F → opensLine (from s i) ≡ true
   opens-line-here e = opens-line s i ∙ rw (slash-byte.0, eq-eqb (get_or s (i + 1) 0) 0x2F e)

@@ -9,18 +9,18 @@ use lib.Dec.{eqb, leb}
 use native.Mathlib.Omega.{arith}
 use borrow.Author.Tests.{eqb-true, eqb-false, eq-eqb, leb-true, le-leb}
 use Rattle.chars.specs.paper.Text.{from}
-use Rattle.chars.proofs.Bools.{clash, and_both}
+use Rattle.chars.proofs.Bools.{clash, and-both}
 use Rattle.chars.proofs.theorems.Promises.{text-laws}
 use Rattle.token.specs.paper.Tests.{quote}
-use Rattle.token.specs.paper.Kinds.{kwNumber, word_of}
+use Rattle.token.specs.paper.Kinds.{kwNumber, wordOf}
 use Rattle.token.specs.paper.Records.{values}
 use Rattle.token.specs.computed.Answer.{codesTo, afterIdent}
-use Rattle.token.specs.code.ByteClass.{class_at, quoteClass, backtickClass, keywordClass, upToBlank, startsWord}
+use Rattle.token.specs.code.ByteClass.{classAt, quoteClass, backtickClass, keywordClass, upToBlank, startsWord}
 use Rattle.token.specs.code.Cursor.{cursorAt}
 use Rattle.token.specs.code.Form.{plainForm, byForm}
 use Rattle.token.specs.code.Keyword.{numberOr}
 use Rattle.token.specs.code.Names.{nameTo, nameEnd}
-use Rattle.token.specs.code.Piece.{piece_of}
+use Rattle.token.specs.code.Piece.{pieceOf}
 use Rattle.token.specs.code.Records.{storedIf}
 use Rattle.token.specs.code.Walk.{Good, plainBehind, Steps, beginsName, nameNumber, prefixEnd, LeftTo, Opens}
 use Rattle.token.specs.declared.kinds.Kw.{Kw}
@@ -38,12 +38,12 @@ use Rattle.token.proofs.names.Ascii.{word-scan}
 use Rattle.token.proofs.quoted.Found.{backtick-found}
 use Rattle.token.proofs.walk.Numbers.{prefix-quote, prefix-backtick, prefix-name, name-backtick}
 use Rattle.token.proofs.walk.Pieces.{by-class, step-bare}
-use Rattle.token.proofs.walk.Words.{one_of, behind-here, start-byte, word-inside, word-leaves, name-counts, step-name}
-open text-laws use {suffix_refl}
+use Rattle.token.proofs.walk.Words.{oneOf, behind-here, start-byte, word-inside, word-leaves, name-counts, step-name}
+open text-laws use {suffix-refl}
 
-and_first : (a b : Bool) → a && b ≡ false → b ≡ true → a ≡ false
-and_first true b e f = clash (sym e ∙ f)
-and_first false b e f = refl
+and-first : (a b : Bool) → a && b ≡ false → b ≡ true → a ≡ false
+and-first true b e f = clash (sym e ∙ f)
+and-first false b e f = refl
 
 -- with which of the three it begins
 data Begins (k : ℕ) : Type 0 where
@@ -81,21 +81,21 @@ unfolding numberOr
 few none l = refl
 few (some j) l = let a = keyword-above j in absurd (omega arith)
 
-at_of : {e h : Here} → e ≡ h → e.at ≡ h.at
-at_of q = ap (λ (z : Here). z.at) q
+at-of : {e h : Here} → e ≡ h → e.at ≡ h.at
+at-of q = ap (λ (z : Here). z.at) q
 
 class-of : {e h : Here} → e ≡ h → e.class ≡ h.class
 class-of q = ap (λ (z : Here). z.class) q
 
-quote-here : (s : List ℕ) (i : ℕ) → eqb (class_at s i) quoteClass ≡ true → get_or s i 0 ≡ 0x22
-quote-here s i e = one_of 0x22 (sym (class-quote (get_or s i 0)) ∙ e)
+quote-here : (s : List ℕ) (i : ℕ) → eqb (classAt s i) quoteClass ≡ true → get_or s i 0 ≡ 0x22
+quote-here s i e = oneOf 0x22 (sym (class-quote (get_or s i 0)) ∙ e)
 
 module _ {s : List ℕ} {x : Walked} (g : Good s x) (k : beginsName x.class ≡ true) where
   pub name-inside : x.at < length s
   name-inside = class-inside s x.at beginsName refl (by-class g beginsName k)
 
   tick : x.class ≡ backtickClass → get_or s x.at 0 ≡ 0x60
-  tick c = one_of 0x60 (sym (class-backtick (get_or s x.at 0)) ∙ by-class g (λ y. eqb y backtickClass) (eq-eqb x.class backtickClass c))
+  tick c = oneOf 0x60 (sym (class-backtick (get_or s x.at 0)) ∙ by-class g (λ y. eqb y backtickClass) (eq-eqb x.class backtickClass c))
 
   module _ (e : Here) (q : e ≡ prefixEnd s x.class x.at) where
     -- where it begins with a letter
@@ -107,7 +107,7 @@ module _ {s : List ℕ} {x : Walked} (g : Good s x) (k : beginsName x.class ≡ 
       rests st = name-rest s x.at (word-inside g w) e.at st.place st.narrow
 
       left : (b : Bool) → eqb e.at x.at ≡ b → LeftTo s x.at e.at
-      left true f = rw (eqb-true e.at x.at f) (omega arith, g.stands.within, suffix_refl (from s x.at))
+      left true f = rw (eqb-true e.at x.at f) (omega arith, g.stands.within, suffix-refl (from s x.at))
       left false f = let r = rests (name-stops s x.at e named (moved x.at e (eqb-false e.at x.at f))) in word-leaves g w e.at r.1 r.2
 
     pub name-left : eqb x.class keywordClass ≡ true → LeftTo s x.at e.at
@@ -127,30 +127,30 @@ module _ {s : List ℕ} {x : Walked} (g : Good s x) (k : beginsName x.class ≡ 
       name-opens f = go (begins x.class k)
         where
           both : (eqb e.class quoteClass ≡ true) × (leb j 3 ≡ true)
-          both = and_both (eqb e.class quoteClass) (leb j 3) f
+          both = and-both (eqb e.class quoteClass) (leb j 3) f
 
           is-quote : e.class ≡ quoteClass
           is-quote = eqb-true e.class quoteClass both.0
 
-          byte : e.class ≡ class_at s e.at → get_or s e.at 0 ≡ 0x22
+          byte : e.class ≡ classAt s e.at → get_or s e.at 0 ≡ 0x22
           byte c = quote-here s e.at (sym (ap (λ y. eqb y quoteClass) c) ∙ both.0)
 
           go : Begins x.class → Opens s x e.at
           go (Begins.quoted c) =
               let h = q ∙ sym (prefix-quote s x.class x.at c) in
-              Opens.plain (at_of h) (byte (class-of h ∙ g.class ∙ ap (class_at s) (sym (at_of h))))
+              Opens.plain (at-of h) (byte (class-of h ∙ g.class ∙ ap (classAt s) (sym (at-of h))))
           go (Begins.ticked n c) =
               let h = q ∙ sym (prefix-backtick s x.class x.at n c) in
-              let d = class-of h ∙ ap (class_at s) (sym (at_of h)) in
-              let o : e.at ≡ x.at → ⊥ = λ y. absurd (omega (arith, is-quote, d ∙ ap (class_at s) y ∙ sym g.class, c)) in
-              let b = backtick-found s x.at (tick c) e.at (at_of h) o in
+              let d = class-of h ∙ ap (classAt s) (sym (at-of h)) in
+              let o : e.at ≡ x.at → ⊥ = λ y. absurd (omega (arith, is-quote, d ∙ ap (classAt s) y ∙ sym g.class, c)) in
+              let b = backtick-found s x.at (tick c) e.at (at-of h) o in
               Opens.prefixed tk.BacktickId b.0 b.1 (byte d) (b.2 ∙ b.3)
           go (Begins.lettered n m w) =
               let st = name-stops s x.at e (named n m w) (classed x.at e (λ y. absurd (omega (arith, is-quote, y)))) in
               let r = rests n m w st in
               let c = name-counts g w e.at r.1 r.2 in
               let l = leb-true j 3 both.1 in
-              let o = few (word_of (codesTo (from s x.at) (from s e.at))) (omega (arith, c, z)) in
+              let o = few (wordOf (codesTo (from s x.at) (from s e.at))) (omega (arith, c, z)) in
               Opens.prefixed tk.Ident r.0 r.1 (byte st.class-is) (word-scan s x.at e.at (word-inside g w) (start-byte g w) r.1 r.2 none o)
 
       pub step-named : eqb e.class quoteClass && leb j 3 ≡ false → (e.at ≡ x.at → ⊥) → (out next : List ℕ)
@@ -158,18 +158,18 @@ module _ {s : List ℕ} {x : Walked} (g : Good s x) (k : beginsName x.class ≡ 
       unfolding values
       step-named f o out next v = go (begins x.class k)
         where
-          unquoted : e.class ≡ class_at s e.at → j ≤ 3 → quote (from s e.at) ≡ false
-          unquoted c l = quote-class s e.at ∙ sym (ap (λ y. eqb y quoteClass) c) ∙ and_first (eqb e.class quoteClass) (leb j 3) f (le-leb j 3 l)
+          unquoted : e.class ≡ classAt s e.at → j ≤ 3 → quote (from s e.at) ≡ false
+          unquoted c l = quote-class s e.at ∙ sym (ap (λ y. eqb y quoteClass) c) ∙ and-first (eqb e.class quoteClass) (leb j 3) f (le-leb j 3 l)
 
           go : Begins x.class → Steps s x out (plainBehind x e) next
-          go (Begins.quoted c) = absurd (o (at_of (q ∙ sym (prefix-quote s x.class x.at c))))
+          go (Begins.quoted c) = absurd (o (at-of (q ∙ sym (prefix-quote s x.class x.at c))))
           go (Begins.ticked n c) =
               let h = q ∙ sym (prefix-backtick s x.class x.at n c) in
-              let d = class-of h ∙ ap (class_at s) (sym (at_of h)) in
-              let b = backtick-found s x.at (tick c) e.at (at_of h) o in
+              let d = class-of h ∙ ap (classAt s) (sym (at-of h)) in
+              let b = backtick-found s x.at (tick c) e.at (at-of h) o in
               let y : j ≡ 3 = z ∙ sym (name-backtick s x.class x.at e.at c) in
               let p = token-at s tk.BacktickId (cursorAt e.at) (from s e.at) b.1 refl
-              ∙ ap (piece_of (length s)) (sym (b.2 ∙ b.3 ∙ not-prefixed (length s) tk.BacktickId (from s x.at) (from s e.at) (unquoted d (omega arith)))) in
+              ∙ ap (pieceOf (length s)) (sym (b.2 ∙ b.3 ∙ not-prefixed (length s) tk.BacktickId (from s x.at) (from s e.at) (unquoted d (omega arith)))) in
               behind-here e d (step-bare g name-inside tk.BacktickId e.at p refl out next (v ∙ ap (λ i. storedIf out x.bytes (byForm (plainForm i) x.at e.at false)) y))
           go (Begins.lettered n m w) =
               let st = name-stops s x.at e (named n m w) (moved x.at e o) in

@@ -17,16 +17,16 @@ use Rattle.chars.proofs.Bools.{clash}
 use Rattle.chars.proofs.theorems.Promises.{code_laws, text-laws}
 use Rattle.token.specs.paper.Tests.{isDigit, digitValue, quote, freeSign, opensComment}
 use Rattle.token.specs.declared.kinds.Kw.{Kw}
-use Rattle.token.specs.paper.Kinds.{kwNumber, word_of, run_of, wordKeywords}
+use Rattle.token.specs.paper.Kinds.{kwNumber, wordOf, runOf, wordKeywords}
 use Rattle.token.specs.paper.Records.{values, intLength, longLength, strLength}
 use Rattle.token.specs.computed.Answer.{scan, codesTo, closed, closeString, orPrefixed, prefixedOf, afterIdent}
-use Rattle.token.specs.code.ByteClass.{class_at, digitClass, tickClass, backtickClass, keywordClass, wideClass, slashClass, upToBlank, startsWord, in_word, isSign, asksMore, inRun}
+use Rattle.token.specs.code.ByteClass.{classAt, digitClass, tickClass, backtickClass, keywordClass, wideClass, slashClass, upToBlank, startsWord, inWord, isSign, asksMore, inRun}
 use Rattle.token.specs.code.Cursor.{cursorAt}
-use Rattle.token.specs.code.Form.{form_of, plainForm, byForm}
+use Rattle.token.specs.code.Form.{formOf, plainForm, byForm}
 use Rattle.token.specs.code.Keyword.{numberOr}
 use Rattle.token.specs.code.Literal.{literalOf}
-use Rattle.token.specs.code.Names.{here_of, runTo, nameTo, operatorTo}
-use Rattle.token.specs.code.Piece.{piece_of, pieceNumber}
+use Rattle.token.specs.code.Names.{hereOf, runTo, nameTo, operatorTo}
+use Rattle.token.specs.code.Piece.{pieceOf, pieceNumber}
 use Rattle.token.specs.code.Quoted.{stringOf}
 use Rattle.token.specs.code.Records.{storedIf}
 use Rattle.token.specs.code.Symbol.{charSymEnd}
@@ -41,7 +41,7 @@ use Rattle.token.specs.declared.walk.Walked.{Walked}
 use Rattle.token.proofs.byte_class.Laws.{class-start, class-sign, class-digit, class-tick, class-keyword}
 use Rattle.token.proofs.cursor.Bytes.{inside}
 use Rattle.token.proofs.form.Shapes.{int-size, long-size, str-size}
-use Rattle.token.proofs.keyword.Laws.{word_at, first-none}
+use Rattle.token.proofs.keyword.Laws.{word-at, first-none}
 use Rattle.token.proofs.literal.Laws.{int-found, long-found, digit-alone}
 use Rattle.token.proofs.names.Ascii.{isStart, word-bare, word-left, word-scan, word-found, run-to, run-found, run-counts}
 use Rattle.token.proofs.names.Bytes.{Stops, class-inside}
@@ -54,15 +54,15 @@ open code_laws use {carry}
 open text-laws use {place-from}
 
 -- a place that the code handed back with the class there
-pub here-is : (s : List ℕ) (e : Here) → e.class ≡ class_at s e.at → here_of s e.at ≡ e
+pub here-is : (s : List ℕ) (e : Here) → e.class ≡ classAt s e.at → hereOf s e.at ≡ e
 here-is s e q = ap (λ c. record { at = e.at; class = c }) (sym q)
 
-pub behind-here : {s : List ℕ} {x : Walked} {out next : List ℕ} (e : Here) → e.class ≡ class_at s e.at → Steps s x out (plainBehind x (here_of s e.at)) next
+pub behind-here : {s : List ℕ} {x : Walked} {out next : List ℕ} (e : Here) → e.class ≡ classAt s e.at → Steps s x out (plainBehind x (hereOf s e.at)) next
     → Steps s x out (plainBehind x e) next
 behind-here {s} {x} {out} {next} e q h = subst (λ z. Steps s x out (plainBehind x z) next) (here-is s e q) h
 
-pub one_of : (b : ℕ) {c : ℕ} → eqb c b || false ≡ true → c ≡ b
-one_of b {c} e = eqb-true c b (or-first (eqb c b) false e refl)
+pub oneOf : (b : ℕ) {c : ℕ} → eqb c b || false ≡ true → c ≡ b
+oneOf b {c} e = eqb-true c b (or-first (eqb c b) false e refl)
 
 or-prefixed : (n : ℕ) (k : TokenKind) (a r : Text) → quote r ≡ true → orPrefixed n k a r ≡ prefixedOf n a (closeString true r)
 unfolding orPrefixed
@@ -70,10 +70,10 @@ or-prefixed n k a r z = rw z
 
 -- a string that is prefixed from i to q, and closed at e
 prefixed-piece : (s : List ℕ) (i q e : ℕ) (k : TokenKind) → i < length s → quote (from s q) ≡ true → e ≤ length s → closeString true (from s q) ≡ closed (from s e)
-    → scan (length s) (from s i) ≡ orPrefixed (length s) k (from s i) (from s q) → piece.Token (tk.Str i e) (cursorAt e) ≡ piece_of (length s) (scan (length s) (from s i))
-unfolding piece_of
+    → scan (length s) (from s i) ≡ orPrefixed (length s) k (from s i) (from s q) → piece.Token (tk.Str i e) (cursorAt e) ≡ pieceOf (length s) (scan (length s) (from s i))
+unfolding pieceOf
 prefixed-piece s i q e k h z l c f =
-    sym (ap (piece_of (length s)) (f ∙ or-prefixed (length s) k (from s i) (from s q) z ∙ ap (prefixedOf (length s) (from s i)) c)
+    sym (ap (pieceOf (length s)) (f ∙ or-prefixed (length s) k (from s i) (from s q) z ∙ ap (prefixedOf (length s) (from s i)) c)
     ∙ ap (λ y. piece.Token (tk.Str y (place (length s) (from s e))) (cursorAt (place (length s) (from s e)))) (place-from s i (omega arith))
     ∙ ap (λ y. piece.Token (tk.Str i y) (cursorAt y)) (place-from s e l))
 
@@ -95,50 +95,50 @@ module _ {s : List ℕ} {x : Walked} (g : Good s x) where
 
     pub step-operator : (out next : List ℕ) → next ≡ storedIf out x.bytes (byForm (plainForm (operatorNumber s x.at e)) x.at e.at false) → Steps s x out (plainBehind x e) next
     unfolding operatorNumber values
-    step-operator out next q = behind-here e st.class-is (go (eqb (class_at s e.at) slashClass) refl)
+    step-operator out next q = behind-here e st.class-is (go (eqb (classAt s e.at) slashClass) refl)
       where
-        number : (b : Bool) → eqb (class_at s e.at) slashClass ≡ b → operatorNumber s x.at e ≡ cond b 2 (numberOr 2 (run_of (codesTo (from s x.at) (from s e.at))))
-        number b f = ap (λ c. cond (eqb c slashClass) 2 (numberOr 2 (run_of (codesTo (from s x.at) (from s e.at))))) st.class-is
-            ∙ ap (λ c. cond c 2 (numberOr 2 (run_of (codesTo (from s x.at) (from s e.at))))) f
+        number : (b : Bool) → eqb (classAt s e.at) slashClass ≡ b → operatorNumber s x.at e ≡ cond b 2 (numberOr 2 (runOf (codesTo (from s x.at) (from s e.at))))
+        number b f = ap (λ c. cond (eqb c slashClass) 2 (numberOr 2 (runOf (codesTo (from s x.at) (from s e.at))))) st.class-is
+            ∙ ap (λ c. cond c 2 (numberOr 2 (runOf (codesTo (from s x.at) (from s e.at))))) f
 
         stored : (m : ℕ) → operatorNumber s x.at e ≡ m → next ≡ storedIf out x.bytes (byForm (plainForm m) x.at e.at false)
         stored m f = q ∙ ap (λ z. storedIf out x.bytes (byForm (plainForm z) x.at e.at false)) f
 
-        go : (b : Bool) → eqb (class_at s e.at) slashClass ≡ b → Steps s x out (plainBehind x (here_of s e.at)) next
+        go : (b : Bool) → eqb (classAt s e.at) slashClass ≡ b → Steps s x out (plainBehind x (hereOf s e.at)) next
         go true f =
             step-bare g (sign-within k) tk.OpId e.at (operator-cut s x.at (sign-within k) (sign-byte k) y e.at st.place st.narrow f) refl out next (stored 2 (number true f))
         go false f =
             let a = operator-token s x.at (sign-within k) (sign-byte k) y e.at st.place st.narrow f in
             let z = operator-comment s x.at (sign-within k) (sign-byte k) y e.at st.place ∙ f in
-            let o = run_of (codesTo (from s x.at) (from s e.at)) in
+            let o = runOf (codesTo (from s x.at) (from s e.at)) in
             step-ascii g (sign-within k) e.at a _ (run-counts o ∙ ap pieceNumber (run-found s x.at e.at (sign-within k) (sign-byte k) rest.1 rest.2 y z o refl)) out next
             (stored _ (number false f))
 
   -- a run without `/`, behind which nothing makes more of it
-  module _ (k : inRun x.class ≡ true) (e : Here) (q : e ≡ here_of s (runTo inRun s (x.at + 1))) (m : asksMore e.class ≡ false) where
-    run-here : inRun (class_at s x.at) ≡ true
+  module _ (k : inRun x.class ≡ true) (e : Here) (q : e ≡ hereOf s (runTo inRun s (x.at + 1))) (m : asksMore e.class ≡ false) where
+    run-here : inRun (classAt s x.at) ≡ true
     run-here = by-class g inRun k
 
-    run_inside : x.at < length s
-    run_inside = class-inside s x.at inRun refl run-here
+    run-inside : x.at < length s
+    run-inside = class-inside s x.at inRun refl run-here
 
-    here-class : e.class ≡ class_at s e.at
-    here-class = ap (λ (z : Here). z.class) q ∙ ap (class_at s) (sym (ap (λ (z : Here). z.at) q))
+    here-class : e.class ≡ classAt s e.at
+    here-class = ap (λ (z : Here). z.class) q ∙ ap (classAt s) (sym (ap (λ (z : Here). z.at) q))
 
-    plain : (operatorTo s (x.at + 1) ≡ e.at) × (eqb (class_at s e.at) wideClass ≡ false) × (eqb (class_at s e.at) slashClass ≡ false)
-    plain = run-plain s x.at run_inside run-here e.at (ap (λ (z : Here). z.at) q) (sym (ap asksMore here-class) ∙ m)
+    plain : (operatorTo s (x.at + 1) ≡ e.at) × (eqb (classAt s e.at) wideClass ≡ false) × (eqb (classAt s e.at) slashClass ≡ false)
+    plain = run-plain s x.at run-inside run-here e.at (ap (λ (z : Here). z.at) q) (sym (ap asksMore here-class) ∙ m)
 
     run-stops : Stops s (operatorTo s (x.at + 1)) e
     run-stops = record { place = sym plain.0; class-is = here-class; narrow = plain.1 }
 
     run-opens : opensComment (from s x.at) ≡ false
-    run-opens = run-clear s x.at run_inside run-here
+    run-opens = run-clear s x.at run-inside run-here
 
     run-sign : isSign x.class ≡ true
     run-sign = let l = leb-true 160 x.class k in le-leb 142 x.class (omega arith)
 
-    pub run_on : x.at < e.at
-    run_on = (operator-rest s x.at run_inside (sign-byte run-sign) run-opens e.at (sym plain.0) plain.1).0
+    pub run-on : x.at < e.at
+    run-on = (operator-rest s x.at run-inside (sign-byte run-sign) run-opens e.at (sym plain.0) plain.1).0
 
     pub run-left : LeftTo s x.at e.at
     run-left = operator-left run-sign run-opens e run-stops
@@ -160,27 +160,27 @@ module _ {s : List ℕ} {x : Walked} (g : Good s x) (k : eqb x.class digitClass 
   digit-inside = class-inside s x.at (λ z. eqb z digitClass) refl (by-class g (λ z. eqb z digitClass) k)
 
   pub step-int : (r : NumberLit) → r ≡ literalOf s x.at → r.long ≡ false → r.value ≤ 2147483647 → (out next : List ℕ)
-      → next ≡ storedIf out x.bytes (byForm (form_of (tk.IntLit r.value)) x.at r.end false) → Steps s x out (valuesBehind x (here_of s r.end) intLength) next
+      → next ≡ storedIf out x.bytes (byForm (formOf (tk.IntLit r.value)) x.at r.end false) → Steps s x out (valuesBehind x (hereOf s r.end) intLength) next
   step-int r q f l out next z =
       let u = int-found s x.at digit-inside digit-here r q f l in
       step-valued g digit-inside (tk.IntLit r.value) r.end u.2 intLength (int-size r.value) (int-size r.value) out next z
 
   pub step-long : (r : NumberLit) → r ≡ literalOf s x.at → r.long ≡ true → r.value ≤ 9223372036854775807 → (out next : List ℕ)
-      → next ≡ storedIf out x.bytes (byForm (form_of (tk.LongLit r.value)) x.at r.end false) → Steps s x out (valuesBehind x (here_of s r.end) longLength) next
+      → next ≡ storedIf out x.bytes (byForm (formOf (tk.LongLit r.value)) x.at r.end false) → Steps s x out (valuesBehind x (hereOf s r.end) longLength) next
   step-long r q f l out next z =
       let u = long-found s x.at digit-inside digit-here r q f l in
       step-valued g digit-inside (tk.LongLit r.value) r.end u.2 longLength (long-size r.value) (long-size r.value) out next z
 
-  pub step-digit : (e : Here) → e ≡ here_of s (x.at + 1) → in_word e.class ≡ false → (v : ℕ) → v ≡ digitValue (get_or s x.at 0) → (out next : List ℕ)
-      → next ≡ storedIf out x.bytes (byForm (form_of (tk.IntLit v)) x.at e.at false) → Steps s x out (valuesBehind x e intLength) next
+  pub step-digit : (e : Here) → e ≡ hereOf s (x.at + 1) → inWord e.class ≡ false → (v : ℕ) → v ≡ digitValue (get_or s x.at 0) → (out next : List ℕ)
+      → next ≡ storedIf out x.bytes (byForm (formOf (tk.IntLit v)) x.at e.at false) → Steps s x out (valuesBehind x e intLength) next
   step-digit e q w v r out next z =
       let at : e.at ≡ x.at + 1 = ap (λ (y : Here). y.at) q in
-      let c : e.class ≡ class_at s (x.at + 1) = ap (λ (y : Here). y.class) q in
-      let u = digit-alone s x.at digit-inside digit-here (sym (ap in_word c) ∙ w) in
+      let c : e.class ≡ classAt s (x.at + 1) = ap (λ (y : Here). y.class) q in
+      let u = digit-alone s x.at digit-inside digit-here (sym (ap inWord c) ∙ w) in
       subst (λ y. Steps s x out (valuesBehind x y intLength) next) (sym q)
       (step-valued g digit-inside (tk.IntLit (digitValue (get_or s x.at 0))) (x.at + 1) u intLength (int-size _) (int-size _) out next
-      (z ∙ ap (λ y. storedIf out x.bytes (byForm (form_of (tk.IntLit y)) x.at e.at false)) r
-      ∙ ap (λ y. storedIf out x.bytes (byForm (form_of (tk.IntLit (digitValue (get_or s x.at 0)))) x.at y false)) at))
+      (z ∙ ap (λ y. storedIf out x.bytes (byForm (formOf (tk.IntLit y)) x.at e.at false)) r
+      ∙ ap (λ y. storedIf out x.bytes (byForm (formOf (tk.IntLit (digitValue (get_or s x.at 0)))) x.at y false)) at))
 
 -- ---- characters and symbols
 
@@ -189,20 +189,20 @@ module _ {s : List ℕ} {x : Walked} (g : Good s x) (k : eqb x.class tickClass �
   tick-inside = class-inside s x.at (λ z. eqb z tickClass) refl (by-class g (λ z. eqb z tickClass) k)
 
   pub tick-here : get_or s x.at 0 ≡ 0x27
-  tick-here = one_of 0x27 (sym (class-tick (get_or s x.at 0)) ∙ by-class g (λ z. eqb z tickClass) k)
+  tick-here = oneOf 0x27 (sym (class-tick (get_or s x.at 0)) ∙ by-class g (λ z. eqb z tickClass) k)
 
   pub step-symbol : (e : ℕ) → e ≡ charSymEnd s x.at → (e ≡ x.at → ⊥) → (out next : List ℕ)
-      → next ≡ storedIf out x.bytes (byForm (plainForm 7) x.at e false) → Steps s x out (plainBehind x (here_of s e)) next
+      → next ≡ storedIf out x.bytes (byForm (plainForm 7) x.at e false) → Steps s x out (plainBehind x (hereOf s e)) next
   unfolding values
   step-symbol e q n out next z = step-bare g tick-inside tk.CharSym e (symbol-found s x.at e tick-inside tick-here q n).2 refl out next z
 
 -- ---- words
 
-pub starts_by : (k : ℕ) → upToBlank k ≡ false → startsWord k ≡ true → not (upToBlank k) && startsWord k ≡ true
-starts_by k a b = rw (a, b)
+pub starts-by : (k : ℕ) → upToBlank k ≡ false → startsWord k ≡ true → not (upToBlank k) && startsWord k ≡ true
+starts-by k a b = rw (a, b)
 
 module _ {s : List ℕ} {x : Walked} (g : Good s x) (k : not (upToBlank x.class) && startsWord x.class ≡ true) where
-  start-here : not (upToBlank (class_at s x.at)) && startsWord (class_at s x.at) ≡ true
+  start-here : not (upToBlank (classAt s x.at)) && startsWord (classAt s x.at) ≡ true
   start-here = by-class g (λ e. not (upToBlank e) && startsWord e) k
 
   pub start-byte : isStart (get_or s x.at 0) ≡ true
@@ -217,51 +217,51 @@ module _ {s : List ℕ} {x : Walked} (g : Good s x) (k : not (upToBlank x.class)
     word-leaves = word-left s x.at e word-inside start-byte l r
 
     -- only with seven letters does one of the nine words begin
-    pub name-counts : nameNumber s x.class x.at e ≡ numberOr 1 (word_of (codesTo (from s x.at) (from s e)))
+    pub name-counts : nameNumber s x.class x.at e ≡ numberOr 1 (wordOf (codesTo (from s x.at) (from s e)))
     unfolding nameNumber numberOr
     name-counts = go (eqb x.class keywordClass) refl
       where
         go : (b : Bool) → eqb x.class keywordClass ≡ b
-            → cond b (numberOr 1 (word_of (codesTo (from s x.at) (from s e)))) (cond (eqb x.class backtickClass) 3 1) ≡ numberOr 1 (word_of (codesTo (from s x.at) (from s e)))
+            → cond b (numberOr 1 (wordOf (codesTo (from s x.at) (from s e)))) (cond (eqb x.class backtickClass) 3 1) ≡ numberOr 1 (wordOf (codesTo (from s x.at) (from s e)))
         go true q = refl
         go false q =
             let c = sym (class-keyword (get_or s x.at 0)) ∙ by-class g (λ z. eqb z keywordClass) q in
             let w = word-leaves in
-            let n = word_at s x.at e w.0 w.1 w.2 ∙ first-none (codes "cefimrt") wordKeywords (e - x.at) s x.at refl c in
+            let n = word-at s x.at e w.0 w.1 w.2 ∙ first-none (codes "cefimrt") wordKeywords (e - x.at) s x.at refl c in
             let b = ne_eqb x.class backtickClass (λ z. clash (sym (ap (λ y. not (upToBlank y) && startsWord y) z) ∙ k)) in
             ap (λ y. cond y 3 1) b ∙ sym (ap (numberOr 1) n)
 
     -- a keyword, before a quote too; or an identifier that prefixes no string
-    pub step-name : (numberOr 1 (word_of (codesTo (from s x.at) (from s e))) ≤ 3 → quote (from s e) ≡ false) → (out next : List ℕ)
-        → next ≡ storedIf out x.bytes (byForm (plainForm (nameNumber s x.class x.at e)) x.at e false) → Steps s x out (plainBehind x (here_of s e)) next
+    pub step-name : (numberOr 1 (wordOf (codesTo (from s x.at) (from s e))) ≤ 3 → quote (from s e) ≡ false) → (out next : List ℕ)
+        → next ≡ storedIf out x.bytes (byForm (plainForm (nameNumber s x.class x.at e)) x.at e false) → Steps s x out (plainBehind x (hereOf s e)) next
     unfolding numberOr
-    step-name z out next q = go (word_of (codesTo (from s x.at) (from s e))) refl
+    step-name z out next q = go (wordOf (codesTo (from s x.at) (from s e))) refl
       where
         stored : (m : ℕ) → nameNumber s x.class x.at e ≡ m → next ≡ storedIf out x.bytes (byForm (plainForm m) x.at e false)
         stored m f = q ∙ ap (λ y. storedIf out x.bytes (byForm (plainForm y) x.at e false)) f
 
-        go : (o : Option Kw) → word_of (codesTo (from s x.at) (from s e)) ≡ o → Steps s x out (plainBehind x (here_of s e)) next
+        go : (o : Option Kw) → wordOf (codesTo (from s x.at) (from s e)) ≡ o → Steps s x out (plainBehind x (hereOf s e)) next
         go none f =
             let u = z (rw f (omega arith)) in
             step-bare g word-inside tk.Ident e (word-found s x.at e word-inside start-byte l r u none f) (word-bare none) out next (stored 1 (name-counts ∙ ap (numberOr 1) f))
         go (some j) f =
-            let u : piece.Token (tk.Kw j) (cursorAt e) ≡ piece_of (length s) (scan (length s) (from s x.at)) =
-            token-at s (tk.Kw j) (cursorAt e) (from s e) l refl ∙ ap (piece_of (length s)) (sym (word-scan s x.at e word-inside start-byte l r (some j) f)) in
+            let u : piece.Token (tk.Kw j) (cursorAt e) ≡ pieceOf (length s) (scan (length s) (from s x.at)) =
+            token-at s (tk.Kw j) (cursorAt e) (from s e) l refl ∙ ap (pieceOf (length s)) (sym (word-scan s x.at e word-inside start-byte l r (some j) f)) in
             step-bare g word-inside (tk.Kw j) e u (word-bare (some j)) out next (stored (kwNumber j) (name-counts ∙ ap (numberOr 1) f))
 
   -- behind which nothing makes more of it
-  module _ (e : Here) (q : e ≡ here_of s (runTo in_word s (x.at + 1))) (m : asksMore e.class ≡ false) where
-    word-class : e.class ≡ class_at s e.at
-    word-class = ap (λ (z : Here). z.class) q ∙ ap (class_at s) (sym (ap (λ (z : Here). z.at) q))
+  module _ (e : Here) (q : e ≡ hereOf s (runTo inWord s (x.at + 1))) (m : asksMore e.class ≡ false) where
+    word-class : e.class ≡ classAt s e.at
+    word-class = ap (λ (z : Here). z.class) q ∙ ap (classAt s) (sym (ap (λ (z : Here). z.at) q))
 
-    word-is : (nameTo s x.at ≡ e.at) × (eqb (class_at s e.at) wideClass ≡ false) × (quote (from s e.at) ≡ false)
+    word-is : (nameTo s x.at ≡ e.at) × (eqb (classAt s e.at) wideClass ≡ false) × (quote (from s e.at) ≡ false)
     word-is = word-plain s x.at word-inside e.at (ap (λ (z : Here). z.at) q) (sym (ap asksMore word-class) ∙ m)
 
     word-rests : (x.at < e.at) × (e.at ≤ length s) × (from s e.at ≡ afterIdent false (from s (x.at + 1)))
     word-rests = name-rest s x.at word-inside e.at (sym word-is.0) word-is.1
 
-    pub word_on : x.at < e.at
-    word_on = word-rests.0
+    pub word-on : x.at < e.at
+    word-on = word-rests.0
 
     pub plain-leaves : LeftTo s x.at e.at
     plain-leaves = word-leaves e.at word-rests.1 word-rests.2
@@ -288,15 +288,15 @@ module _ {s : List ℕ} {x : Walked} (g : Good s x) where
       go false f l m = let y : o ≡ r.quotes = e ∙ ap (λ y. cond y 0 r.quotes) f in (omega arith, omega arith)
 
   pub step-string : {q : ℕ} → Opens s x q → (r : Quoted) → r ≡ stringOf (ltb x.at q) s q → (r.end ≡ q → ⊥) → (o : ℕ) → o ≡ cond (ltb x.at q) 0 r.quotes → (out next : List ℕ)
-      → next ≡ storedIf out x.bytes (byForm (form_of (tk.Str (x.at + o) (r.end - o))) x.at r.end false) → Steps s x out (valuesBehind x (here_of s r.end) strLength) next
+      → next ≡ storedIf out x.bytes (byForm (formOf (tk.Str (x.at + o) (r.end - o))) x.at r.end false) → Steps s x out (valuesBehind x (hereOf s r.end) strLength) next
   step-string {q} (Opens.plain e b) r z n o f out next w =
       let t : ltb x.at q ≡ false = le-ltb x.at q (omega arith) in
       let u = string-found s q b r (z ∙ ap (λ y. stringOf y s q) t) n in
       let v : o ≡ r.quotes = f ∙ ap (λ y. cond y 0 r.quotes) t in
       let h : x.at < length s = let i = inside s q (omega arith) in omega arith in
-      let p : piece.Token (tk.Str (x.at + o) (r.end - o)) (cursorAt r.end) ≡ piece_of (length s) (scan (length s) (from s x.at)) =
+      let p : piece.Token (tk.Str (x.at + o) (r.end - o)) (cursorAt r.end) ≡ pieceOf (length s) (scan (length s) (from s x.at)) =
       ap (λ y. piece.Token (tk.Str (x.at + y) (r.end - y)) (cursorAt r.end)) v ∙ ap (λ y. piece.Token (tk.Str (y + r.quotes) (r.end - r.quotes)) (cursorAt r.end)) (sym e)
-      ∙ u.2 ∙ ap (λ y. piece_of (length s) (scan (length s) (from s y))) e in
+      ∙ u.2 ∙ ap (λ y. pieceOf (length s) (scan (length s) (from s y))) e in
       step-valued g h (tk.Str (x.at + o) (r.end - o)) r.end p strLength (str-size _ _) (str-size _ _) out next w
   step-string {q} (Opens.prefixed k l i b c) r z n o f out next w =
       let t : ltb x.at q ≡ true = lt-ltb x.at q l in
@@ -305,4 +305,4 @@ module _ {s : List ℕ} {x : Walked} (g : Good s x) where
       let h : x.at < length s = omega arith in
       let p = prefixed-piece s x.at q r.end k h (open-within {q = q} (Opens.prefixed k l i b c)).1 u.1 u.2 c in
       step-valued g h (tk.Str x.at r.end) r.end p strLength (str-size _ _) (str-size _ _) out next
-      (w ∙ ap (λ y. storedIf out x.bytes (byForm (form_of y) x.at r.end false)) (let a : x.at + o ≡ x.at = omega arith in let d : r.end - o ≡ r.end = omega arith in ap (λ y. tk.Str y (r.end - o)) a ∙ ap (tk.Str x.at) d))
+      (w ∙ ap (λ y. storedIf out x.bytes (byForm (formOf y) x.at r.end false)) (let a : x.at + o ≡ x.at = omega arith in let d : r.end - o ≡ r.end = omega arith in ap (λ y. tk.Str y (r.end - o)) a ∙ ap (tk.Str x.at) d))

@@ -1,6 +1,6 @@
 -- What a byte is, as `byte_class` tells it: one number, whose order and bits are the classes.
 use Rattle.std.specs.Prelude.{ℕ, ◌*◌, ◌/◌, ◌%◌, ◌<◌, ◌≡◌, Bool, cond, List, get_or, eqb, leb}
-use Rattle.chars.specs.paper.Quoted.{between, one_of}
+use Rattle.chars.specs.paper.Quoted.{between, oneOf}
 use Rattle.chars.specs.paper.Classes.{opSigns}
 use Rattle.chars.specs.promises.Classes.{lowStart}
 use Rattle.token.specs.code.Ascii.{signNumber}
@@ -57,31 +57,31 @@ abbrev pub backslashClass : ℕ
 backslashClass = 161
 
 -- the class of a byte; of one of the nine signs twice its kind's number
-unfoldable pub class_of : ℕ → ℕ
-class_of b =
+unfoldable pub classOf : ℕ → ℕ
+classOf b =
     cond (leb 0x80 b) wideClass
-    (cond (one_of "()[]{},;." b) (2 * signNumber b)
-    (cond (one_of " \t" b) blankClass
+    (cond (oneOf "()[]{},;." b) (2 * signNumber b)
+    (cond (oneOf " \t" b) blankClass
     (cond (eqb b 0x0D) crClass
     (cond (eqb b 0x27) tickClass
     (cond (eqb b 0x60) backtickClass
     (cond (eqb b 0x0A) lfClass
     (cond (between 0x30 0x39 b) digitClass
     (cond (eqb b 0x24) dollarClass
-    (cond (one_of "cefimrt" b) keywordClass
+    (cond (oneOf "cefimrt" b) keywordClass
     (cond (lowStart b) startClass
     (cond (eqb b 0x22) quoteClass
     (cond (eqb b 0x2F) slashClass
     (cond (eqb b 0x5C) backslashClass
-    (cond (one_of opSigns b) signClass otherClass))))))))))))))
+    (cond (oneOf opSigns b) signClass otherClass))))))))))))))
 
 -- of the byte at a place; past the end that of 0, with which no token begins
-abbrev pub class_at : List ℕ → ℕ → ℕ
-class_at s i = class_of (get_or s i 0)
+abbrev pub classAt : List ℕ → ℕ → ℕ
+classAt s i = classOf (get_or s i 0)
 
 -- a table has the class of each byte
 pub record ByteClasses (t : List ℕ) : Type 0 where
-  pub each : (b : ℕ) → b < 256 → get_or t b 0 ≡ class_of b
+  pub each : (b : ℕ) → b < 256 → get_or t b 0 ≡ classOf b
 
 -- ---- what a class says
 
@@ -94,8 +94,8 @@ abbrev pub startsWord : ℕ → Bool
 startsWord e = eqb (e / 16 % 2) 1
 
 -- an ASCII id character or `_`
-abbrev pub in_word : ℕ → Bool
-in_word e = eqb (e / 64 % 2) 1
+abbrev pub inWord : ℕ → Bool
+inWord e = eqb (e / 64 % 2) 1
 
 -- a quote, past ASCII, or an operator sign: it may make more of the word or the run that it follows directly
 abbrev pub asksMore : ℕ → Bool

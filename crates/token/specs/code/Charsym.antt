@@ -12,8 +12,8 @@ abbrev pub escapedChar : Text → Found
 escapedChar m = escapedOf m (afterSlash m)
 
 -- no character: a symbol, or refusal 16
-unfoldable pub symbol_of : Text → Found
-symbol_of m =
+unfoldable pub symbolOf : Text → Found
+symbolOf m =
     let word = Found.token tk.CharSym (afterIdent false (drop 1 m)) in
     let run = Found.token tk.CharSym (afterRun freeSign m) in
     cond (headIs isIdStart m) word

@@ -13,5 +13,5 @@ abbrev pub peekedOf : ℕ → Text → Peeked
 peekedOf n [] = peeked.End
 peekedOf n (c ∷ r) = peeked.Char c.code (cursorAt (place n r))
 
-unfoldable pub peek_at : List ℕ → ℕ → Peeked
-peek_at s i = peekedOf (length s) (from s i)
+unfoldable pub peekAt : List ℕ → ℕ → Peeked
+peekAt s i = peekedOf (length s) (from s i)

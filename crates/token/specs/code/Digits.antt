@@ -27,8 +27,8 @@ afterUpTo p (suc m) (c ∷ s) =
     cond (p c.code) rest (c ∷ s)
 
 -- a value of at most 9223372036854775807
-unfoldable pub value_of : ℕ → Value
-value_of v = cond (leb v 9223372036854775807) (value.Of v) value.Over
+unfoldable pub valueOf : ℕ → Value
+valueOf v = cond (leb v 9223372036854775807) (value.Of v) value.Over
 
 -- an IntLit that ends at a cursor, at most 2147483647, else refusal 6 at the number's start
 unfoldable pub intOr : ℕ → ℕ → Cursor → Piece

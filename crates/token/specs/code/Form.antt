@@ -1,9 +1,9 @@
 -- A record by its form: what it has of its kind, as the code hands it on.
 use Rattle.std.specs.Prelude.{ℕ, ◌+◌, ◌*◌, ◌-◌, ◌%◌, ◌^◌, ◌≤◌, ◌<◌, ◌≡◌, Bool, cond, List, [], ◌∷◌, ◌++◌, eqb, length, take, drop}
 use Rattle.token.specs.paper.Kinds.{kindNumber}
-use Rattle.token.specs.paper.Records.{bit, Value, one, four, eight, values_of, headLength, intLength, longLength, strLength, lineLength, recordLength, fields_of}
+use Rattle.token.specs.paper.Records.{bit, Value, one, four, eight, valuesOf, headLength, intLength, longLength, strLength, lineLength, recordLength, fieldsOf}
 use Rattle.words.specs.Joins.{Bytes}
-use Rattle.words.specs.Words.{le4, le8, one_at, twoAt, fourAt, eightAt}
+use Rattle.words.specs.Words.{le4, le8, oneAt, twoAt, fourAt, eightAt}
 use Rattle.token.specs.declared.kinds.TokenKind.{TokenKind}
 use Rattle.token.specs.declared.kinds.Form.{Form}
 use Rattle.token.specs.declared.form.Held.{Held}
@@ -16,8 +16,8 @@ joined (four v ∷ []) = v
 joined (four v ∷ w ∷ vs) = v % 4294967296 + joined (w ∷ vs) % 4294967296 * 4294967296
 joined (eight v ∷ vs) = v
 
-unfoldable pub form_of : TokenKind → Form
-form_of k = record { number = kindNumber k; length = recordLength k; values = joined (values_of k) }
+unfoldable pub formOf : TokenKind → Form
+formOf k = record { number = kindNumber k; length = recordLength k; values = joined (valuesOf k) }
 
 -- a kind without values
 abbrev pub plainForm : ℕ → Form
@@ -45,25 +45,25 @@ headBytes head start end cut = le4 head ++ (le4 start ++ (le4 end ++ (bit cut �
 
 -- the first 13 bytes, then as many bytes of the values as the length has
 unfoldable pub byForm : Form → ℕ → ℕ → Bool → List ℕ
-byForm f start end cut = fields_of f.length f.number start end cut ++ take (f.length - headLength) (le8 f.values)
+byForm f start end cut = fieldsOf f.length f.number start end cut ++ take (f.length - headLength) (le8 f.values)
 
 -- ---- read back
 
 -- the values as one number: as many bytes of them as the record's length has
 unfoldable pub valuesAt : List ℕ → ℕ → ℕ → ℕ
 valuesAt bytes at size =
-    cond (eqb size lineLength) (one_at bytes at) (cond (eqb size intLength) (fourAt bytes at) (cond (eqb size longLength) (eightAt bytes at) 0))
+    cond (eqb size lineLength) (oneAt bytes at) (cond (eqb size intLength) (fourAt bytes at) (cond (eqb size longLength) (eightAt bytes at) 0))
 
 -- the record at a place: length (2 bytes, whole record), kind (2), start (4), end (4), cut (1), then the values
-unfoldable pub held_at : List ℕ → ℕ → Held
-held_at bytes at =
+unfoldable pub heldAt : List ℕ → ℕ → Held
+heldAt bytes at =
     record {
       number = twoAt bytes (at + 2);
       length = twoAt bytes at;
       values = valuesAt bytes (at + headLength) (twoAt bytes at);
       start = fourAt bytes (at + 4);
       end = fourAt bytes (at + 8);
-      cut = one_at bytes (at + 12);
+      cut = oneAt bytes (at + 12);
     }
 
 -- what a record from a to e can hold: each number fits its bytes
@@ -81,17 +81,17 @@ storedOf h = byForm (record { number = h.number; length = h.length; values = h.v
 -- a whole record stands at the start of these bytes
 pub record Whole (l : List ℕ) : Type 0 where
   pub bytes : Bytes l
-  pub known : Known (held_at l 0).length
-  pub room : (held_at l 0).length ≤ length l
-  pub cut : (held_at l 0).cut ≤ 1
+  pub known : Known (heldAt l 0).length
+  pub room : (heldAt l 0).length ≤ length l
+  pub cut : (heldAt l 0).cut ≤ 1
 
 -- What whoever reads stored records may rely on. The contract of `read_record` asks for it.
 pub record RecordForm : Type 0 where
   -- the record at a place is the first of what stands from there on
-  pub held_on : (bytes : List ℕ) (at : ℕ) → held_at bytes at ≡ held_at (drop at bytes) 0
+  pub held-on : (bytes : List ℕ) (at : ℕ) → heldAt bytes at ≡ heldAt (drop at bytes) 0
   -- a record that is stored, whatever follows it, is read as it was
-  pub read_back : (f : Form) (start end : ℕ) (cut : Bool) (rest : List ℕ) → Storable f start end
-      → held_at (byForm f start end cut ++ rest) 0
+  pub read-back : (f : Form) (start end : ℕ) (cut : Bool) (rest : List ℕ) → Storable f start end
+      → heldAt (byForm f start end cut ++ rest) 0
       ≡ record { number = f.number; length = f.length; values = f.values; start = start; end = end; cut = bit cut }
   -- of a whole record's bytes nothing is lost: what is read from them is stored as the same bytes
-  pub stored-again : (l : List ℕ) → Whole l → storedOf (held_at l 0) ≡ take (held_at l 0).length l
+  pub stored-again : (l : List ℕ) → Whole l → storedOf (heldAt l 0) ≡ take (heldAt l 0).length l

@@ -16,11 +16,11 @@ closedOf n none = closed.Open
 closedOf n (some r) = closed.At (cursorAt (place n r))
 
 -- `/*` at the place i, its two bytes as one number; and four in a row
-abbrev pub opens_at : List ℕ → ℕ → Bool
-opens_at s i = eqb (get_or s i 0 + 256 * get_or s (i + 1) 0) 0x2A2F
+abbrev pub opensAt : List ℕ → ℕ → Bool
+opensAt s i = eqb (get_or s i 0 + 256 * get_or s (i + 1) 0) 0x2A2F
 
 unfoldable pub fourOpen : List ℕ → ℕ → Bool
-fourOpen s i = leb (i + 8) (length s) && (opens_at s i && ((opens_at s (i + 2) && opens_at s (i + 4)) && opens_at s (i + 6)))
+fourOpen s i = leb (i + 8) (length s) && (opensAt s i && ((opensAt s (i + 2) && opensAt s (i + 4)) && opensAt s (i + 6)))
 
 -- a place inside nested comments, and how many are open there besides the outermost
 abbrev pub nestAt : ℕ → ℕ → Nest

@@ -2,7 +2,7 @@
 use Rattle.std.specs.Prelude.{ℕ, zero, suc, ◌-◌, Bool, [], ◌∷◌, length}
 use Prim.Native.String.{String}
 use Rattle.chars.specs.paper.Text.{Text, place}
-use Rattle.token.specs.computed.Flags.{GapKind, push, cut_of}
+use Rattle.token.specs.computed.Flags.{GapKind, push, cutOf}
 use Rattle.token.specs.computed.Answer.{Found, scan}
 use Rattle.token.specs.code.Cursor.{cursorAt}
 use Rattle.token.specs.declared.gap.Gap.{Gap}
@@ -27,21 +27,21 @@ forward g s go (Found.gap GapKind.blank r) = go r (push GapKind.blank g)
 forward g s go (Found.gap GapKind.lineComment r) = go r (push GapKind.lineComment g)
 forward g s go (Found.gap GapKind.blockComment r) = go r (push GapKind.blockComment g)
 forward g s go (Found.gap GapKind.lineEnd r) = Sought.lineEnd s r g.comment (push GapKind.lineEnd g)
-forward g s go (Found.token k r) = Sought.token k s r (cut_of g)
+forward g s go (Found.token k r) = Sought.token k s r (cutOf g)
 forward g s go (Found.stuck j q) = Sought.stuck j q
 
 -- in a script of n bytes, after k characters that are passed
 unfoldable pub seek : ℕ → ℕ → Gap → Text → Sought
-seek n k g [] = Sought.ends (cut_of g)
+seek n k g [] = Sought.ends (cutOf g)
 seek n (suc k) g (c ∷ s) = seek n k g s
 seek n zero g (c ∷ s) = forward g (c ∷ s) (λ r h. seek n (length s - length r) h s) (scan n (c ∷ s))
 
 -- with places
-unfoldable pub next_of : ℕ → Sought → Next
-next_of n (Sought.token k a r cut) = next.Token k (place n a) (cursorAt (place n r)) cut
-next_of n (Sought.lineEnd a r mark g) = next.LineEnd (place n a) (cursorAt (place n r)) mark g
-next_of n (Sought.ends cut) = next.End cut
-next_of n (Sought.stuck j q) = next.Refused j (place n q)
+unfoldable pub nextOf : ℕ → Sought → Next
+nextOf n (Sought.token k a r cut) = next.Token k (place n a) (cursorAt (place n r)) cut
+nextOf n (Sought.lineEnd a r mark g) = next.LineEnd (place n a) (cursorAt (place n r)) mark g
+nextOf n (Sought.ends cut) = next.End cut
+nextOf n (Sought.stuck j q) = next.Refused j (place n q)
 
 -- past a comment that stands, with the gap after it
 abbrev pub passedOf : ℕ → Gap → Found → Passed

@@ -1,13 +1,13 @@
 -- What `names` answers: where words and runs of operator signs end, by the classes of their bytes.
 use Rattle.std.specs.Prelude.{ℕ, ◌+◌, ◌-◌, Bool, cond, not, ◌&&◌, ◌||◌, List, length, get_or, eqb, ltb}
-use Rattle.chars.specs.paper.Quoted.{one_of}
+use Rattle.chars.specs.paper.Quoted.{oneOf}
 use Rattle.token.specs.code.Loops.{stepsWhile}
-use Rattle.token.specs.code.ByteClass.{class_at, wideClass, slashClass, in_word, isSign, inRun}
+use Rattle.token.specs.code.ByteClass.{classAt, wideClass, slashClass, inWord, isSign, inRun}
 use Rattle.token.specs.declared.names.Here.{Here}
 
 -- a place with the class of the byte there
-abbrev pub here_of : List ℕ → ℕ → Here
-here_of s i = record { at = i; class = class_at s i }
+abbrev pub hereOf : List ℕ → ℕ → Here
+hereOf s i = record { at = i; class = classAt s i }
 
 -- a place at which more must be looked at than ASCII bytes: a character past ASCII stands behind what begins there
 abbrev pub declined : ℕ → Here
@@ -19,7 +19,7 @@ bytesTo test s i = stepsWhile test (λ j. j + 1) (length s - i) i
 
 -- where the bytes of a class end that stand from i on
 abbrev pub runTo : (ℕ → Bool) → List ℕ → ℕ → ℕ
-runTo p s i = bytesTo (λ j. p (class_at s j)) s i
+runTo p s i = bytesTo (λ j. p (classAt s j)) s i
 
 -- ---- words
 
@@ -30,18 +30,18 @@ lowBefore s start e = eqb (get_or s (e - 1) 0) 0x5F && ltb start (e - 1)
 -- where the identifier ends that begins at the start: past its id characters and underscores, and past the operator signs behind its last `_`
 unfoldable pub nameTo : List ℕ → ℕ → ℕ
 nameTo s start =
-    let e = runTo in_word s (start + 1) in
-    cond (isSign (class_at s e) && lowBefore s start e) (runTo isSign s e) e
+    let e = runTo inWord s (start + 1) in
+    cond (isSign (classAt s e) && lowBefore s start e) (runTo isSign s e) e
 
 -- that place with its class; the start, where a character past ASCII stands there
 unfoldable pub nameEnd : List ℕ → ℕ → Here
-nameEnd s start = cond (eqb (class_at s (nameTo s start)) wideClass) (declined start) (here_of s (nameTo s start))
+nameEnd s start = cond (eqb (classAt s (nameTo s start)) wideClass) (declined start) (hereOf s (nameTo s start))
 
 -- ---- operators
 
 -- an operator sign stands at j that begins no comment
 abbrev pub freeAt : List ℕ → ℕ → Bool
-freeAt s j = inRun (class_at s j) || (eqb (class_at s j) slashClass && not (one_of "*/" (get_or s (j + 1) 0)))
+freeAt s j = inRun (classAt s j) || (eqb (classAt s j) slashClass && not (oneOf "*/" (get_or s (j + 1) 0)))
 
 -- where the operator signs end that stand from i on and begin no comment
 abbrev pub operatorTo : List ℕ → ℕ → ℕ
@@ -49,4 +49,4 @@ operatorTo s i = bytesTo (freeAt s) s i
 
 -- that place with its class, from a place within the operator; its start, where a character past ASCII stands there
 unfoldable pub operatorFrom : List ℕ → ℕ → ℕ → Here
-operatorFrom s start from = cond (eqb (class_at s (operatorTo s from)) wideClass) (declined start) (here_of s (operatorTo s from))
+operatorFrom s start from = cond (eqb (classAt s (operatorTo s from)) wideClass) (declined start) (hereOf s (operatorTo s from))

@@ -10,10 +10,10 @@ use Rattle.token.specs.code.Cursor.{cursorAt}
 
 -- A piece: its token and the cursor after it, or a refusal's number and place. The last line stands for a case that cannot come: where a gap
 -- piece stands no token is asked for, so its 3 is no refusal of the script.
-unfoldable pub piece_of : ℕ → Found → Piece
-piece_of n (Found.token k r) = piece.Token k (cursorAt (place n r))
-piece_of n (Found.stuck j q) = piece.Refused j (place n q)
-piece_of n (Found.gap g r) = piece.Refused 3 (place n r)
+unfoldable pub pieceOf : ℕ → Found → Piece
+pieceOf n (Found.token k r) = piece.Token k (cursorAt (place n r))
+pieceOf n (Found.stuck j q) = piece.Refused j (place n q)
+pieceOf n (Found.gap g r) = piece.Refused 3 (place n r)
 
 -- the number of a token's kind
 abbrev pub pieceNumber : Piece → ℕ

@@ -1,6 +1,6 @@
 -- What `quoted` answers: the place where something ends; its own start, where it is refused.
 use Rattle.std.specs.Prelude.{ℕ, ◌+◌, Bool, true, cond, ◌&&◌, List, [], ◌∷◌, length, get_or, eqb}
-use Rattle.chars.specs.paper.Quoted.{one_of}
+use Rattle.chars.specs.paper.Quoted.{oneOf}
 use Rattle.chars.specs.paper.Text.{Text, from, place}
 use Rattle.chars.specs.computed.Runs.{afterRun}
 use Rattle.token.specs.paper.Tests.{isDigit, isHexDigit, threeQuotes, notBacktick}
@@ -26,7 +26,7 @@ codedEnd s at = cond (eqb (get_or s (at + 1) 0) 0x75) (unicodeEnd s at) (decimal
 
 -- past any escape
 unfoldable pub escapeEnd : List ℕ → ℕ → ℕ
-escapeEnd s at = cond (one_of "btnfr'\"]" (get_or s (at + 1) 0)) (at + 2) (codedEnd s at)
+escapeEnd s at = cond (oneOf "btnfr'\"]" (get_or s (at + 1) 0)) (at + 2) (codedEnd s at)
 
 -- ---- what does not stand for itself in a single string; p: it is prefixed
 

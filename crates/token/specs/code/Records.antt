@@ -4,7 +4,7 @@ use Rattle.std.proofs.lemmas.List.Edits.{sets}
 use Rattle.chars.specs.paper.Text.{Text, from, place}
 use Rattle.token.specs.paper.Kinds.{Token}
 use Rattle.token.specs.declared.kinds.TokenKind.TheVariants as tk
-use Rattle.token.specs.computed.Flags.{GapKind, fresh, push, cut_of}
+use Rattle.token.specs.computed.Flags.{GapKind, fresh, push, cutOf}
 use Rattle.token.specs.computed.Answer.{Found, scan, Answer, tokenized, refused, prepend}
 use Rattle.token.specs.paper.Records.{recordLength, recordOf, recordBytes}
 use Rattle.token.specs.code.Form.{mostLength}
@@ -63,20 +63,20 @@ gapGoes GapKind.blockComment a e mark w = w
 
 -- the trail from the text on, after k characters that are passed, in a script of n bytes: what `walk` goes over
 unfoldable pub trail : ℕ → ℕ → Gap → Text → Trail
-trail n k g [] = Trail.ends (eofAt n (cut_of g))
+trail n k g [] = Trail.ends (eofAt n (cutOf g))
 trail n (suc k) g (c ∷ s) = trail n k g s
 trail n zero g (c ∷ s) =
     elim (scan n (c ∷ s)) [
       | Found.gap p r ↦ gapGoes p c.at (place n r) g.comment (trail n (length s - length r) (push p g) s)
-      | Found.token t r ↦ Trail.goes (record { kind = t; start = c.at; end = place n r; cut = cut_of g }) (trail n (length s - length r) fresh s)
+      | Found.token t r ↦ Trail.goes (record { kind = t; start = c.at; end = place n r; cut = cutOf g }) (trail n (length s - length r) fresh s)
       | Found.stuck j q ↦ Trail.stops j (place n q)
     ]
 
 -- what it comes to
-abbrev pub answer_of : Trail → Answer
-answer_of (Trail.goes t w) = prepend t (answer_of w)
-answer_of (Trail.ends t) = tokenized (t ∷ [])
-answer_of (Trail.stops j a) = refused j a
+abbrev pub answerOf : Trail → Answer
+answerOf (Trail.goes t w) = prepend t (answerOf w)
+answerOf (Trail.ends t) = tokenized (t ∷ [])
+answerOf (Trail.stops j a) = refused j a
 
 -- the tokens that it comes over, before a refusal too
 abbrev pub tokensOn : Trail → List Token
@@ -107,7 +107,7 @@ trailFrom s x = trail (length s) 0 x.gap (from s x.at)
 
 -- what is counted in the end
 abbrev pub measuredFrom : List ℕ → State → Measured
-measuredFrom s x = measuredOf x.count x.bytes (answer_of (trailFrom s x))
+measuredFrom s x = measuredOf x.count x.bytes (answerOf (trailFrom s x))
 
 -- what the buffer is brought to, on a refusal too
 abbrev pub storedFrom : List ℕ → State → List ℕ → List ℕ

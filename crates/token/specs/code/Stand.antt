@@ -10,8 +10,8 @@ use Rattle.token.specs.declared.walk.Walked.{Walked}
 abbrev pub counted : Stand → ℕ
 counted w = (w.bytes - w.values) / headLength
 
-abbrev pub state_of : Stand → State
-state_of w = record { at = w.at; gap = w.gap; count = counted w; bytes = w.bytes }
+abbrev pub stateOf : Stand → State
+stateOf w = record { at = w.at; gap = w.gap; count = counted w; bytes = w.bytes }
 
 -- the bytes are heads and values
 abbrev pub Whole : Stand → Type 0

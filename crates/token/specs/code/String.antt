@@ -1,6 +1,6 @@
 -- What `string` answers.
 use Rattle.std.specs.Prelude.{ℕ, ◌+◌, ◌-◌, Bool, cond, not, ◌&&◌, List, length, drop, get_or, eqb, leb, ltb}
-use Rattle.chars.specs.paper.Quoted.{one_of}
+use Rattle.chars.specs.paper.Quoted.{oneOf}
 use Rattle.chars.specs.paper.Text.{Text, from, place}
 use Rattle.chars.specs.code.Runs.{eightIn}
 use Rattle.token.specs.paper.Tests.{dollarBrace}
@@ -14,9 +14,9 @@ use Rattle.token.specs.code.Cursor.{cursorAt}
 use Rattle.token.specs.code.Loops.{stepsWhile}
 
 -- a string's end
-unfoldable pub ended_of : ℕ → Closing → Ended
-ended_of n (closed r) = ended.At (cursorAt (place n r))
-ended_of n (wrong j q) = ended.Refused j (place n q)
+unfoldable pub endedOf : ℕ → Closing → Ended
+endedOf n (closed r) = ended.At (cursorAt (place n r))
+endedOf n (wrong j q) = ended.Refused j (place n q)
 
 -- an escape's end, from behind its backslash
 abbrev pub escEnd : ℕ → Text → Esc → Ended
@@ -39,7 +39,7 @@ closeSingle p s =
 
 -- what stands for itself in every string
 unfoldable pub isOrdinary : ℕ → Bool
-isOrdinary c = not (one_of "\n\"$\\" c)
+isOrdinary c = not (oneOf "\n\"$\\" c)
 
 -- a `$` in a prefixed string
 unfoldable pub dollarOf : ℕ → Text → Ended

@@ -1,19 +1,19 @@
 -- What `symbol` answers: where characters and symbols end, by their bytes. Each answers the place of the `'` where it declines.
 use Rattle.std.specs.Prelude.{ℕ, ◌+◌, Bool, cond, not, ◌&&◌, ◌||◌, List, get_or, eqb}
 use Rattle.chars.specs.paper.Quoted.{between}
-use Rattle.token.specs.code.ByteClass.{class_of, class_at, wideClass, upToBlank, startsWord, isSign}
+use Rattle.token.specs.code.ByteClass.{classOf, classAt, wideClass, upToBlank, startsWord, isSign}
 use Rattle.token.specs.code.Names.{nameEnd, operatorFrom}
 use Rattle.token.specs.code.Quoted.{escapeEnd}
 
 -- ---- characters
 
 -- a printable of ASCII that is no backslash
-abbrev pub plain_byte : ℕ → Bool
-plain_byte b = between 0x20 0x7E b && not (eqb b 0x5C)
+abbrev pub plainByte : ℕ → Bool
+plainByte b = between 0x20 0x7E b && not (eqb b 0x5C)
 
 -- the byte a stands behind the `'` for itself, and a `'` ends the character two bytes on
 abbrev pub endsChar : List ℕ → ℕ → ℕ → Bool
-endsChar s at a = eqb (get_or s (at + 2) 0) 0x27 && plain_byte a
+endsChar s at a = eqb (get_or s (at + 2) 0) 0x27 && plainByte a
 
 -- past the `'` behind an escape that ends at a place; the place at of the first `'`, where the escape is refused or no `'` ends it
 abbrev pub closedChar : List ℕ → ℕ → ℕ → ℕ
@@ -42,7 +42,7 @@ abbrev pub semiBefore : ℕ → ℕ → ℕ
 semiBefore at e = cond (isSign e || eqb e wideClass) at (at + 2)
 
 unfoldable pub semiEnd : List ℕ → ℕ → ℕ
-semiEnd s at = semiBefore at (class_at s (at + 2))
+semiEnd s at = semiBefore at (classAt s (at + 2))
 
 -- ---- both
 
@@ -50,10 +50,10 @@ semiEnd s at = semiBefore at (class_at s (at + 2))
 unfoldable pub charSymBy : List ℕ → ℕ → ℕ → ℕ
 charSymBy s at a =
     cond (endsChar s at a) (at + 3)
-    (cond (upToBlank (class_of a)) (cond (eqb a 0x3B) (semiEnd s at) at)
-    (cond (startsWord (class_of a)) (nameSymbolEnd s at)
+    (cond (upToBlank (classOf a)) (cond (eqb a 0x3B) (semiEnd s at) at)
+    (cond (startsWord (classOf a)) (nameSymbolEnd s at)
     (cond (eqb a 0x5C) (escapedCharEnd s at)
-    (cond (isSign (class_of a)) (operatorSymbolEnd s at) at))))
+    (cond (isSign (classOf a)) (operatorSymbolEnd s at) at))))
 
 -- where the character or symbol ends whose `'` stands there; the place itself, where it is refused, and where a character past ASCII stands in it
 -- or behind it

@@ -3,11 +3,11 @@ use Rattle.std.specs.Prelude.{ℕ, ◌+◌, ◌-◌, ◌*◌, ◌/◌, ◌≤◌
 use Rattle.token.specs.paper.Records.{headLength, lineLength, mostBytes}
 use Rattle.chars.specs.paper.Text.{from}
 use Rattle.chars.specs.promises.Texts.{Suffix}
-use Rattle.token.specs.paper.Kinds.{word_of, run_of}
+use Rattle.token.specs.paper.Kinds.{wordOf, runOf}
 use Rattle.token.specs.computed.Answer.{codesTo, orPrefixed, scan}
-use Rattle.token.specs.code.ByteClass.{class_at, ByteClasses, backtickClass, quoteClass, keywordClass, slashClass, upToBlank, startsWord}
+use Rattle.token.specs.code.ByteClass.{classAt, ByteClasses, backtickClass, quoteClass, keywordClass, slashClass, upToBlank, startsWord}
 use Rattle.token.specs.code.Keyword.{numberOr}
-use Rattle.token.specs.code.Names.{here_of, nameEnd}
+use Rattle.token.specs.code.Names.{hereOf, nameEnd}
 use Rattle.token.specs.code.Quoted.{backtickEnd}
 use Rattle.token.specs.declared.kinds.TokenKind.{TokenKind}
 use Rattle.token.specs.code.Records.{State, Standing, Reaches}
@@ -34,7 +34,7 @@ stateAt x = record { at = x.at; gap = gapAt x; count = countAt x; bytes = x.byte
 -- record bytes that is too large by one stands for none.
 pub record Good (s : List ℕ) (x : Walked) : Type 0 where
   pub stands : Standing s (stateAt x)
-  pub class : x.class ≡ class_at s x.at
+  pub class : x.class ≡ classAt s x.at
   pub whole : x.bytes ≡ headLength * countAt x + x.values
   pub line : x.line ≤ x.bytes + 1
   pub mark : x.mark ≤ x.bytes + 1
@@ -46,8 +46,8 @@ Lent t s x = ByteClasses t × (length s ≤ mostBytes) × Good s x
 -- ---- the next state
 
 -- at another place, in the same gap
-abbrev pub moved_to : Walked → Here → Walked
-moved_to x to = record { at = to.at; class = to.class; bytes = x.bytes; values = x.values; line = x.line; mark = x.mark }
+abbrev pub movedTo : Walked → Here → Walked
+movedTo x to = record { at = to.at; class = to.class; bytes = x.bytes; values = x.values; line = x.line; mark = x.mark }
 
 -- behind a token without values, and one whose record has so many bytes
 abbrev pub plainBehind : Walked → Here → Walked
@@ -60,10 +60,10 @@ valuesBehind x end size =
 -- behind a line end, and behind a comment that no cut comes of
 abbrev pub lineBehind : List ℕ → Walked → ℕ → Walked
 lineBehind s x end =
-    record { at = end; class = class_at s end; bytes = x.bytes + lineLength; values = x.values + (lineLength - headLength); line = x.bytes + lineLength; mark = x.mark }
+    record { at = end; class = classAt s end; bytes = x.bytes + lineLength; values = x.values + (lineLength - headLength); line = x.bytes + lineLength; mark = x.mark }
 
 abbrev pub commentBehind : List ℕ → Walked → ℕ → Walked
-commentBehind s x end = record { at = end; class = class_at s end; bytes = x.bytes; values = x.values; line = x.line; mark = x.bytes }
+commentBehind s x end = record { at = end; class = classAt s end; bytes = x.bytes; values = x.values; line = x.line; mark = x.bytes }
 
 -- a step, or several
 pub record Steps (s : List ℕ) (x : Walked) (out : List ℕ) (y : Walked) (next : List ℕ) : Type 0 where
@@ -82,15 +82,15 @@ beginsName e = eqb e backtickClass || eqb e quoteClass || (not (upToBlank e) && 
 
 -- the kind's number of the word or backtick from i to e, whose first byte has the class k; of a quote that of an identifier
 unfoldable pub nameNumber : List ℕ → ℕ → ℕ → ℕ → ℕ
-nameNumber s k i e = cond (eqb k keywordClass) (numberOr 1 (word_of (codesTo (from s i) (from s e)))) (cond (eqb k backtickClass) 3 1)
+nameNumber s k i e = cond (eqb k keywordClass) (numberOr 1 (wordOf (codesTo (from s i) (from s e)))) (cond (eqb k backtickClass) 3 1)
 
 -- where the identifier or backtick ends that begins at i with a byte of the class k; of a quote, where it stands
 unfoldable pub prefixEnd : List ℕ → ℕ → ℕ → Here
-prefixEnd s k i = cond (eqb k quoteClass) (record { at = i; class = k }) (cond (eqb k backtickClass) (here_of s (backtickEnd s i)) (nameEnd s i))
+prefixEnd s k i = cond (eqb k quoteClass) (record { at = i; class = k }) (cond (eqb k backtickClass) (hereOf s (backtickEnd s i)) (nameEnd s i))
 
 -- the kind's number of the operator from i to its end: before a comment it is no keyword
 unfoldable pub operatorNumber : List ℕ → ℕ → Here → ℕ
-operatorNumber s i end = cond (eqb end.class slashClass) 2 (numberOr 2 (run_of (codesTo (from s i) (from s end.at))))
+operatorNumber s i end = cond (eqb end.class slashClass) 2 (numberOr 2 (runOf (codesTo (from s i) (from s end.at))))
 
 -- a string's opening stands at q: a plain one's where the walk stands, or one that what stands before it prefixes
 pub data Opens (s : List ℕ) (x : Walked) (q : ℕ) : Type 0 where

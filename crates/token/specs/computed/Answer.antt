@@ -1,6 +1,6 @@
 -- The answer for a script, computed: its tokens with their values, or a refusal's number and place. With the declared part it shares: the
 -- script as a text and a text's place (`from`, `place`); the character classes; the tests of what a text begins with, and a digit's value
--- (`Tests`); the keywords' texts (`word_of`, `run_of`); what a token is (`Token`). Of shapes, readings, values, marks, cuts and refusals it shares
+-- (`Tests`); the keywords' texts (`wordOf`, `runOf`); what a token is (`Token`). Of shapes, readings, values, marks, cuts and refusals it shares
 -- nothing. With the code it shares the enums `Kw` and `TokenKind` and the struct `Gap`.
 use Rattle.std.specs.Prelude.{ℕ, zero, suc, ◌+◌, ◌*◌, ◌-◌, Bool, true, false, cond, not, ◌&&◌, ◌||◌, List, [], ◌∷◌, map, reverse, length, take, drop, eqb, leb}
 use Rattle.std.proofs.Math.Option.{Option, none, some}
@@ -8,9 +8,9 @@ use Rattle.chars.specs.paper.Text.{Char, Text, from, place, headIs}
 use Rattle.chars.specs.computed.Runs.{afterRun}
 use Rattle.chars.specs.paper.Classes.{isIdStart, isIdChar}
 use Rattle.token.specs.paper.Tests.{isDigit, isHexDigit, isAny, begins, opensLine, opensBlock, closesBlock, opensComment, endOfLine, quote, threeQuotes, backslash, dollarBrace, digit, digitValue, hexAhead, letterL, opSign, freeSign, notBacktick, apostrophe, plainChar}
-use Rattle.token.specs.computed.Flags.{GapKind, fresh, push, cut_of}
+use Rattle.token.specs.computed.Flags.{GapKind, fresh, push, cutOf}
 use Rattle.token.specs.declared.gap.Gap.{Gap}
-use Rattle.token.specs.paper.Kinds.{word_of, run_of, Token}
+use Rattle.token.specs.paper.Kinds.{wordOf, runOf, Token}
 use Rattle.token.specs.declared.kinds.Kw.{Kw}
 use Rattle.token.specs.declared.kinds.TokenKind.{TokenKind}
 use Rattle.token.specs.declared.kinds.TokenKind.TheVariants as tk
@@ -62,8 +62,8 @@ readDigits p b v (c ∷ s) =
     let more = readDigits p b (v * b + digitValue c.code) s in
     cond (p c.code) more (numeral v (c ∷ s))
 
-abbrev pub number_of : Text → Numeral → Found
-number_of s (numeral v r) =
+abbrev pub numberOf : Text → Numeral → Found
+numberOf s (numeral v r) =
     cond (letterL r)
     (cond (leb v 9223372036854775807) (Found.token (tk.LongLit v) (drop 1 r)) (Found.stuck 6 s))
     (cond (leb v 2147483647) (Found.token (tk.IntLit v) r) (Found.stuck 6 s))
@@ -72,7 +72,7 @@ unfoldable pub scanNumber : Text → Found
 scanNumber s =
     let hex = readDigits isHexDigit 16 0 (drop 2 s) in
     let dec = readDigits isDigit 10 0 s in
-    number_of s (cond (hexAhead s) hex dec)
+    numberOf s (cond (hexAhead s) hex dec)
 
 -- ---- escapes: from behind the backslash, how many characters the escape has, or its refusal
 
@@ -154,12 +154,12 @@ plainContent n s r =
     let t = take (length s - length r) s in
     strip (length t) t (reverse t) (place n r)
 
-abbrev pub plain_of : ℕ → Text → Closing → Found
-plain_of n s (closed r) = Found.token (plainContent n s r) r
-plain_of n s (wrong j q) = Found.stuck j q
+abbrev pub plainOf : ℕ → Text → Closing → Found
+plainOf n s (closed r) = Found.token (plainContent n s r) r
+plainOf n s (wrong j q) = Found.stuck j q
 
 unfoldable pub scanString : ℕ → Text → Found
-scanString n s = plain_of n s (closeString false s)
+scanString n s = plainOf n s (closeString false s)
 
 -- a string prefixed by the text from s to m
 abbrev pub prefixedOf : ℕ → Text → Closing → Found
@@ -190,7 +190,7 @@ wordOr n s r (some k) = Found.token (tk.Kw k) r
 unfoldable pub scanIdent : ℕ → Text → Found
 scanIdent n s =
     let r = afterIdent false (drop 1 s) in
-    wordOr n s r (word_of (codesTo s r))
+    wordOr n s r (wordOf (codesTo s r))
 
 abbrev pub runOr : Text → Option Kw → Found
 runOr r none = Found.token tk.OpId r
@@ -199,7 +199,7 @@ runOr r (some k) = cond (opensComment r) (Found.token tk.OpId r) (Found.token (t
 unfoldable pub scanOperator : Text → Found
 scanOperator s =
     let r = afterRun freeSign s in
-    runOr r (run_of (codesTo s r))
+    runOr r (runOf (codesTo s r))
 
 -- ---- backticks
 
@@ -240,8 +240,8 @@ pub data Start : Type 0 where
   line block blank lf cr sign number word operator backtick string charSym other : Start
 
 -- A reading begins a comment wherever `//` or `/*` stands at a piece's start: these come first.
-unfoldable pub start_of : Text → Start
-start_of s =
+unfoldable pub startOf : Text → Start
+startOf s =
     cond (opensLine s) Start.line
     (cond (opensBlock s) Start.block
     (cond (isAny " \t" s) Start.blank
@@ -261,8 +261,8 @@ starts s =
     isAny " \t" s || isAny "\n" s || isAny "\r" s || isAny "()[]{},;." s || digit s || headIs isIdStart s || opSign s || isAny "`" s || quote s
     || apostrophe s
 
-unfoldable pub sign_of : Text → TokenKind
-sign_of s =
+unfoldable pub signOf : Text → TokenKind
+signOf s =
     cond (isAny "(" s) tk.LParen
     (cond (isAny ")" s) tk.RParen
     (cond (isAny "[" s) tk.LBracket
@@ -278,7 +278,7 @@ scanAs n Start.lf s = Found.gap GapKind.lineEnd (drop 1 s)
 scanAs n Start.cr s = scanReturn s
 scanAs n Start.line s = scanLine s
 scanAs n Start.block s = scanBlock s
-scanAs n Start.sign s = Found.token (sign_of s) (drop 1 s)
+scanAs n Start.sign s = Found.token (signOf s) (drop 1 s)
 scanAs n Start.number s = scanNumber s
 scanAs n Start.word s = scanIdent n s
 scanAs n Start.operator s = scanOperator s
@@ -288,7 +288,7 @@ scanAs n Start.charSym s = scanCharSym s
 scanAs n Start.other s = Found.stuck 3 s
 
 unfoldable pub scan : ℕ → Text → Found
-scan n s = scanAs n (start_of s) s
+scan n s = scanAs n (startOf s) s
 
 -- ---- the whole script
 
@@ -310,12 +310,12 @@ gapBefore GapKind.blockComment a e mark w = w
 
 -- the answer from the text on, after k characters that are passed, in a script of n bytes
 unfoldable pub walk : ℕ → ℕ → Gap → Text → Answer
-walk n k g [] = tokenized (record { kind = tk.Eof; start = n; end = n; cut = cut_of g } ∷ [])
+walk n k g [] = tokenized (record { kind = tk.Eof; start = n; end = n; cut = cutOf g } ∷ [])
 walk n (suc k) g (c ∷ s) = walk n k g s
 walk n zero g (c ∷ s) =
     elim (scan n (c ∷ s)) [
       | gap p r ↦ gapBefore p c.at (place n r) g.comment (walk n (length s - length r) (push p g) s)
-      | token t r ↦ prepend (record { kind = t; start = c.at; end = place n r; cut = cut_of g }) (walk n (length s - length r) fresh s)
+      | token t r ↦ prepend (record { kind = t; start = c.at; end = place n r; cut = cutOf g }) (walk n (length s - length r) fresh s)
       | stuck j q ↦ refused j (place n q)
     ]
 

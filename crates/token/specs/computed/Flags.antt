@@ -19,5 +19,5 @@ push GapKind.lineComment g = record { newline = g.newline; comment = true; pendi
 push GapKind.blockComment g = record { newline = g.newline; comment = true; pending = g.newline; cut = g.cut || g.pending }
 
 -- the cut of the token that ends the gap
-abbrev pub cut_of : Gap → Bool
-cut_of g = g.cut || g.pending
+abbrev pub cutOf : Gap → Bool
+cutOf g = g.cut || g.pending

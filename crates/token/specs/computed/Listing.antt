@@ -3,14 +3,14 @@ use Rattle.std.specs.Prelude.{ℕ, zero, suc, ◌+◌, ◌/◌, ◌%◌, Bool, t
 use Prim.Native.String.{String}
 use Rattle.chars.specs.paper.Quoted.{codes}
 use Rattle.chars.specs.paper.Classes.{alphabetic, lowercase, uppercase, nd, alphaNotLetter, isIdStart, isIdChar, isOpSign, isPrintable}
-use Rattle.chars.specs.paper.Utf8.{width, code_of}
+use Rattle.chars.specs.paper.Utf8.{width, codeOf}
 use Rattle.chars.specs.computed.Encoded.{script}
 use Rattle.chars.specs.paper.Text.{charsAt, from}
 use Rattle.chars.specs.computed.Runs.{afterRun}
 use Rattle.token.specs.paper.Tests.{same, isDigit, isHexDigit, begins}
-use Rattle.token.specs.paper.Kinds.{word_of, run_of, kindNumber, Token}
-use Rattle.token.specs.computed.Answer.{codesTo, scanReturn, scanLine, close, scanBlock, readDigits, scanNumber, exactHexes, digitsUpTo, afterSlash, closePlain, closePrefixed, closeTriple, closeString, strip, plainContent, scanString, orPrefixed, afterIdent, scanIdent, scanOperator, scanBacktick, scanCharSym, start_of, sign_of, scan, walk, Answer, tokenized, refused, answer}
-use Rattle.token.specs.paper.Records.{Value, one, four, eight, values_of, bit}
+use Rattle.token.specs.paper.Kinds.{wordOf, runOf, kindNumber, Token}
+use Rattle.token.specs.computed.Answer.{codesTo, scanReturn, scanLine, close, scanBlock, readDigits, scanNumber, exactHexes, digitsUpTo, afterSlash, closePlain, closePrefixed, closeTriple, closeString, strip, plainContent, scanString, orPrefixed, afterIdent, scanIdent, scanOperator, scanBacktick, scanCharSym, startOf, signOf, scan, walk, Answer, tokenized, refused, answer}
+use Rattle.token.specs.paper.Records.{Value, one, four, eight, valuesOf, bit}
 
 -- a number in base ten, before the text t; the first argument bounds its digits
 unfoldable pub decimalFor : ℕ → ℕ → List ℕ → List ℕ
@@ -35,7 +35,7 @@ valueNumbers (eight v ∷ vs) = v ∷ valueNumbers vs
 unfoldable pub shown : List Token → List ℕ
 shown [] = []
 shown (t ∷ ts) =
-    decimal (kindNumber t.kind) ++ spaced (t.start ∷ t.end ∷ bit t.cut ∷ valueNumbers (values_of t.kind)) ++ codes "\n" ++ shown ts
+    decimal (kindNumber t.kind) ++ spaced (t.start ∷ t.end ∷ bit t.cut ∷ valueNumbers (valuesOf t.kind)) ++ codes "\n" ++ shown ts
 
 -- or `refused N at P`
 unfoldable pub refusedAt : ℕ → ℕ → List ℕ
@@ -52,7 +52,7 @@ pub data Example : Type 0 where
 infix 70 ◌gives◌
 -- Where this is unfolded, all of the computed definition is.
 unfoldable pub listed : List ℕ → List ℕ
-unfolding alphabetic lowercase uppercase nd alphaNotLetter width code_of charsAt from isIdStart isIdChar isOpSign isPrintable isDigit isHexDigit begins word_of run_of afterRun codesTo scanReturn scanLine close scanBlock readDigits scanNumber exactHexes digitsUpTo afterSlash closePlain closePrefixed closeTriple closeString strip plainContent scanString orPrefixed afterIdent scanIdent scanOperator scanBacktick scanCharSym start_of sign_of scan walk answer decimalFor shown refusedAt listing
+unfolding alphabetic lowercase uppercase nd alphaNotLetter width codeOf charsAt from isIdStart isIdChar isOpSign isPrintable isDigit isHexDigit begins wordOf runOf afterRun codesTo scanReturn scanLine close scanBlock readDigits scanNumber exactHexes digitsUpTo afterSlash closePlain closePrefixed closeTriple closeString strip plainContent scanString orPrefixed afterIdent scanIdent scanOperator scanBacktick scanCharSym startOf signOf scan walk answer decimalFor shown refusedAt listing
 listed s = listing (answer s)
 
 -- by any way of listing a script

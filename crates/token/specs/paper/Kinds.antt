@@ -76,11 +76,11 @@ wordKeywords =
 abbrev pub symbolKeywords : List Word
 symbolKeywords = word ":" kw.Colon ∷ word "=>" kw.FatArrow ∷ word "=" kw.Assign ∷ word "#" kw.Hash ∷ word "@" kw.At ∷ []
 
-unfoldable pub word_of : List ℕ → Option Kw
-word_of t = keyword wordKeywords t
+unfoldable pub wordOf : List ℕ → Option Kw
+wordOf t = keyword wordKeywords t
 
-unfoldable pub run_of : List ℕ → Option Kw
-run_of t = keyword symbolKeywords t
+unfoldable pub runOf : List ℕ → Option Kw
+runOf t = keyword symbolKeywords t
 
 -- The kinds of pieces. A kind carries no value.
 

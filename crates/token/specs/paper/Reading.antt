@@ -4,7 +4,7 @@ use Rattle.std.proofs.Math.Option.{some}
 use Rattle.chars.specs.paper.Text.{Char, Text, from, place}
 use Rattle.token.specs.paper.Tests.{isAny, endsLine, quote}
 use Rattle.token.specs.paper.Kinds.{Kind, TokenType, withoutValues, isComment, isLineEnd, Token}
-use Rattle.token.specs.paper.Shapes.{Run, Longest, text_of, NumberText, Stands}
+use Rattle.token.specs.paper.Shapes.{Run, Longest, textOf, NumberText, Stands}
 use Rattle.token.specs.declared.kinds.TokenKind.{TokenKind}
 use Rattle.token.specs.declared.kinds.TokenKind.TheVariants as tk
 
@@ -87,7 +87,7 @@ pub data Valued (n : ℕ) (s r : Text) : TokenType → TokenKind → Type 0 wher
   longLit : {v : ℕ} → NumberText true v s r → Valued n s r TokenType.longLit (tk.LongLit v)
   -- for a prefixed one all its text
   prefixed : quote s ≡ false → Valued n s r TokenType.str (tk.Str (place n s) (place n r))
-  plain : {a b : ℕ} → quote s ≡ true → Content (text_of s r) (place n r) a b → Valued n s r TokenType.str (tk.Str a b)
+  plain : {a b : ℕ} → quote s ≡ true → Content (textOf s r) (place n r) a b → Valued n s r TokenType.str (tk.Str a b)
 
 -- the tokens of pieces that follow a gap
 pub data Tokens (script : List ℕ) : List Piece → List Piece → List Token → Type 0 where

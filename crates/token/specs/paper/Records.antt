@@ -11,34 +11,34 @@ bit true = 1
 bit false = 0
 
 -- length (2 bytes, whole record), kind (2), start (4), end (4), cut (1)
-unfoldable pub fields_of : ℕ → ℕ → ℕ → ℕ → Bool → List ℕ
-fields_of size kind start end cut = le2 size ++ (le2 kind ++ (le4 start ++ (le4 end ++ (bit cut ∷ []))))
+unfoldable pub fieldsOf : ℕ → ℕ → ℕ → ℕ → Bool → List ℕ
+fieldsOf size kind start end cut = le2 size ++ (le2 kind ++ (le4 start ++ (le4 end ++ (bit cut ∷ []))))
 
 -- a value of a record, by how many bytes it takes
 pub data Value : Type 0 where
   one four eight : ℕ → Value
 
 -- IntLit (+4: value), LongLit (+8: value), Str (+8: content start and end), Newline (+1: after-comment)
-abbrev pub values_of : TokenKind → List Value
-values_of tk.Ident = []
-values_of tk.OpId = []
-values_of tk.BacktickId = []
-values_of (tk.IntLit v) = four v ∷ []
-values_of (tk.LongLit v) = eight v ∷ []
-values_of (tk.Str a e) = four a ∷ four e ∷ []
-values_of tk.CharSym = []
-values_of tk.LParen = []
-values_of tk.RParen = []
-values_of tk.LBracket = []
-values_of tk.RBracket = []
-values_of tk.LBrace = []
-values_of tk.RBrace = []
-values_of tk.Comma = []
-values_of tk.Semi = []
-values_of tk.Dot = []
-values_of (tk.Newline mark) = one (bit mark) ∷ []
-values_of tk.Eof = []
-values_of (tk.Kw k) = []
+abbrev pub valuesOf : TokenKind → List Value
+valuesOf tk.Ident = []
+valuesOf tk.OpId = []
+valuesOf tk.BacktickId = []
+valuesOf (tk.IntLit v) = four v ∷ []
+valuesOf (tk.LongLit v) = eight v ∷ []
+valuesOf (tk.Str a e) = four a ∷ four e ∷ []
+valuesOf tk.CharSym = []
+valuesOf tk.LParen = []
+valuesOf tk.RParen = []
+valuesOf tk.LBracket = []
+valuesOf tk.RBracket = []
+valuesOf tk.LBrace = []
+valuesOf tk.RBrace = []
+valuesOf tk.Comma = []
+valuesOf tk.Semi = []
+valuesOf tk.Dot = []
+valuesOf (tk.Newline mark) = one (bit mark) ∷ []
+valuesOf tk.Eof = []
+valuesOf (tk.Kw k) = []
 
 abbrev pub valueBytes : List Value → List ℕ
 valueBytes [] = []
@@ -47,7 +47,7 @@ valueBytes (four v ∷ vs) = le4 v ++ valueBytes vs
 valueBytes (eight v ∷ vs) = le8 v ++ valueBytes vs
 
 unfoldable pub values : TokenKind → List ℕ
-values k = valueBytes (values_of k)
+values k = valueBytes (valuesOf k)
 
 -- 13 bytes without values
 abbrev pub headLength : ℕ
@@ -70,12 +70,12 @@ lineLength = headLength + 1
 unfoldable pub recordLength : TokenKind → ℕ
 recordLength k = headLength + length (values k)
 
-unfoldable pub head_of : Token → List ℕ
-head_of t = fields_of (recordLength t.kind) (kindNumber t.kind) t.start t.end t.cut
+unfoldable pub headOf : Token → List ℕ
+headOf t = fieldsOf (recordLength t.kind) (kindNumber t.kind) t.start t.end t.cut
 
 -- then the values
 unfoldable pub recordOf : Token → List ℕ
-recordOf t = head_of t ++ values t.kind
+recordOf t = headOf t ++ values t.kind
 
 unfoldable pub records : List Token → List ℕ
 records [] = []

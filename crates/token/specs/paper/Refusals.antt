@@ -100,4 +100,4 @@ pub record Refused (script : List ℕ) (j a : ℕ) : Type 0 where
   pub no-piece : (k : Kind) (r : Text) → Stands k text r → ⊥
   pub rest : Text
   pub first : First text j rest
-  pub place_is : place (length script) rest ≡ a
+  pub place-is : place (length script) rest ≡ a

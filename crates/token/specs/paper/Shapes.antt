@@ -5,7 +5,7 @@ use Rattle.std.proofs.Math.Option.{none, some}
 use Rattle.chars.specs.paper.Text.{Char, Text, headIs, idChar}
 use Rattle.chars.specs.paper.Classes.{isIdStart}
 use Rattle.token.specs.paper.Tests.{isAny, opensBlock, closesBlock, opensComment, endOfLine, quote, threeQuotes, backslash, dollarBrace, digit, hexDigit, digitValue, hexAhead, letterL, opSign, freeSign, notBacktick, apostrophe, plainChar}
-use Rattle.token.specs.paper.Kinds.{Kind, TokenType, isComment, word_of, run_of}
+use Rattle.token.specs.paper.Kinds.{Kind, TokenType, isComment, wordOf, runOf}
 
 -- ---- words of the section
 
@@ -46,11 +46,11 @@ abbrev pub Longest : Shape → Shape
 Longest R s r = R s r × ((q : Text) → R s q → length r ≤ length q)
 
 -- the text between s and r
-abbrev pub text_of : Text → Text → Text
-text_of s r = take (length s - length r) s
+abbrev pub textOf : Text → Text → Text
+textOf s r = take (length s - length r) s
 
-abbrev pub codes_of : Text → Text → List ℕ
-codes_of s r = map (λ (c : Char). c.code) (text_of s r)
+abbrev pub codesOf : Text → Text → List ℕ
+codesOf s r = map (λ (c : Char). c.code) (textOf s r)
 
 -- ---- Gap pieces
 
@@ -91,8 +91,8 @@ valueOfDigits b (d ∷ ds) = digitValue d * b ^ length ds + valueOfDigits b ds
 -- `0x` and the longest run of one or more hex digits, else the longest run of digits. A number's value is that of its digits, in base 16 after
 -- `0x`, else in base 10.
 pub data Digits : ℕ → Text → Text → Type 0 where
-  hex : {s r : Text} → hexAhead s ≡ true → Longest (Run1 hexDigit) (drop 2 s) r → Digits (valueOfDigits 16 (codes_of (drop 2 s) r)) s r
-  dec : {s r : Text} → hexAhead s ≡ false → Longest (Run1 digit) s r → Digits (valueOfDigits 10 (codes_of s r)) s r
+  hex : {s r : Text} → hexAhead s ≡ true → Longest (Run1 hexDigit) (drop 2 s) r → Digits (valueOfDigits 16 (codesOf (drop 2 s) r)) s r
+  dec : {s r : Text} → hexAhead s ≡ false → Longest (Run1 digit) s r → Digits (valueOfDigits 10 (codesOf s r)) s r
 
 -- then `L` or `l` if it stands there (true), else nothing
 abbrev pub LongSuffix : Bool → Shape
@@ -128,7 +128,7 @@ Ident s r = Longest (One (headIs isIdStart) then Chunks then Tail) s r
 
 -- that is no keyword
 abbrev pub PlainIdent : Shape
-PlainIdent s r = Ident s r × (word_of (codes_of s r) ≡ none)
+PlainIdent s r = Ident s r × (wordOf (codesOf s r) ≡ none)
 
 -- ---- Operator: the longest run of one or more operator signs none of which begins `//` or `/*`
 
@@ -158,14 +158,14 @@ allowed true s = not (dollarBrace s)
 allowed false s = true
 
 -- content of a single string that is no escape: no quote, no LF; in a plain one no backslash, in a prefixed one it is content
-abbrev pub single_char : Bool → Text → Bool
-single_char true s = not (quote s) && not (isAny "\n" s) && allowed true s
-single_char false s = not (quote s) && not (isAny "\n" s) && not (backslash s)
+abbrev pub singleChar : Bool → Text → Bool
+singleChar true s = not (quote s) && not (isAny "\n" s) && allowed true s
+singleChar false s = not (quote s) && not (isAny "\n" s) && not (backslash s)
 
 -- Single: up to the next quote outside an escape; in a plain one each backslash opens a valid escape
 pub data Single : Bool → Text → Text → Type 0 where
   done : {p : Bool} {s : Text} → Single p s s
-  char : {p : Bool} {c : Char} {s r : Text} → single_char p (c ∷ s) ≡ true → Single p s r → Single p (c ∷ s) r
+  char : {p : Bool} {c : Char} {s r : Text} → singleChar p (c ∷ s) ≡ true → Single p s r → Single p (c ∷ s) r
   escape : {s m r : Text} → Escape s m → Single false m r → Single false s r
 
 -- content of a triple string: no backslash; it ends at the first three quotes in a row
@@ -207,9 +207,9 @@ unfoldable pub TokenShape : TokenType → Shape
 TokenShape TokenType.ident s r = PlainIdent s r × (quote r ≡ false)
 TokenShape TokenType.backtickId s r = Backtick s r × (quote r ≡ false)
 -- The five runs are keywords unless `//` or `/*` follows directly.
-TokenShape TokenType.opId s r = Operator s r × ((run_of (codes_of s r) ≡ none) ⊎ (opensComment r ≡ true))
+TokenShape TokenType.opId s r = Operator s r × ((runOf (codesOf s r) ≡ none) ⊎ (opensComment r ≡ true))
 TokenShape (TokenType.key k) s r =
-    (Ident s r × (word_of (codes_of s r) ≡ some k)) ⊎ (Operator s r × (run_of (codes_of s r) ≡ some k) × (opensComment r ≡ false))
+    (Ident s r × (wordOf (codesOf s r) ≡ some k)) ⊎ (Operator s r × (runOf (codesOf s r) ≡ some k) × (opensComment r ≡ false))
 TokenShape TokenType.intLit s r = Number false s r
 TokenShape TokenType.longLit s r = Number true s r
 TokenShape TokenType.str s r = Str s r

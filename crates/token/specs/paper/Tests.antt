@@ -1,7 +1,7 @@
 -- Tests of what a text begins with, in document 01's own characters.
 use Rattle.std.specs.Prelude.{ℕ, ◌-◌, Bool, true, false, cond, not, ◌&&◌, ◌||◌, List, [], ◌∷◌, drop, eqb, leb}
 use Prim.Native.String.{String}
-use Rattle.chars.specs.paper.Quoted.{between, codes, one_of}
+use Rattle.chars.specs.paper.Quoted.{between, codes, oneOf}
 use Rattle.chars.specs.paper.Classes.{isOpSign, isPrintable}
 use Rattle.chars.specs.paper.Text.{Text, headIs}
 
@@ -16,16 +16,16 @@ isHexDigit c = isDigit c || between 0x41 0x46 c || between 0x61 0x66 c
 
 -- with one of the quoted characters
 abbrev pub isAny : String → Text → Bool
-isAny t s = headIs (one_of t) s
+isAny t s = headIs (oneOf t) s
 
-abbrev pub starts_with : List ℕ → Text → Bool
-starts_with [] s = true
-starts_with (x ∷ xs) [] = false
-starts_with (x ∷ xs) (c ∷ s) = eqb c.code x && starts_with xs s
+abbrev pub startsWith : List ℕ → Text → Bool
+startsWith [] s = true
+startsWith (x ∷ xs) [] = false
+startsWith (x ∷ xs) (c ∷ s) = eqb c.code x && startsWith xs s
 
 -- with the quoted text
 unfoldable pub begins : String → Text → Bool
-begins t s = starts_with (codes t) s
+begins t s = startsWith (codes t) s
 
 abbrev pub opensLine : Text → Bool
 opensLine s = begins "//" s

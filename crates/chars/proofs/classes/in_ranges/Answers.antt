@@ -1,6 +1,6 @@
 -- Where the loop ends, the last range that begins at c or below is the one before a.
 use Rattle.std.proofs.Common.{◌≡◌, suc, ◌-◌, ◌*◌, leb, get_or, sym, ap, ◌∙◌, arith}
-use Rattle.chars.proofs.classes.Ranges.{ends-outside, ends_found}
+use Rattle.chars.proofs.classes.Ranges.{ends-outside, ends-found}
 use Rattle.chars.proofs.classes.in_ranges.Goals as goal
 
 pub returns-then-a-eq0 : goal.returns-then-a-eq0
@@ -17,5 +17,5 @@ returns c =
     let i : c.loop-a.a * 2 - 1 ≡ suc (k * 2) = omega arith in
     ap (λ n. leb c.args.c (get_or table n 0)) i
     ∙ sym
-    (ends_found table c.args.c c.requires k (omega arith) (c.loop-a.invariant.before k e)
+    (ends-found table c.args.c c.requires k (omega arith) (c.loop-a.invariant.before k e)
     (λ n. rw z (c.loop-a.invariant.after (omega arith))))

@@ -3,7 +3,7 @@ use Rattle.std.proofs.Common.{sym, ap, ◌∙◌, arith}
 use Rattle.chars.specs.paper.Classes.{isIdChar}
 use Rattle.chars.specs.paper.Text.{from, idChar}
 use Rattle.chars.specs.computed.Runs.{afterRun}
-use Rattle.chars.proofs.text.Places.{step-text, step-none, next-on, runs_on, runs-out, runs-end}
+use Rattle.chars.proofs.text.Places.{step-text, step-none, next-on, runs-on, runs-out, runs-end}
 use Rattle.chars.proofs.classes.wide_run_end.Goals as goal
 
 pub returns-in_default : goal.returns-in_default
@@ -27,7 +27,7 @@ loop-i-preserved c =
     let s = c.args.s.now in
     let t = step-text s c.loop-i.i _ _ c.in-Char.ensures.value in
     ap (λ j. afterRun idChar (from s j)) (sym t.2)
-    ∙ runs_on isIdChar s c.loop-i.i _ t.0 (ap isIdChar t.1 ∙ sym c.if-not-is_lent_id_char.ensures) c.loop-i.invariant
+    ∙ runs-on isIdChar s c.loop-i.i _ t.0 (ap isIdChar t.1 ∙ sym c.if-not-is_lent_id_char.ensures) c.loop-i.invariant
 
 pub returns : goal.returns
 returns c = runs-end isIdChar c.args.s.now c.loop-i.i _ c.loop-i-test.false c.loop-i.invariant

@@ -1,5 +1,5 @@
 -- Each return is a branch of the judgement.
-use Rattle.entry.proofs.host.Laws.{entry-refused, entry-short, entry-fits, entry-bytes, entry_length, entry_done, entry-held}
+use Rattle.entry.proofs.host.Laws.{entry-refused, entry-short, entry-fits, entry-bytes, entry-length, entry-done, entry-held}
 use Rattle.entry.proofs.host.tokenize_by.Goals as goal
 
 pub returns-in-Refused-clause-answer_after : goal.returns-in-Refused-clause-answer_after
@@ -15,10 +15,10 @@ write-requires c =
     let script = c.args.script.now in
     let judged = c.in-Fits.ensures.value in
     record {
-      s_len_bound = (entry_length script _ _ _ judged, entry-fits script _ _ _ judged, entry-bytes script _ _ _ judged);
+      s_len_bound = (entry-length script _ _ _ judged, entry-fits script _ _ _ judged, entry-bytes script _ _ _ judged);
       scratch_value = entry-held script _ _ _ judged _ _ c.judge-judged.auto.scratch c.in-Fits.ensures.scratch_after
     }
 
 pub returns-in-Fits-clause-answer_after : goal.returns-in-Fits-clause-answer_after
 returns-in-Fits-clause-answer_after c =
-    entry_done c.args.script.now c.args.records.now c.args.answer.now c.requires _ _ _ _ c.in-Fits.ensures.value c.write.ensures c.put_block-in-Fits.ensures
+    entry-done c.args.script.now c.args.records.now c.args.answer.now c.requires _ _ _ _ c.in-Fits.ensures.value c.write.ensures c.put_block-in-Fits.ensures

@@ -1,7 +1,7 @@
 -- Each test on the code that is peeked is one test of the definition.
 use Rattle.std.proofs.Common.{eq-eqb, ne_eqb, refl, sym}
 use Rattle.chars.proofs.theorems.Promises.{text-laws, class-laws}
-use Rattle.token.proofs.charsym.Laws.{sym-token, sym-stuck, no_symbol, word-is, run_is, comment-is, other-is, semi-sign-is, semi-is}
+use Rattle.token.proofs.charsym.Laws.{sym-token, sym-stuck, no-symbol, word-is, run-is, comment-is, other-is, semi-sign-is, semi-is}
 use Rattle.token.proofs.cursor.Laws.{peeked-char, peeked-end}
 use Rattle.token.proofs.charsym.lex_symbol.Goals as goal
 open text-laws use {at-end}
@@ -11,7 +11,7 @@ pub returns-in_default : goal.returns-in_default
 returns-in_default c =
     let s = c.args.s.now in
     let at = c.args.c.at in
-    sym-stuck s 16 at _ c.requires (no_symbol _ (at-end s at (peeked-end s at c.in_default.ensures)))
+    sym-stuck s 16 at _ c.requires (no-symbol _ (at-end s at (peeked-end s at c.in_default.ensures)))
 
 pub returns-then-opens_comment : goal.returns-then-opens_comment
 returns-then-opens_comment c =
@@ -27,7 +27,7 @@ returns-then-is_op_char c =
     let h = peeked-char s c.args.c.at _ _ c.in-Char.ensures in
     let e = sym c.if-is_op_char.ensures in
     let r = c.consume_op_run.ensures in
-    sym-token s c.consume_op_run.result.at _ _ r.0 r.1 (run_is _ _ _ _ h (sign-no-start _ e) e (sym c.if-opens_comment.ensures))
+    sym-token s c.consume_op_run.result.at _ _ r.0 r.1 (run-is _ _ _ _ h (sign-no-start _ e) e (sym c.if-opens_comment.ensures))
 
 pub skip_id_rest-requires : goal.skip_id_rest-requires
 skip_id_rest-requires c = (peeked-char c.args.s.now c.args.c.at _ _ c.in-Char.ensures).within

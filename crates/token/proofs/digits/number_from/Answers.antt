@@ -1,10 +1,10 @@
 -- A digit is one character, and a value past the limit stays past it.
 use Rattle.std.proofs.Common.{◌+◌, ◌*◌, length, arith, ap, ◌∙◌}
 use Rattle.chars.specs.paper.Text.{from}
-use Rattle.token.specs.computed.Answer.{readDigits, number_of}
-use Rattle.token.specs.code.Piece.{piece_of}
+use Rattle.token.specs.computed.Answer.{readDigits, numberOf}
+use Rattle.token.specs.code.Piece.{pieceOf}
 use Rattle.token.specs.code.Digits.{digitIn, digitOf}
-use Rattle.token.proofs.digits.Laws.{digit-inside, one_more, no_more, base-some, fitted, overs, over-read}
+use Rattle.token.proofs.digits.Laws.{digit-inside, one-more, no-more, base-some, fitted, overs, over-read}
 use Rattle.token.proofs.digits.number_from.Goals as goal
 
 pub returns-then-base-d : goal.returns-then-base-d
@@ -13,7 +13,7 @@ returns-then-base-d c =
     let l = c.loop-start in
     let d = c.digit_of-d.ensures ∙ ap digitOf c.byte_at.ensures in
     c.number_end.ensures
-    ∙ ap (λ r. piece_of (length s) (number_of (from s c.args.start) r)) (no_more _ c.requires.2 s l.i _ l.v d c.if-base-d.true ∙ l.invariant.same)
+    ∙ ap (λ r. pieceOf (length s) (numberOf (from s c.args.start) r)) (no-more _ c.requires.2 s l.i _ l.v d c.if-base-d.true ∙ l.invariant.same)
 
 pub returns-in_default : goal.returns-in_default
 returns-in_default c =
@@ -23,7 +23,7 @@ returns-in_default c =
     let d = c.digit_of-d.ensures ∙ ap digitOf c.byte_at.ensures in
     let v = l.v * b + c.digit_of-d.result in
     over-read s c.args.start (omega arith) (digitIn b) b (base-some b c.requires.2) v (from s (l.i + 1)) (overs v c.in_default.ensures)
-    ∙ ap (λ r. piece_of (length s) (number_of (from s c.args.start) r)) (one_more b c.requires.2 s l.i _ l.v d c.if-base-d.false ∙ l.invariant.same)
+    ∙ ap (λ r. pieceOf (length s) (numberOf (from s c.args.start) r)) (one-more b c.requires.2 s l.i _ l.v d c.if-base-d.false ∙ l.invariant.same)
 
 pub loop-start-smaller : goal.loop-start-smaller
 loop-start-smaller c =
@@ -42,5 +42,5 @@ loop-start-preserved c =
       since = omega arith;
       within = omega arith;
       small = omega arith;
-      same = ap (λ k. readDigits (digitIn b) b k (from s (l.i + 1))) f.0 ∙ one_more b c.requires.2 s l.i _ l.v d c.if-base-d.false ∙ l.invariant.same;
+      same = ap (λ k. readDigits (digitIn b) b k (from s (l.i + 1))) f.0 ∙ one-more b c.requires.2 s l.i _ l.v d c.if-base-d.false ∙ l.invariant.same;
     }

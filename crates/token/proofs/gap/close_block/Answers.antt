@@ -2,7 +2,7 @@
 use Rattle.std.proofs.Common.{◌≡◌, ◌-◌, suc, arith, sym, ap, ◌∙◌}
 use Rattle.chars.specs.paper.Text.{from}
 use Rattle.token.specs.computed.Answer.{close}
-use Rattle.token.proofs.gap.Laws.{slash-star, star-slash, block-past, block-close, block-less, block_more, block-other, block-end}
+use Rattle.token.proofs.gap.Laws.{slash-star, star-slash, block-past, block-close, block-less, block-more, block-other, block-end}
 use Rattle.token.proofs.gap.close_block.Goals as goal
 
 pub loop-i-init : goal.loop-i-init
@@ -14,7 +14,7 @@ loop-i-init c =
 pub loop-i-preserved-then-pair-eq10799 : goal.loop-i-preserved-then-pair-eq10799
 loop-i-preserved-then-pair-eq10799 c =
     let p = slash-star c.args.s.now c.loop-i.i (omega (arith, c.type_inv.s c.loop-i.i)) c.pair_at-pair.ensures c.if-pair-eq10799.true in
-    record { within = p.within; depth_in = omega arith; same = block_more c.args.s.now c.loop-i.i _ c.loop-i.depth p c.loop-i.invariant.same }
+    record { within = p.within; depth_in = omega arith; same = block-more c.args.s.now c.loop-i.i _ c.loop-i.depth p c.loop-i.invariant.same }
 
 pub returns-then-depth-eq0 : goal.returns-then-depth-eq0
 returns-then-depth-eq0 c =

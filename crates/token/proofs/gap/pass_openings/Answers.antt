@@ -1,7 +1,7 @@
 -- Four openings are eight bytes of the script.
 use Rattle.std.proofs.Common.{arith, refl, sym, ◌-◌, length}
 use Rattle.token.specs.code.Gap.{nestAt, openings}
-use Rattle.token.proofs.Loops.{going_on, going-stop}
+use Rattle.token.proofs.Loops.{going-on, going-stop}
 use Rattle.token.proofs.gap.Laws.{open-within}
 use Rattle.token.proofs.gap.pass_openings.Goals as goal
 
@@ -26,7 +26,7 @@ pub loop-i-preserved : goal.loop-i-preserved
 loop-i-preserved c =
     let e = sym c.loop-i-test.ensures in
     let w = open-within _ _ e in
-    record { within = w; depth_in = omega arith; going = going_on _ _ _ (nestAt c.loop-i.i c.loop-i.depth) _ _ e (omega arith) c.loop-i.invariant.going }
+    record { within = w; depth_in = omega arith; going = going-on _ _ _ (nestAt c.loop-i.i c.loop-i.depth) _ _ e (omega arith) c.loop-i.invariant.going }
 
 pub returns : goal.returns
 returns c = going-stop _ _ _ (nestAt c.loop-i.i c.loop-i.depth) _ (sym c.loop-i-test.ensures) c.loop-i.invariant.going

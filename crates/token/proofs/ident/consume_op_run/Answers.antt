@@ -6,7 +6,7 @@ use Rattle.chars.specs.paper.Text.{from}
 use Rattle.chars.specs.computed.Runs.{afterRun}
 use Rattle.chars.proofs.theorems.Promises.{text-laws}
 use Rattle.token.specs.paper.Tests.{opSign, freeSign, opensComment}
-use Rattle.token.proofs.ident.Laws.{past_same, past-other}
+use Rattle.token.proofs.ident.Laws.{past-same, past-other}
 use Rattle.token.proofs.ident.consume_op_run.Goals as goal
 open text-laws use {next-on, run-next, run-stays}
 
@@ -14,7 +14,7 @@ pub returns-then-next-d : goal.returns-then-next-d
 returns-then-next-d c =
     let s = c.args.s.now in
     let i = c.loop-d.d.at in
-    let e = past_same isOpSign s i (sym c.if-next-d.true ∙ c.sign_end-next.ensures) in
+    let e = past-same isOpSign s i (sym c.if-next-d.true ∙ c.sign_end-next.ensures) in
     (c.loop-d.invariant.0, sym (run-stays freeSign (from s i) (ap (λ z. z && not (opensComment (from s i))) e)) ∙ c.loop-d.invariant.1)
 
 pub returns-then-opens_comment : goal.returns-then-opens_comment

@@ -5,7 +5,7 @@ use Rattle.chars.specs.paper.Text.{from}
 use Rattle.chars.specs.computed.Runs.{afterRun}
 use Rattle.chars.proofs.theorems.Promises.{text-laws}
 use Rattle.token.specs.paper.Tests.{opSign}
-use Rattle.token.proofs.ident.Laws.{past_same, past-other}
+use Rattle.token.proofs.ident.Laws.{past-same, past-other}
 use Rattle.token.proofs.ident.consume_signs.Goals as goal
 open text-laws use {next-on, run-next, run-stays}
 
@@ -13,7 +13,7 @@ pub returns-then-next-i : goal.returns-then-next-i
 returns-then-next-i c =
     let s = c.args.s.now in
     let i = c.loop-i.i in
-    let e = past_same isOpSign s i (sym c.if-next-i.true ∙ c.sign_end-next.ensures) in
+    let e = past-same isOpSign s i (sym c.if-next-i.true ∙ c.sign_end-next.ensures) in
     (c.loop-i.invariant.0, sym (run-stays opSign (from s i) e) ∙ c.loop-i.invariant.1)
 
 pub loop-i-smaller : goal.loop-i-smaller

@@ -3,7 +3,7 @@ use Rattle.std.proofs.Common.{length, false, refl, sym, ap, ◌∙◌}
 use mathlib.Core.Option.{some, none}
 use Rattle.chars.specs.paper.Text.{from}
 use Rattle.token.specs.computed.Answer.{afterIdent}
-use Rattle.token.specs.code.Piece.{piece_of}
+use Rattle.token.specs.code.Piece.{pieceOf}
 use Rattle.token.specs.declared.kinds.TokenKind.TheVariants as tk
 use Rattle.token.proofs.keyword.Laws.{by-ident, key-is, key-not, told-by}
 use Rattle.token.proofs.ident.Laws.{left-to, ident-left, scan-word, token-at}
@@ -31,7 +31,7 @@ returns-in-Is c =
     let r = from s c.skip_id_rest-end.result.at in
     let key = key-is _ c.in-Is.k (told-by 1 by-ident _ _ _ c.word_number.ensures c.in-Is.ensures) in
     let w = scan-word (length s) (from s c.args.c.at) r (some c.in-Is.k) (e.1 ∙ ap (afterIdent false) c.requires.3) key in
-    token-at s (tk.Kw c.in-Is.k) _ r e.0 refl ∙ ap (piece_of (length s)) (sym w)
+    token-at s (tk.Kw c.in-Is.k) _ r e.0 refl ∙ ap (pieceOf (length s)) (sym w)
 
 pub returns-in-Not : goal.returns-in-Not
 returns-in-Not c =
@@ -40,4 +40,4 @@ returns-in-Not c =
     let r = from s c.skip_id_rest-end.result.at in
     let key = key-not _ (told-by 1 by-ident _ _ _ c.word_number.ensures c.in-Not.ensures) in
     let w = scan-word (length s) (from s c.args.c.at) r none (e.1 ∙ ap (afterIdent false) c.requires.3) key in
-    c.or_prefixed.ensures ∙ ap (piece_of (length s)) (sym w)
+    c.or_prefixed.ensures ∙ ap (pieceOf (length s)) (sym w)

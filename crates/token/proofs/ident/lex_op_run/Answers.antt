@@ -3,10 +3,10 @@ use Rattle.std.proofs.Common.{length, refl, sym, ap, ◌∙◌}
 use mathlib.Core.Option.{some, none}
 use Rattle.chars.specs.paper.Text.{from}
 use Rattle.token.specs.paper.Tests.{freeSign}
-use Rattle.token.specs.code.Piece.{piece_of}
+use Rattle.token.specs.code.Piece.{pieceOf}
 use Rattle.token.specs.declared.kinds.TokenKind.TheVariants as tk
 use Rattle.token.proofs.keyword.Laws.{by-op, key-is, key-not, told-by}
-use Rattle.token.proofs.ident.Laws.{left-to, run-left, scan-run, run-before, run_alone, token-at}
+use Rattle.token.proofs.ident.Laws.{left-to, run-left, scan-run, run-before, run-alone, token-at}
 use Rattle.token.proofs.ident.lex_op_run.Goals as goal
 
 pub run_number-requires : goal.run_number-requires
@@ -22,7 +22,7 @@ returns-then-opens_comment c =
     let r = from s c.consume_op_run-end.result.at in
     let key = key-is _ c.in-Is.k (told-by 2 by-op _ _ _ c.run_number.ensures c.in-Is.ensures) in
     let q = scan-run (from s c.args.c.at) r (some c.in-Is.k) e.1 key in
-    token-at s tk.OpId _ r e.0 refl ∙ ap (piece_of (length s)) (sym (q ∙ run-before r c.in-Is.k (sym c.if-opens_comment.ensures)))
+    token-at s tk.OpId _ r e.0 refl ∙ ap (pieceOf (length s)) (sym (q ∙ run-before r c.in-Is.k (sym c.if-opens_comment.ensures)))
 
 pub returns-else-opens_comment : goal.returns-else-opens_comment
 returns-else-opens_comment c =
@@ -31,7 +31,7 @@ returns-else-opens_comment c =
     let r = from s c.consume_op_run-end.result.at in
     let key = key-is _ c.in-Is.k (told-by 2 by-op _ _ _ c.run_number.ensures c.in-Is.ensures) in
     let q = scan-run (from s c.args.c.at) r (some c.in-Is.k) e.1 key in
-    token-at s (tk.Kw c.in-Is.k) _ r e.0 refl ∙ ap (piece_of (length s)) (sym (q ∙ run_alone r c.in-Is.k (sym c.if-opens_comment.ensures)))
+    token-at s (tk.Kw c.in-Is.k) _ r e.0 refl ∙ ap (pieceOf (length s)) (sym (q ∙ run-alone r c.in-Is.k (sym c.if-opens_comment.ensures)))
 
 pub returns-in-Not : goal.returns-in-Not
 returns-in-Not c =
@@ -39,4 +39,4 @@ returns-in-Not c =
     let e = c.consume_op_run-end.ensures in
     let r = from s c.consume_op_run-end.result.at in
     let key = key-not _ (told-by 2 by-op _ _ _ c.run_number.ensures c.in-Not.ensures) in
-    token-at s tk.OpId _ r e.0 refl ∙ ap (piece_of (length s)) (sym (scan-run (from s c.args.c.at) r none e.1 key))
+    token-at s tk.OpId _ r e.0 refl ∙ ap (pieceOf (length s)) (sym (scan-run (from s c.args.c.at) r none e.1 key))

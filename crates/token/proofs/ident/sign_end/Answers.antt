@@ -2,7 +2,7 @@
 use Rattle.std.proofs.Common.{◌+◌, arith, sym}
 use Rattle.chars.specs.paper.Classes.{isOpSign}
 use Rattle.chars.proofs.theorems.Promises.{text-laws}
-use Rattle.token.proofs.ident.Laws.{head-inside, sign-here, past-on, past_off}
+use Rattle.token.proofs.ident.Laws.{head-inside, sign-here, past-on, past-off}
 use Rattle.token.proofs.ident.sign_end.Goals as goal
 open text-laws use {ascii-next}
 
@@ -19,4 +19,4 @@ returns-then-is_op_byte c =
     past-on isOpSign s i (i + 1) e (sym (ascii-next s i (head-inside isOpSign s i e) (omega arith)))
 
 pub returns : goal.returns
-returns c = past_off isOpSign c.args.s.now c.args.at (sign-here _ _ _ _ c.byte_at-b.ensures (omega arith) c.if-is_op_byte.ensures)
+returns c = past-off isOpSign c.args.s.now c.args.at (sign-here _ _ _ _ c.byte_at-b.ensures (omega arith) c.if-is_op_byte.ensures)

@@ -1,6 +1,6 @@
 -- One run, and no underscore behind it: nothing more; else the chunks from its end on.
 use Rattle.std.proofs.Common.{◌∙◌}
-use Rattle.token.proofs.ident.Laws.{pass-run, pass_all}
+use Rattle.token.proofs.ident.Laws.{pass-run, pass-all}
 use Rattle.token.proofs.ident.skip_id_rest.Goals as goal
 
 pub returns-then-byte_at-eq95 : goal.returns-then-byte_at-eq95
@@ -13,4 +13,4 @@ returns c =
     let s = c.args.s.now in
     let i = c.args.c.at in
     let run = c.id_run_end-end.ensures in
-    ((pass-run s i _ c.requires run).0, pass_all s i _ c.requires run (λ e. c.if-byte_at-eq95.false (c.byte_at.ensures ∙ e)))
+    ((pass-run s i _ c.requires run).0, pass-all s i _ c.requires run (λ e. c.if-byte_at-eq95.false (c.byte_at.ensures ∙ e)))

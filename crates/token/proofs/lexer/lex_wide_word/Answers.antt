@@ -3,9 +3,9 @@ use Rattle.std.proofs.Common.{arith, sym, ap, ◌∙◌, length}
 use Rattle.chars.specs.paper.Classes.{isIdStart, isOpSign}
 use Rattle.chars.specs.paper.Text.{headIs}
 use Rattle.chars.proofs.theorems.Promises.{class-laws}
-use Rattle.token.specs.code.Piece.{piece_of}
+use Rattle.token.specs.code.Piece.{pieceOf}
 use Rattle.token.proofs.cursor.Laws.{peeked-char, peeked-end}
-use Rattle.token.proofs.lexer.Laws.{word_at, operator-at, refused_at}
+use Rattle.token.proofs.lexer.Laws.{word-at, operator-at, refused_at}
 use Rattle.token.proofs.lexer.lex_wide_word.Goals as goal
 open class-laws use {russian}
 
@@ -17,7 +17,7 @@ lex_ident-requires c =
 pub returns-then-is_cyrillic_at : goal.returns-then-is_cyrillic_at
 returns-then-is_cyrillic_at c =
     let r = russian c.args.s.now c.args.c.at (sym c.if-is_cyrillic_at.ensures) in
-    c.lex_ident.ensures ∙ ap (piece_of (length c.args.s.now)) (sym (word_at c.args.s.now c.args.c.at c.requires.0 c.requires.2 r.start))
+    c.lex_ident.ensures ∙ ap (pieceOf (length c.args.s.now)) (sym (word-at c.args.s.now c.args.c.at c.requires.0 c.requires.2 r.start))
 
 pub returns-in_default : goal.returns-in_default
 returns-in_default c =
@@ -28,7 +28,7 @@ pub returns-then-is_op_char : goal.returns-then-is_op_char
 returns-then-is_op_char c =
     let h = peeked-char c.args.s.now c.args.c.at _ _ c.in-Char.ensures in
     let e = ap (headIs isOpSign) h.text ∙ sym c.if-is_op_char.ensures in
-    c.lex_op_run.ensures ∙ ap (piece_of (length c.args.s.now)) (sym (operator-at c.args.s.now c.args.c.at c.requires.0 c.requires.2 e))
+    c.lex_op_run.ensures ∙ ap (pieceOf (length c.args.s.now)) (sym (operator-at c.args.s.now c.args.c.at c.requires.0 c.requires.2 e))
 
 pub lex_ident-requires-then-is_id_start : goal.lex_ident-requires-then-is_id_start
 lex_ident-requires-then-is_id_start c =
@@ -39,7 +39,7 @@ pub returns-then-is_id_start : goal.returns-then-is_id_start
 returns-then-is_id_start c =
     let h = peeked-char c.args.s.now c.args.c.at _ _ c.in-Char.ensures in
     let e = ap (headIs isIdStart) h.text ∙ sym c.if-is_id_start.ensures.value in
-    c.lex_ident-then-is_id_start.ensures ∙ ap (piece_of (length c.args.s.now)) (sym (word_at c.args.s.now c.args.c.at c.requires.0 c.requires.2 e))
+    c.lex_ident-then-is_id_start.ensures ∙ ap (pieceOf (length c.args.s.now)) (sym (word-at c.args.s.now c.args.c.at c.requires.0 c.requires.2 e))
 
 pub returns : goal.returns
 returns c =

@@ -3,7 +3,7 @@ use Rattle.std.proofs.Common.{◌+◌, arith, sym, ap, ◌∙◌}
 use Rattle.token.specs.paper.Tests.{begins}
 use Rattle.token.specs.code.Cursor.{cursorAt}
 use Rattle.token.specs.declared.lexer.Next.TheVariants as next
-use Rattle.token.proofs.cursor.Bytes.{two_bytes}
+use Rattle.token.proofs.cursor.Bytes.{two-bytes}
 use Rattle.token.proofs.gap.Laws.{pair-at}
 use Rattle.token.proofs.lexer.Laws.{next-crlf, next-cr}
 use Rattle.token.proofs.lexer.return_at.Goals as goal
@@ -16,5 +16,5 @@ returns-then-two_at c =
 pub returns : goal.returns
 unfolding begins
 returns c =
-    let e = two_bytes 0x0D 0x0A (omega arith) (omega arith) (omega arith) (omega arith) c.args.s.now c.args.c.at ∙ sym c.if-two_at.ensures in
+    let e = two-bytes 0x0D 0x0A (omega arith) (omega arith) (omega arith) (omega arith) c.args.s.now c.args.c.at ∙ sym c.if-two_at.ensures in
     next-cr c.args.s.now c.args.c.at c.args.g c.requires.0 c.requires.1 e

@@ -1,6 +1,6 @@
 -- A digit's value is its byte's low half.
-use Rattle.token.proofs.literal.Laws.{low_value}
+use Rattle.token.proofs.literal.Laws.{low-value}
 use Rattle.token.proofs.literal.digit_value.Goals as goal
 
 pub returns : goal.returns
-returns c = rw c.wide.ensures (low_value _ c.requires.1)
+returns c = rw c.wide.ensures (low-value _ c.requires.1)

@@ -1,6 +1,6 @@
 -- The bytes from here on end where those from the start on end.
 use Rattle.std.proofs.Common.{refl, rules}
-use Rattle.token.specs.code.ByteClass.{in_word}
+use Rattle.token.specs.code.ByteClass.{inWord}
 use Rattle.token.proofs.names.Bytes.{pass-first, pass-more, pass-stop, pass-end, class-off}
 use Rattle.token.proofs.names.word_run.Goals as goal
 
@@ -16,4 +16,4 @@ loop-i-preserved c = pass-more _ _ _ _ c.loop-i-test.true (search rules) c.loop-
 pub returns : goal.returns
 returns c =
     let h = c.loop-i-test.false in
-    pass-end _ _ _ _ h (class-off c.args.s.now c.loop-i.i in_word refl h) c.loop-i.invariant
+    pass-end _ _ _ _ h (class-off c.args.s.now c.loop-i.i inWord refl h) c.loop-i.invariant

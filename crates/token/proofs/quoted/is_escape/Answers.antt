@@ -1,6 +1,6 @@
 -- The masks are computed at every code of ASCII.
 use Rattle.std.proofs.Common.{refl, ◌∙◌}
-use Rattle.chars.specs.paper.Quoted.{codes, one_of}
+use Rattle.chars.specs.paper.Quoted.{codes, oneOf}
 use Rattle.chars.specs.code.Classes.{bitIn}
 use Rattle.chars.proofs.Carry.{mask-set}
 use Rattle.token.proofs.cursor.Bytes.{ascii-list}
@@ -8,4 +8,4 @@ use Rattle.token.proofs.quoted.is_escape.Goals as goal
 
 pub returns : goal.returns
 unfolding bitIn
-returns c = c.has_bit.ensures.value ∙ mask-set _ _ (one_of "btnfr'\"]") refl (ascii-list (codes "btnfr'\"]") refl).wide c.args.b
+returns c = c.has_bit.ensures.value ∙ mask-set _ _ (oneOf "btnfr'\"]") refl (ascii-list (codes "btnfr'\"]") refl).wide c.args.b

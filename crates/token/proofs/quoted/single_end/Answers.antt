@@ -1,6 +1,6 @@
 -- What the walk finds from here on is what it finds from the start on.
 use Rattle.std.proofs.Common.{ap, ◌∙◌, arith}
-use Rattle.token.specs.paper.Shapes.{single_char}
+use Rattle.token.specs.paper.Shapes.{singleChar}
 use Rattle.token.specs.code.String.{closeSingle}
 use Rattle.token.specs.code.Quoted.{closedTo}
 use Rattle.token.proofs.string.Laws.{singles, single-closes, single-open}
@@ -12,13 +12,13 @@ loop-i-init c =
     let p = c.args.prefixed in
     let e = c.skip_except_four-i.ensures in
     let h = e.1 c.requires.1 in
-    (e.0, h, ordinary-past (closeSingle p) (single_char p) (singles p) c.args.s.now _ _ e.0 h e.2)
+    (e.0, h, ordinary-past (closeSingle p) (singleChar p) (singles p) c.args.s.now _ _ e.0 h e.2)
 
 pub loop-i-preserved-then-is_ordinary : goal.loop-i-preserved-then-is_ordinary
 loop-i-preserved-then-is_ordinary c =
     let p = c.args.prefixed in
     let o = told-ordinary _ c.class_of.ensures c.if-is_ordinary.ensures in
-    (omega arith, omega arith, ordinary-on (closeSingle p) (single_char p) (singles p) c.args.s.now _ c.loop-i-test.true o ∙ c.loop-i.invariant.2)
+    (omega arith, omega arith, ordinary-on (closeSingle p) (singleChar p) (singles p) c.args.s.now _ c.loop-i-test.true o ∙ c.loop-i.invariant.2)
 
 pub returns-then-b-eq34 : goal.returns-then-b-eq34
 returns-then-b-eq34 c =

@@ -1,12 +1,12 @@
 use Rattle.std.proofs.Common.{rules, arith}
 use Rattle.chars.proofs.theorems.Promises.{text-laws}
 use Rattle.token.specs.paper.Tests.{isDigit}
-use Rattle.token.proofs.string.Escapes.{escape_end, escape_by, escape_none}
+use Rattle.token.proofs.string.Escapes.{escape-end, escape_by, escape_none}
 use Rattle.token.proofs.string.consume_escape.Goals as goal
 open text-laws use {place-from}
 
 pub returns-then-s-at : goal.returns-then-s-at
-returns-then-s-at c = escape_end c.args.s.now _ c.requires c.if-s-at.true
+returns-then-s-at c = escape-end c.args.s.now _ c.requires c.if-s-at.true
 
 pub returns-in-48-to-57 : goal.returns-in-48-to-57
 unfolding isDigit

@@ -1,7 +1,7 @@
 -- Sixteen bytes are left where a turn is made, and the turns from here on end where those from the start on do.
 use Rattle.std.proofs.Common.{◌-◌, sym, refl, arith}
 use Rattle.token.specs.code.String.{spanAt, eightsTaken}
-use Rattle.token.proofs.Loops.{going_on, going-stop}
+use Rattle.token.proofs.Loops.{going-on, going-stop}
 use Rattle.token.proofs.string.Strips.{eights_apart}
 use Rattle.token.proofs.string.strip_eights.Goals as goal
 
@@ -17,7 +17,7 @@ loop-a-preserved c =
     let e = sym c.loop-a-test.ensures in
     let h = eights_apart _ _ _ e in
     let k = l.invariant.1 in
-    (omega arith, omega arith, going_on _ _ _ (spanAt l.a l.b) _ _ e (omega arith) l.invariant.2)
+    (omega arith, omega arith, going-on _ _ _ (spanAt l.a l.b) _ _ e (omega arith) l.invariant.2)
 
 pub returns : goal.returns
 returns c = let l = c.loop-a in going-stop _ _ _ (spanAt l.a l.b) _ (sym c.loop-a-test.ensures) l.invariant.2

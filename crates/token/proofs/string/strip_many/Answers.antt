@@ -1,5 +1,5 @@
 -- The content of what is left is the content of all.
-use Rattle.token.proofs.string.Strips.{left-all, left-taken, left-stop, left_end}
+use Rattle.token.proofs.string.Strips.{left-all, left-taken, left-stop, left-end}
 use Rattle.token.proofs.string.strip_many.Goals as goal
 
 pub loop-a-init : goal.loop-a-init
@@ -12,4 +12,4 @@ pub returns-then-s-a-ne34 : goal.returns-then-s-a-ne34
 returns-then-s-a-ne34 c = left-stop _ _ _ _ _ c.loop-a.invariant c.loop-a-test.true c.if-s-a-ne34.true
 
 pub returns : goal.returns
-returns c = left_end _ _ _ _ _ c.loop-a.invariant c.loop-a-test.false
+returns c = left-end _ _ _ _ _ c.loop-a.invariant c.loop-a-test.false

@@ -1,6 +1,6 @@
 -- One blank, or all that stand there.
 use Rattle.std.proofs.Common.{sym, ◌∙◌, arith}
-use Rattle.token.proofs.walk.Pieces.{step-one-blank, two_here, step-more-blanks}
+use Rattle.token.proofs.walk.Pieces.{step-one-blank, two-here, step-more-blanks}
 use Rattle.token.proofs.walk.blank_step.Goals as goal
 
 pub returns-then-e-ne-BLANK : goal.returns-then-e-ne-BLANK
@@ -9,7 +9,7 @@ returns-then-e-ne-BLANK c =
     (λ out. step-one-blank c.requires.0.2 c.requires.1 (λ e. c.if-e-ne-BLANK.true (c.class_at-e.ensures ∙ e)) out, omega arith)
 
 pub skip_more-c-requires : goal.skip_more-c-requires
-skip_more-c-requires c = two_here c.requires.0.2 c.requires.1 (sym c.class_at-e.ensures ∙ c.if-e-ne-BLANK.false)
+skip_more-c-requires c = two-here c.requires.0.2 c.requires.1 (sym c.class_at-e.ensures ∙ c.if-e-ne-BLANK.false)
 
 pub returns : goal.returns
 returns c =

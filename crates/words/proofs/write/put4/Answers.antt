@@ -1,5 +1,5 @@
-use Rattle.words.proofs.Stores.{put_four}
+use Rattle.words.proofs.Stores.{put-four}
 use Rattle.words.proofs.write.put4.Goals as goal
 
 pub returns : goal.returns
-returns c = put_four c.args.out.now c.args.w c.args.x
+returns c = put-four c.args.out.now c.args.w c.args.x

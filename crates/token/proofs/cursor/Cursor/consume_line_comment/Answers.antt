@@ -2,7 +2,7 @@
 use Rattle.std.proofs.Common.{arith, not, sym, ap, ◌∙◌}
 use Rattle.chars.specs.computed.Runs.{afterRun}
 use Rattle.token.specs.paper.Tests.{endOfLine}
-use Rattle.token.proofs.gap.Laws.{line-opens, pair-past, line-stop, line_on, line-end, line-past}
+use Rattle.token.proofs.gap.Laws.{line-opens, pair-past, line-stop, line-on, line-end, line-past}
 use Rattle.token.proofs.cursor.Cursor.consume_line_comment.Goals as goal
 
 pub loop-i-init : goal.loop-i-init
@@ -16,7 +16,7 @@ pub returns-then-line_ends_at : goal.returns-then-line_ends_at
 returns-then-line_ends_at c = (c.loop-i.invariant.0, line-stop c.args.s.now c.loop-i.i _ c.loop-i-test.true (sym c.if-line_ends_at.ensures) c.loop-i.invariant.1)
 
 pub loop-i-preserved : goal.loop-i-preserved
-loop-i-preserved c = (omega arith, line_on c.args.s.now c.loop-i.i _ c.loop-i-test.true (sym c.if-line_ends_at.ensures) c.loop-i.invariant.1)
+loop-i-preserved c = (omega arith, line-on c.args.s.now c.loop-i.i _ c.loop-i-test.true (sym c.if-line_ends_at.ensures) c.loop-i.invariant.1)
 
 pub returns : goal.returns
 returns c = (c.loop-i.invariant.0, line-end c.args.s.now c.loop-i.i _ c.loop-i-test.false c.loop-i.invariant.1)
