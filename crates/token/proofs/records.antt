@@ -1,4 +1,3 @@
 pub mod Measures
 pub mod Reach
-pub mod Stands
 pub mod Turns

@@ -14,8 +14,7 @@ use Rattle.token.specs.computed.Answer.{Answer, tokenized, refused, prepend, ans
 use Rattle.token.specs.paper.Records.{values, headLength, lineLength, recordLength, records, recordBytes}
 use Rattle.token.specs.code.Form.{mostLength}
 use Rattle.words.specs.Words.{le4, le8}
-use Rattle.token.specs.declared.gap.Gap.{Gap}
-use Rattle.token.specs.code.Records.{stores, measuredOf, tokensIn, Fits, answerOf, State, begun, trailFrom, storedFrom, measuredFrom, Standing}
+use Rattle.token.specs.code.Records.{stores, measuredOf, tokensIn, Fits, answer_of, begun, trailFrom, storedFrom}
 use Rattle.token.specs.declared.kinds.TokenKind.{TokenKind}
 use Rattle.token.specs.declared.kinds.TokenKind.TheVariants as tk
 use Rattle.token.specs.declared.records.Measured.TheVariants as measured
@@ -71,29 +70,17 @@ pub measured-stop : (v : Answer) (j a c b : ℕ) → v ≡ refused j a → measu
 unfolding measuredOf
 measured-stop v j a c b e = sym (ap (measuredOf c b) e)
 
-pub total-is : {m n b : ℕ} → m ≡ n → measured.Total m b ≡ measured.Total n b
-total-is {m} {n} {b} e = ap (λ k. measured.Total k b) e
-
 -- ---- the whole script
 
-pub begun-answer : (s : List ℕ) → answerOf (trailFrom s begun) ≡ answer s
+pub begun-answer : (s : List ℕ) → answer_of (trailFrom s begun) ≡ answer s
 unfolding answer
 begun-answer s = trail-answer (length s) 0 fresh (from s 0)
-
-pub begun-from : (i : ℕ) (g : Gap) → i ≡ 0 → g ≡ fresh → record { at = i; gap = g; count = 0; bytes = 0 } ≡ begun
-begun-from i g e f = rw (e, f)
-
-pub begun-stands : (s : List ℕ) (x : State) → x ≡ begun → Standing s x
-begun-stands s x e = rw e (record { within = omega arith; count = omega arith; size = omega arith })
-
-pub begun-measured : (s : List ℕ) (x : State) → x ≡ begun → measuredFrom s x ≡ measuredOf 0 0 (answer s)
-begun-measured s x e = ap (measuredFrom s) e ∙ ap (measuredOf 0 0) (begun-answer s)
 
 -- where all records fit, the buffer is brought to them
 pub begun-fits : (s out : List ℕ) → Fits (answer s) (length out) → storedFrom s begun out ≡ sets out 0 (records (tokensIn (answer s)))
 begun-fits s out f = go (answer s) (begun-answer s) f
   where
-    go : (v : Answer) → answerOf (trailFrom s begun) ≡ v → Fits v (length out) → storedFrom s begun out ≡ sets out 0 (records (tokensIn v))
+    go : (v : Answer) → answer_of (trailFrom s begun) ≡ v → Fits v (length out) → storedFrom s begun out ≡ sets out 0 (records (tokensIn v))
     go (tokenized ts) e f =
         let q = tokens-on (trailFrom s begun) ts e in
         let l = f.fits in

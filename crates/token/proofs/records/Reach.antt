@@ -1,19 +1,18 @@
 -- A walk that counts tokens and stores the records that fit: turns joined to one another.
 use Prim.Native.Nat.{ℕ, ◌+◌, ◌≤◌}
 use mathlib.Core.Path.{◌≡◌, refl, ◌∙◌, ap}
-use mathlib.Core.List.{List, []}
+use mathlib.Core.List.{List}
 use lib.ListN.{length}
 use native.Mathlib.Omega.{arith}
 use Rattle.chars.specs.paper.Text.{from}
 use Rattle.token.specs.paper.Kinds.{Token}
 use Rattle.token.specs.paper.Records.{recordLength, recordOf}
-use Rattle.token.specs.code.Records.{storedIf, measuredOf, Trail, trail, answerOf, tokensOn, stores, State, trailFrom, measuredFrom, storedFrom, Standing, Reaches}
+use Rattle.token.specs.code.Records.{storedIf, measuredOf, trail, answer_of, tokensOn, stores, State, trailFrom, Standing, Reaches}
 use Rattle.token.specs.declared.gap.Gap.{Gap}
-use Rattle.token.specs.declared.records.Measured.TheVariants as measured
 use Rattle.token.proofs.form.Stores.{stored-length}
-use Rattle.token.proofs.lexer.Trails.{stores-turn, stores-end, stores-stop}
+use Rattle.token.proofs.lexer.Trails.{stores-turn}
 use Rattle.token.proofs.lexer.Turns.{Turn}
-use Rattle.token.proofs.records.Measures.{record-most, measured-turn, measured-end, measured-stop}
+use Rattle.token.proofs.records.Measures.{record-most, measured-turn}
 
 -- ---- turns joined
 
@@ -39,7 +38,7 @@ module _ {s : List ℕ} {x : State} {out : List ℕ} where
           on = omega arith;
           stands = record { within = w; count = omega arith; size = omega arith };
           same = r.same;
-          counted = ap (λ v. measuredOf y.count y.bytes (answerOf v)) e ∙ r.counted;
+          counted = ap (λ v. measuredOf y.count y.bytes (answer_of v)) e ∙ r.counted;
           stored = ap (λ v. stores mid y.bytes (tokensOn v)) e ∙ r.stored;
         }
 
@@ -57,22 +56,6 @@ module _ {s : List ℕ} {x : State} {out : List ℕ} where
           on = omega arith;
           stands = record { within = u.within; count = omega arith; size = omega arith };
           same = ap length q ∙ stored-length mid y.bytes (recordOf t) ∙ r.same;
-          counted = measured-turn _ _ t y.count y.bytes l (ap answerOf u.walked) p ∙ r.counted;
+          counted = measured-turn _ _ t y.count y.bytes l (ap answer_of u.walked) p ∙ r.counted;
           stored = stores-turn _ _ t mid next y.bytes l u.walked q p ∙ r.stored;
         })
-
-    -- the end of script
-    module _ (t : Token) (e : trailFrom s y ≡ Trail.ends t) where
-      pub reach-end : (l : ℕ) → l ≡ recordLength t.kind → measured.Total (y.count + 1) (y.bytes + l) ≡ measuredFrom s x
-      reach-end l p = measured-end _ t y.count y.bytes l (ap answerOf e) p ∙ r.counted
-
-      pub reach-stored : (next : List ℕ) → next ≡ storedIf mid y.bytes (recordOf t) → next ≡ storedFrom s x out
-      reach-stored next q = stores-end _ t mid next y.bytes e q ∙ r.stored
-
-    -- a refusal
-    module _ (j a : ℕ) (e : trailFrom s y ≡ Trail.stops j a) where
-      pub reach-stop : measured.Refused j a ≡ measuredFrom s x
-      reach-stop = measured-stop _ j a y.count y.bytes (ap answerOf e) ∙ r.counted
-
-      pub reach-kept : mid ≡ storedFrom s x out
-      reach-kept = stores-stop _ j a mid y.bytes e ∙ r.stored

@@ -1,5 +1,5 @@
 -- A turn of the walk over the script: from where the walk by bytes stopped, what comes next.
-use Prim.Native.Nat.{ℕ, ◌+◌, ◌-◌, ◌*◌, ◌/◌, ◌≤◌, ◌<◌}
+use Prim.Native.Nat.{ℕ, ◌+◌, ◌-◌, ◌/◌, ◌≤◌, ◌<◌}
 use mathlib.Core.Path.{◌≡◌, refl, sym, ◌∙◌, ap}
 use mathlib.Core.Bool.{Bool, false}
 use mathlib.Core.List.{List}
@@ -8,12 +8,11 @@ use native.Mathlib.Omega.{arith}
 use Rattle.chars.specs.paper.Text.{from}
 use Rattle.token.specs.paper.Kinds.{kindNumber, Token}
 use Rattle.token.specs.paper.Records.{headLength, lineLength, recordLength, recordOf}
-use Rattle.token.specs.computed.Answer.{answer}
 use Rattle.token.specs.computed.Flags.{fresh}
-use Rattle.token.specs.code.Form.{mostLength, formOf, plainForm, Known, byForm}
-use Rattle.token.specs.code.Lexer.{seek, nextOf}
-use Rattle.token.specs.code.Records.{storedIf, eofAt, total, measuredOf, begun, storedFrom, Reaches}
-use Rattle.token.specs.code.Stand.{counted, stateOf, Whole}
+use Rattle.token.specs.code.Form.{form_of, plainForm, Known, byForm}
+use Rattle.token.specs.code.Lexer.{seek, next_of}
+use Rattle.token.specs.code.Records.{storedIf, eofAt, total, measuredOf, Trail, answer_of, tokensOn, stores, trailFrom, begun, Reaches}
+use Rattle.token.specs.code.Stand.{counted, state_of, Whole}
 use Rattle.token.specs.declared.cursor.Cursor.{Cursor}
 use Rattle.token.specs.declared.gap.Gap.{Gap}
 use Rattle.token.specs.declared.kinds.Form.{Form}
@@ -23,11 +22,11 @@ use Rattle.token.specs.declared.lexer.Next.{Next}
 use Rattle.token.specs.declared.lexer.Next.TheVariants as next
 use Rattle.token.specs.declared.records.Measured.TheVariants as measured
 use Rattle.token.specs.declared.records.Stand.{Stand}
-use Rattle.token.proofs.form.Laws.{form-known, form-length, form-record, record-by, length-by, eof-form}
-use Rattle.token.proofs.lexer.Turns.{Turn, turn-token, turn-line, turn-end, turn-stop}
-use Rattle.token.proofs.records.Measures.{record-most, newline-length, eof-length, total-is, begun-answer}
-use Rattle.token.proofs.records.Reach.{reach-trans, reach-turn, reach-end, reach-stored, reach-stop, reach-kept}
-use Rattle.token.proofs.records.Stands.{one-counted, last-counted, recount}
+use Rattle.token.proofs.form.Laws.{form-known, form-length, record-by, length-by, eof-form}
+use Rattle.token.proofs.lexer.Trails.{stores-end, stores-stop}
+use Rattle.token.proofs.lexer.Turns.{Turn, turn-token, turn-line, turn_end, turn-stop}
+use Rattle.token.proofs.records.Measures.{measured-end, measured-stop, record-most, newline-length, eof-length, begun-answer}
+use Rattle.token.proofs.records.Reach.{reach-trans, reach-turn}
 
 -- ---- a record's length and bytes
 
@@ -38,71 +37,72 @@ record-least k = omega arith
 pub head-known : Known headLength
 head-known = Known.bare
 
-pub bytes-is : (k : TokenKind) (start end : ℕ) (cut : Bool) → byForm (formOf k) start end cut ≡ recordOf (record { kind = k; start = start; end = end; cut = cut })
-bytes-is k start end cut = form-record (record { kind = k; start = start; end = end; cut = cut })
-
 pub eof-is : (start end : ℕ) (cut : Bool) → byForm (plainForm (kindNumber tk.Eof)) start end cut ≡ recordOf (record { kind = tk.Eof; start = start; end = end; cut = cut })
 eof-is start end cut = record-by _ (record { kind = tk.Eof; start = start; end = end; cut = cut }) eof-form
 
 pub ruleset sizes = (form-known, form-length, record-least, record-most, head-known, eof-is)
 
+-- ---- what comes next at a place
+
+abbrev step : List ℕ → Stand → Next
+step s w = next_of (length s) (seek (length s) 0 w.gap (from s w.at))
+
+module _ (s : List ℕ) (w : Stand) where
+  abbrev ahead : Trail
+  ahead = trailFrom s (state_of w)
+
+  -- a token is not empty, and within the script; so is a line end
+  pub token-later : (k : TokenKind) (a : ℕ) (e : Cursor) (cut : Bool) → next.Token k a e cut ≡ step s w → (w.at < e.at) × (e.at ≤ length s)
+  token-later k a e cut q = let u = turn-token s w.at w.gap k a e cut q in (u.on, u.within)
+
+  pub line-later : (a : ℕ) (e : Cursor) (mark : Bool) (h : Gap) → next.LineEnd a e mark h ≡ step s w → (w.at < e.at) × (e.at ≤ length s)
+  line-later a e mark h q = let u = turn-line s w.at w.gap a e mark h q in (u.on, u.within)
+
+  -- at the end of script one record more is counted and stored; the bytes are heads and values
+  module _ (cut : Bool) (q : next.End cut ≡ step s w) where
+    pub end-counted : Whole w → measuredOf (counted w) w.bytes (answer_of ahead) ≡ total ((w.bytes + headLength - w.values) / headLength) (w.bytes + headLength)
+    end-counted h =
+        let n : (w.bytes + headLength - w.values) / headLength ≡ counted w + 1 = omega (arith, h) in
+        rw n (sym (measured-end _ _ _ w.bytes headLength (ap answer_of (turn_end s w.at w.gap cut q)) (sym eof-length)))
+
+    pub end-stored : (out : List ℕ) → stores out w.bytes (tokensOn ahead) ≡ storedIf out w.bytes (recordOf (eofAt (length s) cut))
+    end-stored out = sym (stores-end _ _ out _ w.bytes (turn_end s w.at w.gap cut q) refl)
+
+  -- a refusal is the answer, and the buffer stays
+  module _ (j a : ℕ) (q : next.Refused j a ≡ step s w) where
+    pub stop-counted : (c b : ℕ) → measuredOf c b (answer_of ahead) ≡ measured.Refused j a
+    stop-counted c b = sym (measured-stop _ j a c b (ap answer_of (turn-stop s w.at w.gap j a q)))
+
+    pub stop-stored : (out : List ℕ) (b : ℕ) → stores out b (tokensOn ahead) ≡ out
+    stop-stored out b = sym (stores-stop _ j a out b (turn-stop s w.at w.gap j a q))
+
+pub ruleset turns = (sizes, begun-answer, token-later, line-later, end-counted, end-stored, stop-counted, stop-stored)
+
 -- ---- what the walk keeps
 
 -- from the script's start it came to a place, and the record bytes there are heads and values
 abbrev pub Kept : List ℕ → List ℕ → Stand → List ℕ → Type 0
-Kept s out w mid = Reaches s begun out (stateOf w) mid × Whole w
+Kept s out w mid = Reaches s begun out (state_of w) mid × Whole w
 
--- what comes next at a place
-abbrev step : List ℕ → Stand → Next
-step s w = nextOf (length s) (seek (length s) 0 w.gap (from s w.at))
-
--- a token is not empty, and within the script; so is a line end
-module _ (s : List ℕ) (w : Stand) where
-  pub token-later : {k : TokenKind} {a : ℕ} {e : Cursor} {cut : Bool} → next.Token k a e cut ≡ step s w → (w.at < e.at) × (e.at ≤ length s)
-  token-later q = let u = turn-token s w.at w.gap _ _ _ _ q in (u.on, u.within)
-
-  pub line-later : {a : ℕ} {e : Cursor} {mark : Bool} {h : Gap} → next.LineEnd a e mark h ≡ step s w → (w.at < e.at) × (e.at ≤ length s)
-  line-later q = let u = turn-line s w.at w.gap _ _ _ _ q in (u.on, u.within)
-
-module _ {s out mid : List ℕ} (w : Stand) (k : Kept s out w mid) where
-  pub kept-on : (x : Stand) {next : List ℕ} → Reaches s (stateOf w) mid (stateOf x) next × Whole x → Kept s out x next
-  kept-on x r = (reach-trans k.0 r.0, r.1)
-
+-- from there the walk by bytes came to w
+module _ {s out near mid : List ℕ} (v w : Stand) (k : Kept s out v near) (r : Reaches s (state_of v) near (state_of w) mid × Whole w) where
   -- a record more: a head, and the rest are values
   record-more : {t : Token} {e : ℕ} {h : Gap} → Turn s w.at w.gap t e h → (g : Gap) → g ≡ h → (l : ℕ) → l ≡ recordLength t.kind
       → {after : List ℕ} → after ≡ storedIf mid w.bytes (recordOf t)
       → Kept s out (record { at = e; gap = g; bytes = w.bytes + l; values = w.values + (l - headLength) }) after
   record-more {t} u g f l p q =
       let m = record-least t.kind in
-      let n = one-counted w.bytes w.values l k.1 (omega (arith, p)) in
-      (recount (reach-turn k.0 u g f l p _ q) _ n, omega (arith, n, k.1, p))
+      let n : (w.bytes + l - (w.values + (l - headLength))) / headLength ≡ counted w + 1 = omega (arith, r.1, p) in
+      (rw n (reach-turn (reach-trans k.0 r.0) u g f l p _ q), omega (arith, n, r.1, p))
 
-  pub after-token : {kind : TokenKind} {a : ℕ} {e : Cursor} {cut : Bool} → next.Token kind a e cut ≡ step s w → (g : Gap) → g ≡ fresh → (f : Form) → f ≡ formOf kind
+  pub after-token : {kind : TokenKind} {a : ℕ} {e : Cursor} {cut : Bool} → next.Token kind a e cut ≡ step s w → (g : Gap) → g ≡ fresh → (f : Form) → f ≡ form_of kind
       → {after : List ℕ} → after ≡ storedIf mid w.bytes (byForm f a e.at cut)
       → Kept s out (record { at = e.at; gap = g; bytes = w.bytes + f.length; values = w.values + (f.length - headLength) }) after
   after-token q g i f j o =
       record-more (turn-token s w.at w.gap _ _ _ _ q) g i f.length (length-by f _ j) (o ∙ ap (storedIf mid w.bytes) (record-by f _ j))
 
-  pub after-line : {a : ℕ} {e : Cursor} {mark : Bool} {h : Gap} → next.LineEnd a e mark h ≡ step s w → (f : Form) → f ≡ formOf (tk.Newline mark)
+  pub after-line : {a : ℕ} {e : Cursor} {mark : Bool} {h : Gap} → next.LineEnd a e mark h ≡ step s w → (f : Form) → f ≡ form_of (tk.Newline mark)
       → {after : List ℕ} → after ≡ storedIf mid w.bytes (byForm f a e.at false)
       → Kept s out (record { at = e.at; gap = h; bytes = w.bytes + lineLength; values = w.values + 1 }) after
   after-line {mark = mark} {h = h} q f j o =
       record-more (turn-line s w.at w.gap _ _ _ _ q) h refl lineLength (sym (newline-length mark)) (o ∙ ap (storedIf mid w.bytes) (record-by f _ j))
-
-  module _ {cut : Bool} (q : next.End cut ≡ step s w) where
-    pub end-total : total ((w.bytes + headLength - w.values) / headLength) (w.bytes + headLength) ≡ measuredOf 0 0 (answer s)
-    end-total =
-        total-is (last-counted w.bytes w.values k.1) ∙ reach-end k.0 _ (turn-end s w.at w.gap cut q) headLength (sym eof-length)
-        ∙ ap (measuredOf 0 0) (begun-answer s)
-
-    pub end-stored : {after : List ℕ} → after ≡ storedIf mid w.bytes (recordOf (eofAt (length s) cut)) → after ≡ storedFrom s begun out
-    end-stored o = reach-stored k.0 _ (turn-end s w.at w.gap cut q) _ o
-
-  module _ {j a : ℕ} (q : next.Refused j a ≡ step s w) where
-    pub stop-number : measured.Refused j a ≡ measuredOf 0 0 (answer s)
-    stop-number = reach-stop k.0 j a (turn-stop s w.at w.gap j a q) ∙ ap (measuredOf 0 0) (begun-answer s)
-
-    pub stop-stored : mid ≡ storedFrom s begun out
-    stop-stored = reach-kept k.0 j a (turn-stop s w.at w.gap j a q)
-
-pub ruleset turns = (sizes, token-later, line-later)
