@@ -7,13 +7,13 @@ use lib.ListN.{length, take, set, length-append}
 use lib.Seq.{sets, length-take-le}
 use native.Mathlib.Omega.{arith}
 use Rattle.token.specs.paper.Kinds.{kindNumber, Token}
-use Rattle.token.specs.paper.Records.{bit, values_of, values, headLength, intLength, longLength, lineLength, recordLength, fields_of, head_of, recordOf}
-use Rattle.token.specs.code.Form.{mostLength, joined, form_of, plainForm, Known, headNumber, headBytes, byForm}
+use Rattle.token.specs.paper.Records.{bit, valuesOf, values, headLength, intLength, longLength, lineLength, recordLength, fieldsOf, headOf, recordOf}
+use Rattle.token.specs.code.Form.{mostLength, joined, formOf, plainForm, Known, headNumber, headBytes, byForm}
 use Rattle.words.specs.Words.{le4, le8}
 use Rattle.token.specs.declared.kinds.Form.{Form}
 use Rattle.token.specs.declared.kinds.TokenKind.{TokenKind}
 use Rattle.token.specs.declared.kinds.TokenKind.TheVariants as tk
-use Rattle.token.proofs.form.Stores.{length_fields, head-fields}
+use Rattle.token.proofs.form.Stores.{length-fields, head-fields}
 use Rattle.words.proofs.Stores.{after}
 
 -- ---- lengths
@@ -43,14 +43,14 @@ length-form f start end cut h =
     let b = known-most h in
     let n = length-eight f.values in
     let v = length-take-le (f.length - headLength) (le8 f.values) (omega arith) in
-    length-append (fields_of f.length f.number start end cut) (take (f.length - headLength) (le8 f.values))
-    ∙ omega (arith, length_fields f.length f.number start end cut, v)
+    length-append (fieldsOf f.length f.number start end cut) (take (f.length - headLength) (le8 f.values))
+    ∙ omega (arith, length-fields f.length f.number start end cut, v)
 
 -- ---- values
 
 -- a whole multiple of 4294967296 is in none of the lower four bytes
-low_byte : (q r : ℕ) → (r + q * 4294967296) % 256 ≡ r % 256
-low_byte q r = omega arith
+low-byte : (q r : ℕ) → (r + q * 4294967296) % 256 ≡ r % 256
+low-byte q r = omega arith
 
 second-byte : (q r : ℕ) → (r + q * 4294967296) / 256 % 256 ≡ r / 256 % 256
 second-byte q r = let e : (r + q * 4294967296) / 256 ≡ r / 256 + q * 16777216 = omega arith in rw e (omega arith)
@@ -63,7 +63,7 @@ fourth-byte q r = let e : (r + q * 4294967296) / 16777216 ≡ r / 16777216 + q *
 
 lower-four : (q r : ℕ) → le4 (r + q * 4294967296) ≡ le4 r
 unfolding le4
-lower-four q r = rw (low_byte q r, second-byte q r, third-byte q r, fourth-byte q r)
+lower-four q r = rw (low-byte q r, second-byte q r, third-byte q r, fourth-byte q r)
 
 pub low-four : (v : ℕ) → le4 (v % 4294967296) ≡ le4 v
 low-four v =
@@ -98,7 +98,7 @@ mark-value true = refl
 mark-value false = refl
 
 -- the bytes of the values are those that the form has
-pub form-values : (k : TokenKind) → take (recordLength k - headLength) (le8 (joined (values_of k))) ≡ values k
+pub form-values : (k : TokenKind) → take (recordLength k - headLength) (le8 (joined (valuesOf k))) ≡ values k
 unfolding recordLength values le4 le8
 form-values tk.Ident = refl
 form-values tk.OpId = refl
@@ -122,8 +122,8 @@ form-values (tk.Kw k) = refl
 
 -- ---- forms and records
 
-pub form-known : (k : TokenKind) → Known (form_of k).length
-unfolding form_of recordLength values le4 le8
+pub form-known : (k : TokenKind) → Known (formOf k).length
+unfolding formOf recordLength values le4 le8
 form-known tk.Ident = Known.bare
 form-known tk.OpId = Known.bare
 form-known tk.BacktickId = Known.bare
@@ -144,24 +144,24 @@ form-known (tk.Newline mark) = Known.line
 form-known tk.Eof = Known.bare
 form-known (tk.Kw k) = Known.bare
 
-pub form-length : (k : TokenKind) → (form_of k).length ≡ recordLength k
-unfolding form_of
+pub form-length : (k : TokenKind) → (formOf k).length ≡ recordLength k
+unfolding formOf
 form-length k = refl
 
 -- a record stored by its form is the token's
-pub form-record : (t : Token) → byForm (form_of t.kind) t.start t.end t.cut ≡ recordOf t
-unfolding byForm form_of recordOf head_of
-form-record t = ap (λ v. fields_of (recordLength t.kind) (kindNumber t.kind) t.start t.end t.cut ++ v) (form-values t.kind)
+pub form-record : (t : Token) → byForm (formOf t.kind) t.start t.end t.cut ≡ recordOf t
+unfolding byForm formOf recordOf headOf
+form-record t = ap (λ v. fieldsOf (recordLength t.kind) (kindNumber t.kind) t.start t.end t.cut ++ v) (form-values t.kind)
 
 -- the same for a form that is known to be the kind's
-pub record-by : (f : Form) (t : Token) → f ≡ form_of t.kind → byForm f t.start t.end t.cut ≡ recordOf t
+pub record-by : (f : Form) (t : Token) → f ≡ formOf t.kind → byForm f t.start t.end t.cut ≡ recordOf t
 record-by f t e = ap (λ g. byForm g t.start t.end t.cut) e ∙ form-record t
 
-pub length-by : (f : Form) (k : TokenKind) → f ≡ form_of k → f.length ≡ recordLength k
+pub length-by : (f : Form) (k : TokenKind) → f ≡ formOf k → f.length ≡ recordLength k
 length-by f k e = rw e (form-length k)
 
-pub eof-form : plainForm (kindNumber tk.Eof) ≡ form_of tk.Eof
-unfolding form_of recordLength values
+pub eof-form : plainForm (kindNumber tk.Eof) ≡ formOf tk.Eof
+unfolding formOf recordLength values
 eof-form = refl
 
 -- ---- stores
@@ -178,14 +178,14 @@ module _ (l : List ℕ) (w n v : ℕ) where
   put_most e = rw e (ap (sets l w) (take-eight v))
 
 -- the head and the values are the record
-pub put_both : (l : List ℕ) (w h start end : ℕ) (cut : Bool) (f : Form) → Known f.length → h ≡ headNumber f.length f.number
+pub put-both : (l : List ℕ) (w h start end : ℕ) (cut : Bool) (f : Form) → Known f.length → h ≡ headNumber f.length f.number
     → sets (sets l w (headBytes h start end cut)) (w + headLength) (take (f.length - headLength) (le8 f.values)) ≡ sets l w (byForm f start end cut)
 unfolding byForm
-put_both l w h start end cut f k e =
+put-both l w h start end cut f k e =
     let a = known-most k in
-    let fields = fields_of f.length f.number start end cut in
+    let fields = fieldsOf f.length f.number start end cut in
     let head = head-fields h f.length f.number start end cut (omega arith) e in
     after fields (take (f.length - headLength) (le8 f.values)) l _ w (w + headLength) (ap (sets l w) head)
-    (ap (λ j. w + j) (sym (length_fields f.length f.number start end cut)))
+    (ap (λ j. w + j) (sym (length-fields f.length f.number start end cut)))
 
-pub ruleset record_stores = (known-least, put-one, put-some, put_most, put_both)
+pub ruleset record_stores = (known-least, put-one, put-some, put_most, put-both)

@@ -14,7 +14,7 @@ use Rattle.token.specs.computed.Answer.{Answer, tokenized, refused, prepend, ans
 use Rattle.token.specs.paper.Records.{values, headLength, lineLength, recordLength, records, recordBytes}
 use Rattle.token.specs.code.Form.{mostLength}
 use Rattle.words.specs.Words.{le4, le8}
-use Rattle.token.specs.code.Records.{stores, measuredOf, tokensIn, Fits, answer_of, begun, trailFrom, storedFrom}
+use Rattle.token.specs.code.Records.{stores, measuredOf, tokensIn, Fits, answerOf, begun, trailFrom, storedFrom}
 use Rattle.token.specs.declared.kinds.TokenKind.{TokenKind}
 use Rattle.token.specs.declared.kinds.TokenKind.TheVariants as tk
 use Rattle.token.specs.declared.records.Measured.TheVariants as measured
@@ -72,7 +72,7 @@ measured-stop v j a c b e = sym (ap (measuredOf c b) e)
 
 -- ---- the whole script
 
-pub begun-answer : (s : List ℕ) → answer_of (trailFrom s begun) ≡ answer s
+pub begun-answer : (s : List ℕ) → answerOf (trailFrom s begun) ≡ answer s
 unfolding answer
 begun-answer s = trail-answer (length s) 0 fresh (from s 0)
 
@@ -80,7 +80,7 @@ begun-answer s = trail-answer (length s) 0 fresh (from s 0)
 pub begun-fits : (s out : List ℕ) → Fits (answer s) (length out) → storedFrom s begun out ≡ sets out 0 (records (tokensIn (answer s)))
 begun-fits s out f = go (answer s) (begun-answer s) f
   where
-    go : (v : Answer) → answer_of (trailFrom s begun) ≡ v → Fits v (length out) → storedFrom s begun out ≡ sets out 0 (records (tokensIn v))
+    go : (v : Answer) → answerOf (trailFrom s begun) ≡ v → Fits v (length out) → storedFrom s begun out ≡ sets out 0 (records (tokensIn v))
     go (tokenized ts) e f =
         let q = tokens-on (trailFrom s begun) ts e in
         let l = f.fits in

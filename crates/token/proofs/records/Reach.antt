@@ -7,7 +7,7 @@ use native.Mathlib.Omega.{arith}
 use Rattle.chars.specs.paper.Text.{from}
 use Rattle.token.specs.paper.Kinds.{Token}
 use Rattle.token.specs.paper.Records.{recordLength, recordOf}
-use Rattle.token.specs.code.Records.{storedIf, measuredOf, trail, answer_of, tokensOn, stores, State, trailFrom, Standing, Reaches}
+use Rattle.token.specs.code.Records.{storedIf, measuredOf, trail, answerOf, tokensOn, stores, State, trailFrom, Standing, Reaches}
 use Rattle.token.specs.declared.gap.Gap.{Gap}
 use Rattle.token.proofs.form.Stores.{stored-length}
 use Rattle.token.proofs.lexer.Trails.{stores-turn}
@@ -38,7 +38,7 @@ module _ {s : List ℕ} {x : State} {out : List ℕ} where
           on = omega arith;
           stands = record { within = w; count = omega arith; size = omega arith };
           same = r.same;
-          counted = ap (λ v. measuredOf y.count y.bytes (answer_of v)) e ∙ r.counted;
+          counted = ap (λ v. measuredOf y.count y.bytes (answerOf v)) e ∙ r.counted;
           stored = ap (λ v. stores mid y.bytes (tokensOn v)) e ∙ r.stored;
         }
 
@@ -56,6 +56,6 @@ module _ {s : List ℕ} {x : State} {out : List ℕ} where
           on = omega arith;
           stands = record { within = u.within; count = omega arith; size = omega arith };
           same = ap length q ∙ stored-length mid y.bytes (recordOf t) ∙ r.same;
-          counted = measured-turn _ _ t y.count y.bytes l (ap answer_of u.walked) p ∙ r.counted;
+          counted = measured-turn _ _ t y.count y.bytes l (ap answerOf u.walked) p ∙ r.counted;
           stored = stores-turn _ _ t mid next y.bytes l u.walked q p ∙ r.stored;
         })

@@ -9,10 +9,10 @@ use Rattle.chars.specs.paper.Text.{from}
 use Rattle.token.specs.paper.Kinds.{kindNumber, Token}
 use Rattle.token.specs.paper.Records.{headLength, lineLength, recordLength, recordOf}
 use Rattle.token.specs.computed.Flags.{fresh}
-use Rattle.token.specs.code.Form.{form_of, plainForm, Known, byForm}
-use Rattle.token.specs.code.Lexer.{seek, next_of}
-use Rattle.token.specs.code.Records.{storedIf, eofAt, total, measuredOf, Trail, answer_of, tokensOn, stores, trailFrom, begun, Reaches}
-use Rattle.token.specs.code.Stand.{counted, state_of, Whole}
+use Rattle.token.specs.code.Form.{formOf, plainForm, Known, byForm}
+use Rattle.token.specs.code.Lexer.{seek, nextOf}
+use Rattle.token.specs.code.Records.{storedIf, eofAt, total, measuredOf, Trail, answerOf, tokensOn, stores, trailFrom, begun, Reaches}
+use Rattle.token.specs.code.Stand.{counted, stateOf, Whole}
 use Rattle.token.specs.declared.cursor.Cursor.{Cursor}
 use Rattle.token.specs.declared.gap.Gap.{Gap}
 use Rattle.token.specs.declared.kinds.Form.{Form}
@@ -24,7 +24,7 @@ use Rattle.token.specs.declared.records.Measured.TheVariants as measured
 use Rattle.token.specs.declared.records.Stand.{Stand}
 use Rattle.token.proofs.form.Laws.{form-known, form-length, record-by, length-by, eof-form}
 use Rattle.token.proofs.lexer.Trails.{stores-end, stores-stop}
-use Rattle.token.proofs.lexer.Turns.{Turn, turn-token, turn-line, turn_end, turn-stop}
+use Rattle.token.proofs.lexer.Turns.{Turn, turn-token, turn-line, turn-end, turn-stop}
 use Rattle.token.proofs.records.Measures.{measured-end, measured-stop, record-most, newline-length, eof-length, begun-answer}
 use Rattle.token.proofs.records.Reach.{reach-trans, reach-turn}
 
@@ -45,11 +45,11 @@ pub ruleset sizes = (form-known, form-length, record-least, record-most, head-kn
 -- ---- what comes next at a place
 
 abbrev step : List ℕ → Stand → Next
-step s w = next_of (length s) (seek (length s) 0 w.gap (from s w.at))
+step s w = nextOf (length s) (seek (length s) 0 w.gap (from s w.at))
 
 module _ (s : List ℕ) (w : Stand) where
   abbrev ahead : Trail
-  ahead = trailFrom s (state_of w)
+  ahead = trailFrom s (stateOf w)
 
   -- a token is not empty, and within the script; so is a line end
   pub token-later : (k : TokenKind) (a : ℕ) (e : Cursor) (cut : Bool) → next.Token k a e cut ≡ step s w → (w.at < e.at) × (e.at ≤ length s)
@@ -60,18 +60,18 @@ module _ (s : List ℕ) (w : Stand) where
 
   -- at the end of script one record more is counted and stored; the bytes are heads and values
   module _ (cut : Bool) (q : next.End cut ≡ step s w) where
-    pub end-counted : Whole w → measuredOf (counted w) w.bytes (answer_of ahead) ≡ total ((w.bytes + headLength - w.values) / headLength) (w.bytes + headLength)
+    pub end-counted : Whole w → measuredOf (counted w) w.bytes (answerOf ahead) ≡ total ((w.bytes + headLength - w.values) / headLength) (w.bytes + headLength)
     end-counted h =
         let n : (w.bytes + headLength - w.values) / headLength ≡ counted w + 1 = omega (arith, h) in
-        rw n (sym (measured-end _ _ _ w.bytes headLength (ap answer_of (turn_end s w.at w.gap cut q)) (sym eof-length)))
+        rw n (sym (measured-end _ _ _ w.bytes headLength (ap answerOf (turn-end s w.at w.gap cut q)) (sym eof-length)))
 
     pub end-stored : (out : List ℕ) → stores out w.bytes (tokensOn ahead) ≡ storedIf out w.bytes (recordOf (eofAt (length s) cut))
-    end-stored out = sym (stores-end _ _ out _ w.bytes (turn_end s w.at w.gap cut q) refl)
+    end-stored out = sym (stores-end _ _ out _ w.bytes (turn-end s w.at w.gap cut q) refl)
 
   -- a refusal is the answer, and the buffer stays
   module _ (j a : ℕ) (q : next.Refused j a ≡ step s w) where
-    pub stop-counted : (c b : ℕ) → measuredOf c b (answer_of ahead) ≡ measured.Refused j a
-    stop-counted c b = sym (measured-stop _ j a c b (ap answer_of (turn-stop s w.at w.gap j a q)))
+    pub stop-counted : (c b : ℕ) → measuredOf c b (answerOf ahead) ≡ measured.Refused j a
+    stop-counted c b = sym (measured-stop _ j a c b (ap answerOf (turn-stop s w.at w.gap j a q)))
 
     pub stop-stored : (out : List ℕ) (b : ℕ) → stores out b (tokensOn ahead) ≡ out
     stop-stored out b = sym (stores-stop _ j a out b (turn-stop s w.at w.gap j a q))
@@ -82,10 +82,10 @@ pub ruleset turns = (sizes, begun-answer, token-later, line-later, end-counted, 
 
 -- from the script's start it came to a place, and the record bytes there are heads and values
 abbrev pub Kept : List ℕ → List ℕ → Stand → List ℕ → Type 0
-Kept s out w mid = Reaches s begun out (state_of w) mid × Whole w
+Kept s out w mid = Reaches s begun out (stateOf w) mid × Whole w
 
 -- from there the walk by bytes came to w
-module _ {s out near mid : List ℕ} (v w : Stand) (k : Kept s out v near) (r : Reaches s (state_of v) near (state_of w) mid × Whole w) where
+module _ {s out near mid : List ℕ} (v w : Stand) (k : Kept s out v near) (r : Reaches s (stateOf v) near (stateOf w) mid × Whole w) where
   -- a record more: a head, and the rest are values
   record-more : {t : Token} {e : ℕ} {h : Gap} → Turn s w.at w.gap t e h → (g : Gap) → g ≡ h → (l : ℕ) → l ≡ recordLength t.kind
       → {after : List ℕ} → after ≡ storedIf mid w.bytes (recordOf t)
@@ -95,13 +95,13 @@ module _ {s out near mid : List ℕ} (v w : Stand) (k : Kept s out v near) (r : 
       let n : (w.bytes + l - (w.values + (l - headLength))) / headLength ≡ counted w + 1 = omega (arith, r.1, p) in
       (rw n (reach-turn (reach-trans k.0 r.0) u g f l p _ q), omega (arith, n, r.1, p))
 
-  pub after-token : {kind : TokenKind} {a : ℕ} {e : Cursor} {cut : Bool} → next.Token kind a e cut ≡ step s w → (g : Gap) → g ≡ fresh → (f : Form) → f ≡ form_of kind
+  pub after-token : {kind : TokenKind} {a : ℕ} {e : Cursor} {cut : Bool} → next.Token kind a e cut ≡ step s w → (g : Gap) → g ≡ fresh → (f : Form) → f ≡ formOf kind
       → {after : List ℕ} → after ≡ storedIf mid w.bytes (byForm f a e.at cut)
       → Kept s out (record { at = e.at; gap = g; bytes = w.bytes + f.length; values = w.values + (f.length - headLength) }) after
   after-token q g i f j o =
       record-more (turn-token s w.at w.gap _ _ _ _ q) g i f.length (length-by f _ j) (o ∙ ap (storedIf mid w.bytes) (record-by f _ j))
 
-  pub after-line : {a : ℕ} {e : Cursor} {mark : Bool} {h : Gap} → next.LineEnd a e mark h ≡ step s w → (f : Form) → f ≡ form_of (tk.Newline mark)
+  pub after-line : {a : ℕ} {e : Cursor} {mark : Bool} {h : Gap} → next.LineEnd a e mark h ≡ step s w → (f : Form) → f ≡ formOf (tk.Newline mark)
       → {after : List ℕ} → after ≡ storedIf mid w.bytes (byForm f a e.at false)
       → Kept s out (record { at = e.at; gap = h; bytes = w.bytes + lineLength; values = w.values + 1 }) after
   after-line {mark = mark} {h = h} q f j o =
