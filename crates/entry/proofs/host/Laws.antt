@@ -19,7 +19,6 @@ use Rattle.entry.specs.paper.Host.{seen}
 use Rattle.entry.specs.computed.Host.{granted, rejected, lacking, seenOf, Verdict, verdict, hostOf}
 use Rattle.words.specs.Words.{blockOf}
 use Rattle.token.specs.declared.records.Measured.TheVariants as measured
-use Rattle.entry.specs.declared.host.Judged.{Judged}
 use Rattle.entry.specs.declared.host.Judged.TheVariants as judged
 use Rattle.token.proofs.Base.{zero-one}
 use Rattle.token.proofs.records.Measures.{begun-fits}

@@ -1,5 +1,5 @@
 -- What the host sees is what the refusal table and its order declare: specs/Theorems.HostTheorems.
-use Prim.Native.Nat.{ℕ, ◌≤◌, ◌+◌}
+use Prim.Native.Nat.{ℕ, ◌≤◌}
 use mathlib.Core.Path.{◌≡◌, refl, ◌∙◌, ap}
 use mathlib.Core.Bool.{Bool, true, false}
 use mathlib.Core.List.{List, [], ◌++◌}

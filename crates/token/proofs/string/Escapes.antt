@@ -21,7 +21,6 @@ use Rattle.token.specs.computed.Answer.{unbroken, broken, exactHexes, digitsUpTo
 use Rattle.token.specs.code.Cursor.{cursorAt}
 use Rattle.token.specs.code.String.{escEnd, escapeOf, hexesOf}
 use Rattle.token.specs.code.Digits.{digitIn, afterUpTo}
-use Rattle.token.specs.declared.piece.Ended.{Ended}
 use Rattle.token.specs.declared.piece.Ended.TheVariants as ended
 use Rattle.token.proofs.cursor.Bytes.{ascii-list, inside, any-byte, past}
 use Rattle.token.proofs.theorems.Escapes.{digit-no-simple, u-other}

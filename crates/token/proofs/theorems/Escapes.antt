@@ -1,5 +1,5 @@
 -- Escapes: the function on what follows the backslash, and the declared shape with refusals 12 to 14.
-use Prim.Native.Nat.{ℕ, zero, suc, ◌<◌, ◌+◌, ◌-◌}
+use Prim.Native.Nat.{ℕ, zero, suc, ◌<◌, ◌+◌}
 use borrow.Author.Tests.{not-true}
 use mathlib.Core.Path.{◌≡◌, refl, sym, ◌∙◌, ap}
 use mathlib.Core.Bool.{Bool, true, false, not}

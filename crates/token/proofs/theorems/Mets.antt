@@ -1,5 +1,5 @@
 -- Refusals: where some are met the scanner gives the first of them.
-use Prim.Native.Nat.{ℕ, zero, suc, ◌≤◌, ◌<◌, ◌-◌}
+use Prim.Native.Nat.{ℕ, zero, suc, ◌≤◌, ◌<◌}
 use mathlib.Core.Path.{◌≡◌, refl, sym, ◌∙◌, ap}
 use mathlib.Core.Bool.{Bool, true, false, cond, not, ◌||◌, or-true}
 use mathlib.Core.Logic.{◌⊎◌, inl, inr}

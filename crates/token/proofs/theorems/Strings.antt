@@ -1,5 +1,5 @@
 -- Strings, from their opening on: what the function finds, with refusals 7 to 14.
-use Prim.Native.Nat.{ℕ, zero, suc, ◌≤◌, ◌-◌}
+use Prim.Native.Nat.{ℕ, zero, suc, ◌≤◌}
 use mathlib.Core.Path.{◌≡◌, refl, sym, ◌∙◌, ap}
 use mathlib.Core.Bool.{Bool, true, false, cond, not, ◌&&◌, ◌||◌}
 use mathlib.Core.Logic.{◌⊎◌, inl, inr}

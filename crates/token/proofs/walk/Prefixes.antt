@@ -25,10 +25,8 @@ use Rattle.token.specs.code.Records.{storedIf}
 use Rattle.token.specs.code.Walk.{Good, plainBehind, Steps, beginsName, nameNumber, prefixEnd, LeftTo, Opens}
 use Rattle.token.specs.declared.kinds.Kw.{Kw}
 use Rattle.token.specs.declared.kinds.Kw.TheVariants as kw
-use Rattle.token.specs.declared.kinds.TokenKind.{TokenKind}
 use Rattle.token.specs.declared.kinds.TokenKind.TheVariants as tk
 use Rattle.token.specs.declared.names.Here.{Here}
-use Rattle.token.specs.declared.piece.Piece.TheVariants as piece
 use Rattle.token.specs.declared.walk.Walked.{Walked}
 use Rattle.token.proofs.byte_class.Laws.{class-quote, class-backtick}
 use Rattle.token.proofs.ident.Laws.{token-at, not-prefixed}

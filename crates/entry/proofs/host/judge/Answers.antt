@@ -13,7 +13,7 @@ returns-then-valid-script c =
     let valid = c.valid_prefix-valid.ensures.value.0 in
     record {
       value = judge-invalid c.args.script.now c.args.room (omega arith) _ valid c.if-valid-script.true;
-      scratch_after = scratch-invalid c.args.script.now c.args.scratch.now (omega arith) _ valid c.if-valid-script.true
+      scratch_after = scratch-invalid c.args.script.now c.args.scratch.now (omega arith) _ valid c.if-valid-script.true;
     }
 
 pub returns-in-Refused : goal.returns-in-Refused
@@ -23,7 +23,7 @@ returns-in-Refused c =
     let all = c.if-valid-script.false in
     record {
       value = judge-stopped c.args.script.now c.args.room short _ valid all _ _ c.in-Refused.ensures.value;
-      scratch_after = c.in-Refused.ensures.scratch_after ∙ scratch-read c.args.script.now c.args.scratch.now short _ valid all
+      scratch_after = c.in-Refused.ensures.scratch_after ∙ scratch-read c.args.script.now c.args.scratch.now short _ valid all;
     }
 
 pub returns-then-room-bytes : goal.returns-then-room-bytes
@@ -33,7 +33,7 @@ returns-then-room-bytes c =
     let all = c.if-valid-script.false in
     record {
       value = judge-over c.args.script.now c.args.room short _ valid all _ _ c.in-Total.ensures.value c.if-room-bytes.true;
-      scratch_after = c.in-Total.ensures.scratch_after ∙ scratch-read c.args.script.now c.args.scratch.now short _ valid all
+      scratch_after = c.in-Total.ensures.scratch_after ∙ scratch-read c.args.script.now c.args.scratch.now short _ valid all;
     }
 
 pub returns-in-Total : goal.returns-in-Total
@@ -43,5 +43,5 @@ returns-in-Total c =
     let all = c.if-valid-script.false in
     record {
       value = judge-fits c.args.script.now c.args.room short _ valid all _ _ c.in-Total.ensures.value c.if-room-bytes.false;
-      scratch_after = c.in-Total.ensures.scratch_after ∙ scratch-read c.args.script.now c.args.scratch.now short _ valid all
+      scratch_after = c.in-Total.ensures.scratch_after ∙ scratch-read c.args.script.now c.args.scratch.now short _ valid all;
     }

@@ -6,7 +6,7 @@ use Rattle.entry.proofs.host.tokenize.Goals as goal
 pub returns-then-answer-ne16 : goal.returns-then-answer-ne16
 returns-then-answer-ne16 c = record {
   answer_after = entry-none c.args.script.now c.args.records.now c.args.answer.now c.if-answer-ne16.true;
-  host_theorems = host-theorems c.args.script.now c.args.records.now c.args.answer.now
+  host_theorems = host-theorems c.args.script.now c.args.records.now c.args.answer.now;
 }
 
 pub returns-then-script-le-BRIEF_SCRIPT-clause-host_theorems : goal.returns-then-script-le-BRIEF_SCRIPT-clause-host_theorems

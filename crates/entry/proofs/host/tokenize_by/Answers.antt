@@ -16,7 +16,7 @@ write-requires c =
     let judged = c.in-Fits.ensures.value in
     record {
       s_len_bound = (entry-length script _ _ _ judged, entry-fits script _ _ _ judged, entry-bytes script _ _ _ judged);
-      scratch_value = entry-held script _ _ _ judged _ _ c.judge-judged.auto.scratch c.in-Fits.ensures.scratch_after
+      scratch_value = entry-held script _ _ _ judged _ _ c.judge-judged.auto.scratch c.in-Fits.ensures.scratch_after;
     }
 
 pub returns-in-Fits-clause-answer_after : goal.returns-in-Fits-clause-answer_after

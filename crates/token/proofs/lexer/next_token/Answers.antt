@@ -1,5 +1,5 @@
 -- Past blanks and comments the search goes on to what it finds from the start.
-use Rattle.std.proofs.Common.{◌<◌, arith, length, sym, ap, ◌∙◌}
+use Rattle.std.proofs.Common.{arith, length, sym, ap, ◌∙◌}
 use Rattle.chars.specs.paper.Text.{from}
 use Rattle.token.specs.paper.Tests.{isAny}
 use Rattle.token.specs.code.Lexer.{seek, nextOf}
