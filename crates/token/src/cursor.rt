@@ -49,6 +49,7 @@ impl Cursor {
         Self { at: 0 }
     }
 
+    #[tactic(auto, using(crate::proofs::cursor::Laws::peek_step))]
     pub fn peek(self, s: &[u8]) -> Peeked
         ensures { result ≡ peekAt s.now self.at }
     {
@@ -72,6 +73,7 @@ impl Cursor {
     }
 
     // Past the spaces and tabs that stand there. Most stand alone: two bytes are looked at before any loop.
+    #[tactic(auto, using(crate::proofs::cursor::Blanks::blanks))]
     pub fn skip_blanks(self, s: &[u8]) -> Cursor
         requires { self.at ≤ length s.now }
         ensures { (result.at ≤ length s.now) × (self.at ≤ result.at) × (from s.now result.at ≡ afterRun (isAny " \t") (from s.now self.at)) }
@@ -88,6 +90,7 @@ impl Cursor {
 }
 
 // The same from a place on: spaces by eights, then byte by byte.
+#[tactic(auto, using(crate::proofs::cursor::Blanks::blanks))]
 pub fn skip_more(s: &[u8], at: usize) -> Cursor
     requires { at ≤ length s.now }
     ensures { (result.at ≤ length s.now) × (at ≤ result.at) × (from s.now result.at ≡ afterRun (isAny " \t") (from s.now at)) }

@@ -86,6 +86,7 @@ pub enum Closed {
 }
 
 // Does an LF or a CR LF stand at a place? Most bytes are above both.
+#[tactic(auto, using(crate::proofs::gap::Laws::line_ends))]
 fn line_ends_at(s: &[u8], at: usize) -> bool
     requires { at ≤ length s.now }
     ensures { result ≡ endsLine (from s.now at) }
@@ -116,6 +117,7 @@ pub struct Nest {
 }
 
 // Do four `/*` in a row stand at a place? Most comments do not begin with even one more.
+#[tactic(auto, unfolding(crate::specs::code::Gap::fourOpen))]
 fn four_open(s: &[u8], at: usize) -> bool
     ensures { result ≡ fourOpen s.now at }
 {
@@ -132,6 +134,7 @@ fn four_open(s: &[u8], at: usize) -> bool
 }
 
 // Past the `/*` that stand there, four at a time.
+#[tactic(auto, using(crate::proofs::gap::Laws::open_turns))]
 fn pass_openings(s: &[u8], at: usize) -> Nest
     requires { at ≤ length s.now }
     ensures { result ≡ openings s.now at }
@@ -150,6 +153,7 @@ fn pass_openings(s: &[u8], at: usize) -> Nest
 
 // From inside a comment, with so many more open: past the outermost's end. What is neither `*` nor `/` is passed by eights first, since most
 // comments have no other mark inside.
+#[tactic(auto, using(crate::proofs::gap::Laws::block_turns))]
 fn close_block(s: &[u8], at: usize, inner: usize) -> Closed
     requires { (1 ≤ length s.now) × (at ≤ length s.now) × (inner ≤ at) }
     ensures { result ≡ closedOf (length s.now) (close inner 0 (from s.now at)) }
@@ -177,6 +181,7 @@ fn close_block(s: &[u8], at: usize, inner: usize) -> Closed
 
 impl Cursor {
     // Past the line comment that begins there, up to the line end or the end of script. What is above both line-end bytes is passed by eights.
+    #[tactic(auto, using(crate::proofs::gap::Laws::line_runs))]
     pub fn consume_line_comment(self, s: &[u8]) -> Cursor
         requires { (self.at ≤ length s.now) × (opensLine (from s.now self.at) ≡ true) }
         ensures { (result.at ≤ length s.now) × (from s.now result.at ≡ afterRun (λ t. not (endOfLine t)) (drop 2 (from s.now self.at))) }
@@ -202,6 +207,7 @@ impl Cursor {
 }
 
 // Past the LF or CR LF that stands there; the place itself, where none does.
+#[tactic(auto, using(crate::proofs::gap::Laws::line_ends), unfolding(crate::specs::code::Gap::lineEndAfter))]
 pub fn line_end_at(s: &[u8], at: usize) -> usize
     requires { at ≤ length s.now }
     ensures { result ≡ lineEndAfter s.now at }
@@ -217,6 +223,7 @@ pub fn line_end_at(s: &[u8], at: usize) -> usize
 }
 
 // Past the block comment that begins there; the place itself, where it is open at the end of script.
+#[tactic(auto, using(crate::proofs::gap::Scans::end_closed))]
 pub fn block_end(s: &[u8], at: usize) -> usize
     requires { (at ≤ length s.now) × (opensBlock (from s.now at) ≡ true) }
     ensures { result ≡ blockEnd s.now at }

@@ -30,6 +30,7 @@ pub enum Passed {
 
 // A token that is no single sign, number, backtick, string, character or symbol: an identifier, an operator, or nothing. ASCII is
 // recognised from its byte.
+#[tactic(auto, using(crate::proofs::lexer::Starts::words))]
 fn lex_word(s: &[u8], c: Cursor) -> Piece
     requires { (c.at < length s.now) × (isAny wordless (from s.now c.at) ≡ false) × (opensComment (from s.now c.at) ≡ false) }
     ensures { result ≡ pieceOf (length s.now) (scan (length s.now) (from s.now c.at)) }
@@ -49,6 +50,7 @@ fn lex_word(s: &[u8], c: Cursor) -> Piece
 }
 
 // The same by the character that stands there. A Russian letter is recognised from its bytes; an operator sign needs no table.
+#[tactic(auto, using(crate::proofs::lexer::Starts::wide_words))]
 fn lex_wide_word(s: &[u8], c: Cursor) -> Piece
     requires { (c.at < length s.now) × (isAny wordless (from s.now c.at) ≡ false) × (opensComment (from s.now c.at) ≡ false) }
     ensures { result ≡ pieceOf (length s.now) (scan (length s.now) (from s.now c.at)) }
@@ -70,6 +72,7 @@ fn lex_wide_word(s: &[u8], c: Cursor) -> Piece
 }
 
 // One token, where no blank, line end or comment stands.
+#[tactic(auto, using(crate::proofs::lexer::Starts::firsts))]
 pub fn lex_token(s: &[u8], c: Cursor) -> Piece
     requires { (c.at < length s.now) × (isAny " \t\n\r" (from s.now c.at) ≡ false) × (opensComment (from s.now c.at) ≡ false) }
     ensures { result ≡ pieceOf (length s.now) (scan (length s.now) (from s.now c.at)) }
@@ -106,6 +109,7 @@ fn refused(p: Piece) -> Next
 }
 
 // The token that ends the gap.
+#[tactic(auto, using(crate::proofs::lexer::Laws::next_piece))]
 fn token_at(s: &[u8], c: Cursor, g: Gap) -> Next
     requires { (c.at < length s.now) × (isAny " \t\n\r" (from s.now c.at) ≡ false) × (opensComment (from s.now c.at) ≡ false) }
     ensures { result ≡ nextOf (length s.now) (seek (length s.now) 0 g (from s.now c.at)) }
@@ -118,6 +122,7 @@ fn token_at(s: &[u8], c: Cursor, g: Gap) -> Next
 }
 
 // What stands at c, where neither a blank nor a comment does.
+#[tactic(auto, using(crate::proofs::lexer::Laws::stops))]
 fn stop_at(s: &[u8], c: Cursor, g: Gap) -> Next
     requires { (c.at < length s.now) × (isAny " \t" (from s.now c.at) ≡ false) × (opensComment (from s.now c.at) ≡ false) }
     ensures { result ≡ nextOf (length s.now) (seek (length s.now) 0 g (from s.now c.at)) }
@@ -132,6 +137,7 @@ fn stop_at(s: &[u8], c: Cursor, g: Gap) -> Next
 }
 
 // A CR: a line end before an LF, else refused.
+#[tactic(auto, using(crate::proofs::lexer::Laws::next_return))]
 fn return_at(s: &[u8], c: Cursor, g: Gap) -> Next
     requires { (c.at < length s.now) × (isAny "\r" (from s.now c.at) ≡ true) }
     ensures { result ≡ nextOf (length s.now) (seek (length s.now) 0 g (from s.now c.at)) }
@@ -144,6 +150,7 @@ fn return_at(s: &[u8], c: Cursor, g: Gap) -> Next
 }
 
 // Past the comment that begins there.
+#[tactic(auto, using(crate::proofs::lexer::Laws::passes))]
 fn pass_comment(s: &[u8], c: Cursor, g: Gap) -> Passed
     requires { (c.at < length s.now) × (opensComment (from s.now c.at) ≡ true) }
     ensures { result ≡ passedOf (length s.now) g (scan (length s.now) (from s.now c.at)) }
@@ -160,6 +167,7 @@ fn pass_comment(s: &[u8], c: Cursor, g: Gap) -> Passed
 }
 
 // The next token, line end or end of script from c on, in the gap g.
+#[tactic(auto, using(crate::proofs::lexer::Seeks::past_blanks))]
 pub fn next_token(s: &[u8], c: Cursor, g: Gap) -> Next
     requires { c.at ≤ length s.now }
     ensures { result ≡ nextOf (length s.now) (seek (length s.now) 0 g (from s.now c.at)) }

@@ -2,7 +2,7 @@
 use Prim.Native.Nat.{ℕ, ◌+◌, ◌≤◌, ◌<◌}
 use Prim.Native.String.{String}
 use mathlib.Core.Path.{◌≡◌, refl, sym, ◌∙◌, ap}
-use mathlib.Core.Bool.{Bool, true, false, ◌&&◌, ◌||◌, and-true}
+use mathlib.Core.Bool.{Bool, true, false, ◌&&◌, and-true}
 use mathlib.Core.List.{List, [], ◌∷◌}
 use lib.ListN.{length, drop, get_or, get_or-eq_default}
 use lib.Dec.{eqb, leb, ltb}
@@ -83,13 +83,3 @@ two-bytes x y a b c d s i =
 
 pub one-byte : (x : ℕ) → 1 ≤ x → x < 0x80 → (s : List ℕ) (i : ℕ) → startsWith (x ∷ []) (from s i) ≡ eqb (get_or s i 0) x
 one-byte x a b s i = starts-byte x [] a b s i ∙ and-true (eqb (get_or s i 0) x)
-
--- the order of two codes does not matter: a match has them ascending
-pub swapped : (c x y : ℕ) → member (x ∷ y ∷ []) c ≡ member (y ∷ x ∷ []) c
-swapped c x y = go (eqb c x) (eqb c y)
-  where
-    go : (a b : Bool) → a || (b || false) ≡ b || (a || false)
-    go true true = refl
-    go true false = refl
-    go false true = refl
-    go false false = refl

@@ -11,10 +11,12 @@ use Rattle.chars.specs.paper.Text.{Char, Text, from, place}
 use Rattle.chars.specs.code.Text.{charEnd, stepAt, codeAt}
 use Rattle.chars.specs.computed.Runs.{afterRun}
 use Rattle.chars.specs.code.Runs.{Each}
+use Rattle.chars.specs.declared.text.Step.{Step}
 use Rattle.chars.specs.declared.text.Step.TheVariants as step
 use Rattle.chars.proofs.theorems.Promises.{text-laws}
 use Rattle.token.specs.code.Cursor.{cursorAt, peekedOf, peekAt}
 use Rattle.token.specs.declared.cursor.Cursor.{Cursor}
+use Rattle.token.specs.declared.cursor.Peeked.{Peeked}
 use Rattle.token.specs.declared.cursor.Peeked.TheVariants as peeked
 use Rattle.token.proofs.Base.{zero-one}
 open text-laws use {at-char, at-end, place-from, next-on, step-text, step-none}
@@ -37,15 +39,18 @@ here s i code next e =
       within = omega (arith, t.2);
     }
 
-pub peek-char : (s : List ℕ) (i code next : ℕ) → step.Char code next ≡ stepAt s i → peeked.Char code (cursorAt next) ≡ peekAt s i
-unfolding peekAt
-peek-char s i code next e =
-    let h = here s i code next e in
-    sym (ap (peekedOf (length s)) h.text ∙ ap (λ j. peeked.Char code (cursorAt j)) (place-from s next h.within))
+-- a peek, by the step that the code makes
+abbrev pub peekStep : Step → Peeked
+peekStep (step.Char code next) = peeked.Char code (cursorAt next)
+peekStep step.End = peeked.End
 
-pub peek-end : (s : List ℕ) (i : ℕ) → step.End ≡ stepAt s i → peeked.End ≡ peekAt s i
+pub peek_step : (s : List ℕ) (i : ℕ) → peekAt s i ≡ peekStep (stepAt s i)
 unfolding peekAt
-peek-end s i e = sym (ap (peekedOf (length s)) (at-end s i (step-none s i e)))
+peek_step s i = go (stepAt s i) refl
+  where
+    go : (x : Step) → x ≡ stepAt s i → peekAt s i ≡ peekStep x
+    go (step.Char code next) e = let h = here s i code next e in ap (peekedOf (length s)) h.text ∙ ap (λ j. peeked.Char code (cursorAt j)) (place-from s next h.within)
+    go step.End e = ap (peekedOf (length s)) (at-end s i (step-none s i e))
 
 -- what a peek says
 pub peeked-char : (s : List ℕ) (i code : ℕ) (next : ℕ) → peeked.Char code (cursorAt next) ≡ peekAt s i → Here s i code next
@@ -77,20 +82,12 @@ peeked-end s i e = go (ltb i (length s)) refl
         let f : peeked.End ≡ peeked.Char (codeAt s i) (cursorAt (place (length s) (from s (charEnd s i)))) = e ∙ ap (peekedOf (length s)) (at-char s i (ltb-true i (length s) q)) in
         zero-one (cc)
 
--- ---- a run of bytes: what the loop found at its start is f
+-- ---- a run of bytes
 
-module _ (p : Text → Bool) (s : List ℕ) (i : ℕ) (f : Text) where
-  pub run-past : (c : Char) (u : Text) → from s i ≡ c ∷ u → p (from s i) ≡ true → afterRun p (from s i) ≡ f → afterRun p u ≡ f
-  unfolding afterRun
-  run-past c u t e q = sym (ap (afterRun p) t ∙ rw (sym (ap p t) ∙ e, afterRun)) ∙ q
-
-  pub run-here : (c : Char) (u : Text) → from s i ≡ c ∷ u → p (from s i) ≡ false → afterRun p (from s i) ≡ f → from s i ≡ f
-  unfolding afterRun
-  run-here c u t e q = t ∙ sym (ap (afterRun p) t ∙ rw (sym (ap p t) ∙ e, afterRun)) ∙ q
-
-  pub run-none : length s ≤ i → afterRun p (from s i) ≡ f → from s i ≡ f
-  unfolding afterRun
-  run-none h q = at-end s i h ∙ sym (ap (afterRun p) (at-end s i h)) ∙ q
+-- past what belongs to it
+pub run-past : (p : Text → Bool) (s : List ℕ) (i : ℕ) (c : Char) (u : Text) → from s i ≡ c ∷ u → p (from s i) ≡ true → afterRun p (from s i) ≡ afterRun p u
+unfolding afterRun
+run-past p s i c u t e = ap (afterRun p) t ∙ rw (sym (ap p t) ∙ e)
 
 -- ---- bytes of one property, passed together: what f finds past any one of them is what it finds before it
 

@@ -14,13 +14,11 @@ use Rattle.chars.proofs.theorems.Promises.{text-laws}
 use Rattle.token.specs.paper.Tests.{begins, endOfLine, opensLine, opensBlock}
 use Rattle.token.specs.computed.Flags.{GapKind}
 use Rattle.token.specs.computed.Answer.{Found, scan, close, blockOr}
-use Rattle.token.specs.code.Cursor.{cursorAt}
 use Rattle.token.specs.code.Gap.{closedOf, lineEndAfter, placeOr, blockEnd}
+use Rattle.token.specs.declared.gap.Closed.{Closed}
 use Rattle.token.specs.declared.gap.Closed.TheVariants as closed
-use Rattle.token.specs.declared.cursor.Cursor.{Cursor}
-use Rattle.token.proofs.Base.{zero-one}
-use Rattle.token.proofs.cursor.Bytes.{one-byte, two-bytes, inside}
-use Rattle.token.proofs.gap.Laws.{Pair, pair-at, opens-line, block-opens}
+use Rattle.token.proofs.cursor.Bytes.{inside}
+use Rattle.token.proofs.gap.Laws.{Pair, pair-at, line-opens, block-opens, lf-bytes, crlf-bytes}
 use Rattle.token.proofs.lexer.Seeks.{gap-strict, left-at}
 use Rattle.token.proofs.lexer.Laws.{later-place, lf-scan, crlf-scan, line-scan, block-scan}
 open text-laws use {at-char, place-from}
@@ -42,29 +40,17 @@ module _ (s : List ℕ) (i : ℕ) where
 
   -- ---- line ends
 
-  lf-byte : begins "\n" (from s i) ≡ eqb (get_or s i 0) 0x0A
-  unfolding begins
-  lf-byte = one-byte 0x0A (omega arith) (omega arith) s i
-
-  crlf-bytes : begins "\r\n" (from s i) ≡ eqb (get_or s i 0) 0x0D && eqb (get_or s (i + 1) 0) 0x0A
-  unfolding begins
-  crlf-bytes = two-bytes 0x0D 0x0A (omega arith) (omega arith) (omega arith) (omega arith) s i
-
   crlf-pair : begins "\r\n" (from s i) ≡ true → Pair s i 0x0D 0x0A
-  crlf-pair e = pair-at s i 0x0D 0x0A (omega arith) (omega arith) (omega arith) (omega arith) (sym crlf-bytes ∙ e)
+  crlf-pair e = pair-at s i 0x0D 0x0A (omega arith) (omega arith) (omega arith) (omega arith) (sym (crlf-bytes s i) ∙ e)
 
   -- where the code's tests say that one ends
   pub line-end-lf : eqb (get_or s i 0) 0x0A ≡ true → i + 1 ≡ lineEndAfter s i
   unfolding lineEndAfter
-  line-end-lf e = sym (rw (lf-byte ∙ e))
+  line-end-lf e = sym (rw (lf-bytes s i ∙ e))
 
   pub line-end-crlf : eqb (get_or s i 0) 0x0A ≡ false → eqb (get_or s i 0) 0x0D && eqb (get_or s (i + 1) 0) 0x0A ≡ true → i + 2 ≡ lineEndAfter s i
   unfolding lineEndAfter
-  line-end-crlf e f = sym (rw (lf-byte ∙ e, crlf-bytes ∙ f))
-
-  pub line-end-none : eqb (get_or s i 0) 0x0A ≡ false → eqb (get_or s i 0) 0x0D && eqb (get_or s (i + 1) 0) 0x0A ≡ false → i ≡ lineEndAfter s i
-  unfolding lineEndAfter
-  line-end-none e f = sym (rw (lf-byte ∙ e, crlf-bytes ∙ f))
+  line-end-crlf e f = sym (rw (lf-bytes s i ∙ e, crlf-bytes s i ∙ f))
 
   -- where one stands, the scanner finds it
   pub line-end-found : (lineEndAfter s i ≡ i → ⊥) → GapTo s GapKind.lineEnd i (lineEndAfter s i)
@@ -74,7 +60,7 @@ module _ (s : List ℕ) (i : ℕ) where
       go : (a b : Bool) → begins "\n" (from s i) ≡ a → begins "\r\n" (from s i) ≡ b → (cond a (i + 1) (cond b (i + 2) i) ≡ i → ⊥)
           → GapTo s GapKind.lineEnd i (cond a (i + 1) (cond b (i + 2) i))
       go true b e f n =
-          let z = eqb-true (get_or s i 0) 0x0A (sym lf-byte ∙ e) in
+          let z = eqb-true (get_or s i 0) 0x0A (sym (lf-bytes s i) ∙ e) in
           let h = inside s i (omega arith) in
           record { found = lf-scan s i h z; on = omega arith; within = omega arith }
       go false true e f n = let p = crlf-pair f in record { found = crlf-scan s i p; on = omega arith; within = p.within }
@@ -85,25 +71,21 @@ module _ (s : List ℕ) (i : ℕ) where
   -- a line comment, from the text at its end
   pub line-comment-found : (j : ℕ) → opensLine (from s i) ≡ true → j ≤ length s → from s j ≡ afterRun (λ t. not (endOfLine t)) (drop 2 (from s i)) → GapTo s GapKind.lineComment i j
   line-comment-found j o l q =
-      let p = pair-at s i 0x2F 0x2F (omega arith) (omega arith) (omega arith) (omega arith) (sym (opens-line s i) ∙ o) in
+      let p = line-opens s i o in
       rw (place-from s j l) at (gap-to GapKind.lineComment (from s j) (omega (arith, p.within)) (line-scan s i j o q))
 
   -- where the code says that a block comment ends
-  pub block-end-at : (e : Cursor) → closed.At e ≡ closedOf (length s) (close 0 0 (drop 2 (from s i))) → e.at ≡ blockEnd s i
-  unfolding closedOf blockEnd
-  block-end-at e = go (close 0 0 (drop 2 (from s i)))
-    where
-      go : (x : Option Text) → closed.At e ≡ closedOf (length s) x → e.at ≡ placeOr (length s) i x
-      go none q = zero-one (cc)
-      go (some r) q = let z : e ≡ cursorAt (place (length s) r) = cc in ap (λ (c : Cursor). c.at) z
+  abbrev pub endOr : Closed → ℕ
+  endOr (closed.At e) = e.at
+  endOr closed.Open = i
 
-  pub block-end-open : closed.Open ≡ closedOf (length s) (close 0 0 (drop 2 (from s i))) → i ≡ blockEnd s i
+  pub end_closed : blockEnd s i ≡ endOr (closedOf (length s) (close 0 0 (drop 2 (from s i))))
   unfolding closedOf blockEnd
-  block-end-open = go (close 0 0 (drop 2 (from s i)))
+  end_closed = go (close 0 0 (drop 2 (from s i)))
     where
-      go : (x : Option Text) → closed.Open ≡ closedOf (length s) x → i ≡ placeOr (length s) i x
-      go none q = refl
-      go (some r) q = zero-one (cc)
+      go : (x : Option Text) → placeOr (length s) i x ≡ endOr (closedOf (length s) x)
+      go none = refl
+      go (some r) = refl
 
   -- where it is closed, the scanner finds it
   pub block-end-found : opensBlock (from s i) ≡ true → (blockEnd s i ≡ i → ⊥) → GapTo s GapKind.blockComment i (blockEnd s i)

@@ -2,13 +2,13 @@
 use Prim.Native.Nat.{ℕ, zero, suc, ◌+◌, ◌-◌, ◌≤◌, ◌<◌}
 use Prim.Native.String.{String}
 use mathlib.Core.Path.{◌≡◌, refl, sym, ◌∙◌, ap}
-use mathlib.Core.Bool.{Bool, true, false, cond, not, ◌&&◌, ◌||◌}
+use mathlib.Core.Bool.{Bool, true, false, cond, not, ◌&&◌}
 use mathlib.Core.List.{List, [], ◌∷◌}
 use lib.ListN.{length, drop, get_or}
 use lib.Dec.{eqb, leb, ltb}
 use native.Mathlib.Omega.{arith}
-use borrow.Author.Tests.{ltb-true, ltb-false, lt-ltb, ne_eqb, lt-leb}
-use Rattle.chars.specs.paper.Quoted.{between, codes, oneOf}
+use borrow.Author.Tests.{ltb-true, ltb-false, ne_eqb, lt-leb}
+use Rattle.chars.specs.paper.Quoted.{codes, oneOf}
 use Rattle.chars.specs.paper.Classes.{isIdStart}
 use Rattle.chars.specs.paper.Text.{Char, Text, from, place, headIs}
 use Rattle.chars.specs.code.Text.{charEnd}
@@ -25,10 +25,14 @@ use Rattle.token.specs.code.Cursor.{cursorAt}
 use Rattle.token.specs.code.Piece.{pieceOf}
 use Rattle.token.specs.code.Gap.{closedOf}
 use Rattle.token.specs.declared.gap.Gap.{Gap}
+use Rattle.token.specs.declared.gap.Closed.{Closed}
 use Rattle.token.specs.declared.gap.Closed.TheVariants as shut
 use Rattle.token.specs.declared.kinds.TokenKind.{TokenKind}
+use Rattle.token.specs.declared.piece.Piece.{Piece}
 use Rattle.token.specs.declared.piece.Piece.TheVariants as piece
+use Rattle.token.specs.declared.lexer.Next.{Next}
 use Rattle.token.specs.declared.lexer.Next.TheVariants as next
+use Rattle.token.specs.declared.lexer.Passed.{Passed}
 use Rattle.token.specs.declared.lexer.Passed.TheVariants as passed
 use mathlib.Core.Logic.{◌⊎◌, inl, inr}
 use mathlib.Core.Option.{Option, none, some}
@@ -37,12 +41,12 @@ use Rattle.token.specs.declared.kinds.Kw.{Kw}
 use Rattle.token.specs.declared.kinds.TokenKind.TheVariants as tk
 use Rattle.token.specs.declared.cursor.Cursor.{Cursor}
 use Rattle.token.proofs.Base.{zero-one}
-use Rattle.token.proofs.gap.Laws.{Pair}
+use Rattle.token.proofs.gap.Laws.{Pair, pair-at, opens-line, crlf-bytes}
 use Rattle.token.proofs.theorems.Dispatch.{Fact, start-fact, clear, clear-head, scan-by, digit-one, quote-any, starts-lf, starts-cr, starts-sign, starts-number, starts-word, starts-operator, starts-backtick, starts-string, starts-tick, starts-line, starts-block}
 use Rattle.token.proofs.cursor.Bytes.{any-byte}
 use Rattle.token.proofs.lexer.Seeks.{gap-strict, seek-line, seek-block, seek-end, seek-token, seek-stuck, left-at}
 use Rattle.token.proofs.theorems.Shorter.{Strict}
-open code_laws use {carry, no-member, between-in, between-out}
+open code_laws use {carry, no-member}
 open text-laws use {head-byte, at-char, at-end, at-ascii, place-from, next-on}
 
 -- ---- digits
@@ -114,9 +118,6 @@ module _ (s : List ℕ) (i : ℕ) (h : i < length s) where
       let t = at-ascii s i h (ltb-true (get_or s i 0) 0x80 k.0) in
       (ap (headIs isIdStart) t ∙ k.1, omega arith, sym (ap (drop 1) t))
 
-  pub ascii-no-start : get_or s i 0 < 0x80 → ltb (get_or s i 0) 0x80 && isIdStart (get_or s i 0) ≡ false → headIs isIdStart (from s i) ≡ false
-  ascii-no-start l e = ascii-head isIdStart l ∙ (rw (lt-ltb (get_or s i 0) 0x80 l) at e)
-
 -- a sub-list of codes of which none stands there
 none-of : (a b : String) → every (oneOf a) (codes b) ≡ true → (s : Text) → isAny a s ≡ false → isAny b s ≡ false
 none-of a b h [] e = refl
@@ -141,31 +142,6 @@ other-at n s z e a b =
     let k = clear s z in
     scan-by n s Start.other
     (rw (k.line, k.block, none-of wordless " \t" refl s e, none-of wordless "\n" refl s e, none-of wordless "\r" refl s e, none-of wordless "()[]{},;." refl s e, no-digit s e, a, b, none-of wordless "`" refl s e, quote-any s ∙ none-of wordless "\"" refl s e, none-of wordless "'" refl s e))
-
--- the same at a place, as a piece
-pub refused_at : (s : List ℕ) (i : ℕ) → i < length s → opensComment (from s i) ≡ false → isAny wordless (from s i) ≡ false → headIs isIdStart (from s i) ≡ false
-    → opSign (from s i) ≡ false → piece.Refused 3 i ≡ pieceOf (length s) (scan (length s) (from s i))
-unfolding pieceOf
-refused_at s i h z e a b = sym (ap (pieceOf (length s)) (other-at (length s) (from s i) z e a b) ∙ ap (piece.Refused 3) (place-from s i (omega arith)))
-
--- no byte of another start: what the arms of the match leave
-abbrev pub keyed : ℕ → Bool
-keyed b = oneOf "()[]{},;.`\"'" b
-
-pub no-digit-byte : (b : ℕ) → (0x30 ≤ b → 0x39 < b) → isDigit b ≡ false
-unfolding isDigit
-no-digit-byte b h = between-out 0x30 0x39 b h
-
-pub is-digit-byte : (b : ℕ) → 0x30 ≤ b → b ≤ 0x39 → isDigit b ≡ true
-unfolding isDigit
-is-digit-byte b h k = between-in 0x30 0x39 b h k
-
-pub wordless-none : (s : List ℕ) (i : ℕ) → keyed (get_or s i 0) ≡ false → isDigit (get_or s i 0) ≡ false → isAny " \t\n\r" (from s i) ≡ false → isAny wordless (from s i) ≡ false
-unfolding isDigit
-wordless-none s i a b c =
-    any-byte wordless refl s i
-    ∙ no-member (λ x. not (keyed x) && not (between 0x30 0x39 x) && not (oneOf " \t\n\r" x)) (codes wordless) (get_or s i 0) refl
-    (rw (a, b, sym (any-byte " \t\n\r" refl s i) ∙ c))
 
 -- ---- no token's scan gives a gap piece
 
@@ -347,13 +323,8 @@ no-line-end s i a b c =
     ∙ no-member (λ x. not (oneOf " \t" x) && not (eqb x 0x0A) && not (eqb x 0x0D)) (codes " \t\n\r") (get_or s i 0) refl
     (rw (sym (any-byte " \t" refl s i) ∙ a, ne_eqb (get_or s i 0) 0x0A b, ne_eqb (get_or s i 0) 0x0D c))
 
--- a comment that is no line comment
-pub block-opens : (s : Text) → opensComment s ≡ true → opensLine s ≡ false → opensBlock s ≡ true
-block-opens s o e = go (opensLine s) (opensBlock s) e o
-  where
-    go : (a b : Bool) → a ≡ false → a || b ≡ true → b ≡ true
-    go true b e o = clash (sym e)
-    go false b e o = o
+pub cr-byte : (s : List ℕ) (i : ℕ) → isAny "\r" (from s i) ≡ oneOf "\r" (get_or s i 0)
+cr-byte s i = any-byte "\r" refl s i
 
 -- ---- gap pieces
 
@@ -401,72 +372,65 @@ module _ (s : List ℕ) (i : ℕ) (g : Gap) (h : i < length s) where
       go (Found.stuck j r) p q = zero-one (cc)
       go (Found.gap j r) p q = zero-one (cc)
 
-  -- a refusal
-  pub next-refused : (j a : ℕ) → opensComment (from s i) ≡ false → isAny " \t\n\r" (from s i) ≡ false → piece.Refused j a ≡ pieceOf m (scan m (from s i))
-      → next.Refused j a ≡ nextOf m (seek m 0 g (from s i))
+  -- a token or a refusal
+  abbrev pub nextBy : Piece → Next
+  nextBy (piece.Token k e) = next.Token k i e (cutOf g)
+  nextBy (piece.Refused j a) = next.Refused j a
+
+  pub next_piece : opensComment (from s i) ≡ false → isAny " \t\n\r" (from s i) ≡ false → nextOf m (seek m 0 g (from s i)) ≡ nextBy (pieceOf m (scan m (from s i)))
   unfolding pieceOf nextOf
-  next-refused j a z w q = go (scan m (from s i)) refl q
+  next_piece z w = go (scan m (from s i)) refl
     where
-      go : (f : Found) → scan m (from s i) ≡ f → piece.Refused j a ≡ pieceOf m f → next.Refused j a ≡ nextOf m (seek m 0 g (from s i))
-      go (Found.stuck x r) p q =
-          let t = at-char s i h in
-          let b : x ≡ j = cc in
-          let d : place m r ≡ a = cc in
-          let w = seek-stuck m g _ _ r x (ap (scan m) (sym t) ∙ p) in
-          sym (ap (λ u. nextOf m (seek m 0 g u)) t ∙ ap (nextOf m) w ∙ ap (λ z. next.Refused z (place m r)) b ∙ ap (next.Refused j) d)
-      go (Found.token x r) p q = zero-one (cc)
-      go (Found.gap x r) p q =
+      go : (f : Found) → scan m (from s i) ≡ f → nextOf m (seek m 0 g (from s i)) ≡ nextBy (pieceOf m f)
+      go (Found.token x r) p = let t = at-char s i h in ap (λ u. nextOf m (seek m 0 g u)) t ∙ ap (nextOf m) (seek-token m g _ _ r x (ap (scan m) (sym t) ∙ p))
+      go (Found.stuck x r) p = let t = at-char s i h in ap (λ u. nextOf m (seek m 0 g u)) t ∙ ap (nextOf m) (seek-stuck m g _ _ r x (ap (scan m) (sym t) ∙ p))
+      go (Found.gap x r) p =
           let t = at-char s i h in
           absurd (no-gap m _ _ x r (sym (ap opensComment t) ∙ z) (sym (ap (isAny " \t\n\r") t) ∙ w) (ap (scan m) (sym t) ∙ p))
 
-  -- a line end of one byte or two
-  pub next-lf : get_or s i 0 ≡ 0x0A → next.LineEnd i (cursorAt (i + 1)) g.comment (push GapKind.lineEnd g) ≡ nextOf m (seek m 0 g (from s i))
+  -- a line end of one byte, and what a CR is
+  pub next-lf : get_or s i 0 ≡ 0x0A → nextOf m (seek m 0 g (from s i)) ≡ next.LineEnd i (cursorAt (i + 1)) g.comment (push GapKind.lineEnd g)
   unfolding nextOf
   next-lf e =
       let t = at-char s i h in
       let w = seek-end m g _ _ (from s (i + 1)) (ap (scan m) (sym t) ∙ lf-scan s i h e) in
-      sym (ap (λ u. nextOf m (seek m 0 g u)) t ∙ ap (nextOf m) w ∙ ap (λ j. next.LineEnd i (cursorAt j) g.comment (push GapKind.lineEnd g)) (place-from s (i + 1) (omega arith)))
+      ap (λ u. nextOf m (seek m 0 g u)) t ∙ ap (nextOf m) w ∙ ap (λ j. next.LineEnd i (cursorAt j) g.comment (push GapKind.lineEnd g)) (place-from s (i + 1) (omega arith))
 
-  pub next-crlf : Pair s i 0x0D 0x0A → next.LineEnd i (cursorAt (i + 2)) g.comment (push GapKind.lineEnd g) ≡ nextOf m (seek m 0 g (from s i))
-  unfolding nextOf
-  next-crlf p =
-      let w = seek-end m g _ _ (from s (i + 2)) (ap (scan m) (sym p.text) ∙ crlf-scan s i p) in
-      sym (ap (λ u. nextOf m (seek m 0 g u)) p.text ∙ ap (nextOf m) w ∙ ap (λ j. next.LineEnd i (cursorAt j) g.comment (push GapKind.lineEnd g)) (place-from s (i + 2) p.within))
-
-  pub next-cr : isAny "\r" (from s i) ≡ true → begins "\r\n" (from s i) ≡ false → next.Refused 1 i ≡ nextOf m (seek m 0 g (from s i))
+  pub next_return : isAny "\r" (from s i) ≡ true
+      → nextOf m (seek m 0 g (from s i))
+      ≡ cond (eqb (get_or s i 0) 0x0D && eqb (get_or s (i + 1) 0) 0x0A) (next.LineEnd i (cursorAt (i + 2)) g.comment (push GapKind.lineEnd g)) (next.Refused 1 i)
   unfolding nextOf scanReturn
-  next-cr b e =
-      let t = at-char s i h in
-      let f : scan m (from s i) ≡ Found.stuck 1 (from s i) = return-scan s i b ∙ rw e in
-      let w = seek-stuck m g _ _ (from s i) 1 (ap (scan m) (sym t) ∙ f) in
-      sym (ap (λ u. nextOf m (seek m 0 g u)) t ∙ ap (nextOf m) w ∙ ap (next.Refused 1) (place-from s i (omega arith)))
+  next_return b = go (eqb (get_or s i 0) 0x0D && eqb (get_or s (i + 1) 0) 0x0A) refl
+    where
+      go : (x : Bool) → eqb (get_or s i 0) 0x0D && eqb (get_or s (i + 1) 0) 0x0A ≡ x
+          → nextOf m (seek m 0 g (from s i)) ≡ cond x (next.LineEnd i (cursorAt (i + 2)) g.comment (push GapKind.lineEnd g)) (next.Refused 1 i)
+      go true e =
+          let p = pair-at s i 0x0D 0x0A (omega arith) (omega arith) (omega arith) (omega arith) e in
+          let w = seek-end m g _ _ (from s (i + 2)) (ap (scan m) (sym p.text) ∙ crlf-scan s i p) in
+          ap (λ u. nextOf m (seek m 0 g u)) p.text ∙ ap (nextOf m) w ∙ ap (λ j. next.LineEnd i (cursorAt j) g.comment (push GapKind.lineEnd g)) (place-from s (i + 2) p.within)
+      go false e =
+          let t = at-char s i h in
+          let f : scan m (from s i) ≡ Found.stuck 1 (from s i) = return-scan s i b ∙ rw (crlf-bytes s i ∙ e) in
+          let w = seek-stuck m g _ _ (from s i) 1 (ap (scan m) (sym t) ∙ f) in
+          ap (λ u. nextOf m (seek m 0 g u)) t ∙ ap (nextOf m) w ∙ ap (next.Refused 1) (place-from s i (omega arith))
 
   -- ---- comments
 
-  pub pass-line : (e : Cursor) (f : Gap) → f ≡ push GapKind.lineComment g → e.at ≤ length s → opensLine (from s i) ≡ true → from s e.at ≡ afterRun (λ u. not (endOfLine u)) (drop 2 (from s i))
-      → passed.To e f ≡ passedOf m g (scan m (from s i))
-  pass-line e f y l o q =
-      ap (passed.To e) y
-      ∙ sym (ap (passedOf m g) (line-scan s i e.at o q) ∙ ap (λ j. passed.To (cursorAt j) (push GapKind.lineComment g)) (place-from s e.at l))
+  pub pass-line : opensLine (from s i) ≡ true → passedOf m g (scan m (from s i)) ≡ passed.To (cursorAt (place m (afterRun (λ u. not (endOfLine u)) (drop 2 (from s i))))) (push GapKind.lineComment g)
+  unfolding scanLine
+  pass-line o = ap (passedOf m g) (scan-by m (from s i) Start.line (starts-line (from s i) o))
 
-  pub pass-block : (e : Cursor) (f : Gap) → f ≡ push GapKind.blockComment g → opensBlock (from s i) ≡ true → shut.At e ≡ closedOf m (close 0 0 (drop 2 (from s i)))
-      → passed.To e f ≡ passedOf m g (scan m (from s i))
-  unfolding closedOf
-  pass-block e f y o q = ap (passed.To e) y ∙ go (close 0 0 (drop 2 (from s i))) refl q
-    where
-      go : (x : Option Text) → close 0 0 (drop 2 (from s i)) ≡ x → shut.At e ≡ closedOf m x → passed.To e (push GapKind.blockComment g) ≡ passedOf m g (scan m (from s i))
-      go none p q = zero-one (cc)
-      go (some r) p q =
-          let b : cursorAt (place m r) ≡ e = cc in
-          sym (ap (passedOf m g) (block-scan s i o ∙ ap (blockOr (from s i)) p) ∙ ap (λ z. passed.To z (push GapKind.blockComment g)) b)
+  abbrev pub passedBy : Closed → Passed
+  passedBy (shut.At e) = passed.To e (push GapKind.blockComment g)
+  passedBy shut.Open = passed.Open
 
-  pub pass-open : opensBlock (from s i) ≡ true → shut.Open ≡ closedOf m (close 0 0 (drop 2 (from s i))) → passed.Open ≡ passedOf m g (scan m (from s i))
+  pub pass-block : opensBlock (from s i) ≡ true → passedOf m g (scan m (from s i)) ≡ passedBy (closedOf m (close 0 0 (drop 2 (from s i))))
   unfolding closedOf
-  pass-open o q = go (close 0 0 (drop 2 (from s i))) refl q
+  pass-block o = ap (passedOf m g) (block-scan s i o) ∙ go (close 0 0 (drop 2 (from s i)))
     where
-      go : (x : Option Text) → close 0 0 (drop 2 (from s i)) ≡ x → shut.Open ≡ closedOf m x → passed.Open ≡ passedOf m g (scan m (from s i))
-      go none p q = sym (ap (passedOf m g) (block-scan s i o ∙ ap (blockOr (from s i)) p))
-      go (some r) p q = zero-one (cc)
+      go : (x : Option Text) → passedOf m g (blockOr (from s i) x) ≡ passedBy (closedOf m x)
+      go none = refl
+      go (some r) = refl
 
   -- past a comment the search goes on from its end
   pub pass-on : (e : Cursor) (f : Gap) → opensComment (from s i) ≡ true → passed.To e f ≡ passedOf m g (scan m (from s i))
@@ -486,15 +450,22 @@ module _ (s : List ℕ) (i : ℕ) (g : Gap) (h : i < length s) where
           let w = later-place s i r h (rw t y) in
           (omega arith, omega arith, ap (seek m 0 f) u ∙ sym (ap (seek m 0 g) t ∙ comment-on m g _ _ r k (comment-kind m (from s i) k r o p) (ap (scan m) (sym t) ∙ p) ∙ ap (λ z. seek m 0 z r) b))
 
-  pub pass-none : opensComment (from s i) ≡ true → passed.Open ≡ passedOf m g (scan m (from s i)) → next.Refused 2 i ≡ nextOf m (seek m 0 g (from s i))
+  pub pass-none : opensComment (from s i) ≡ true → passed.Open ≡ passedOf m g (scan m (from s i)) → nextOf m (seek m 0 g (from s i)) ≡ next.Refused 2 i
   unfolding nextOf
   pass-none o q = go (scan m (from s i)) refl q
     where
-      go : (x : Found) → scan m (from s i) ≡ x → passed.Open ≡ passedOf m g x → next.Refused 2 i ≡ nextOf m (seek m 0 g (from s i))
+      go : (x : Found) → scan m (from s i) ≡ x → passed.Open ≡ passedOf m g x → nextOf m (seek m 0 g (from s i)) ≡ next.Refused 2 i
       go (Found.gap k r) p q = zero-one (cc)
       go (Found.token k r) p q = absurd (comment-token m (from s i) k r o p)
       go (Found.stuck j r) p q =
           let t = at-char s i h in
           let y = comment-stuck m (from s i) j r o p in
           let w = seek-stuck m g _ _ r j (ap (scan m) (sym t) ∙ p) in
-          sym (ap (λ u. nextOf m (seek m 0 g u)) t ∙ ap (nextOf m) w ∙ ap (λ z. next.Refused z (place m r)) y.0 ∙ ap (λ u. next.Refused 2 (place m u)) y.1 ∙ ap (next.Refused 2) (place-from s i (omega arith)))
+          ap (λ u. nextOf m (seek m 0 g u)) t ∙ ap (nextOf m) w ∙ ap (λ z. next.Refused z (place m r)) y.0 ∙ ap (λ u. next.Refused 2 (place m u)) y.1 ∙ ap (next.Refused 2) (place-from s i (omega arith))
+
+pub place-of : (s : List ℕ) (i : ℕ) → i ≤ length s → place (length s) (from s i) ≡ i
+place-of = place-from
+
+pub ruleset passes = (opens-line, pass-line, pass-block, place-of)
+
+pub ruleset stops = (cr-byte, next-lf, no-line-end)

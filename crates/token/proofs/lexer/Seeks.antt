@@ -122,6 +122,9 @@ pub left-at : (script : List ℕ) (i : ℕ) (r : Text) → Suffix r (from script
 left-at script i r h = text-place script r (text-suffix script r (from script i) h (i, refl))
 
 -- nothing is left
-pub seek-none : (s : List ℕ) (i : ℕ) (g : Gap) → length s ≤ i → next.End (cutOf g) ≡ nextOf (length s) (seek (length s) 0 g (from s i))
+pub seek-none : (s : List ℕ) (i : ℕ) (g : Gap) → length s ≤ i → nextOf (length s) (seek (length s) 0 g (from s i)) ≡ next.End (cutOf g)
 unfolding nextOf seek
-seek-none s i g h = sym (ap (λ u. nextOf (length s) (seek (length s) 0 g u)) (at-end s i h))
+seek-none s i g h = ap (λ u. nextOf (length s) (seek (length s) 0 g u)) (at-end s i h)
+
+-- past blanks
+pub ruleset past_blanks = (seek-blanks, blanks-done)
