@@ -65,7 +65,7 @@ pub fn replay<C: Case>(list: &[u8]) -> Counts
         at = one.next;
     }
     Counts {
-        cases: cases,
-        differ: differ,
+        cases,
+        differ,
     }
 }

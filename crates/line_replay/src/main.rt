@@ -139,13 +139,13 @@ impl Case for Places {
         }
         if room > ROOM_NUMBERS {
             return Replayed {
-                next: next,
+                next,
                 agrees: false,
             };
         }
         let mut lent = number_space(four(list, at + 8) as u32);
         Replayed {
-            next: next,
+            next,
             agrees: agrees(
                 &mut lent[..room],
                 list,

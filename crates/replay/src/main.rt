@@ -102,13 +102,13 @@ impl Case for Scripts {
         let room = four(list, at + 4) as usize;
         if room > ROOM_BYTES {
             return Replayed {
-                next: next,
+                next,
                 agrees: false,
             };
         }
         let mut lent = untouched_space();
         Replayed {
-            next: next,
+            next,
             agrees: agrees(
                 &mut lent[..room],
                 list,

@@ -84,12 +84,12 @@ impl Case for Rolls {
         }
         if !roll_agrees(list, at + 8, &list[start..end]) {
             return Replayed {
-                next: next,
+                next,
                 agrees: false,
             };
         }
         Replayed {
-            next: next,
+            next,
             agrees: records_agree(list, &list[start..end], end, count),
         }
     }

@@ -90,14 +90,13 @@ pub fn hex_ahead(s: &[u8], c: Cursor) -> bool
     requires { c.at ≤ length s.now }
     ensures { result ≡ hexAhead (from s.now c.at) }
 {
-    let at = c.at;
-    if byte_at(s, at) != 0x30 {
+    if byte_at(s, c.at) != 0x30 {
         return false;
     }
-    if byte_at(s, at + 1) != 0x78 {
+    if byte_at(s, c.at + 1) != 0x78 {
         return false;
     }
-    is_digit(byte_at(s, at + 2), 16)
+    is_digit(byte_at(s, c.at + 2), 16)
 }
 
 // The number from its digits on; start is where it begins. One walk finds the digits' end and their value.
@@ -147,9 +146,8 @@ pub fn lex_number(s: &[u8], c: Cursor) -> Piece
     requires { c.at ≤ length s.now }
     ensures { result ≡ pieceOf (length s.now) (scanNumber (from s.now c.at)) }
 {
-    let at = c.at;
     if hex_ahead(s, c) {
-        return number_from(s, at, Cursor { at: at + 2 }, 16);
+        return number_from(s, c.at, Cursor { at: c.at + 2 }, 16);
     }
-    number_from(s, at, c, 10)
+    number_from(s, c.at, c, 10)
 }

@@ -219,7 +219,7 @@ pub fn read_record(bytes: &[u8], at: usize) -> Held
     let length = two(bytes, at);
     Held {
         number: two(bytes, at + 2),
-        length: length,
+        length,
         values: read_values(bytes, at + TokenKind::HEAD_LENGTH as usize, length),
         start: four(bytes, at + 4),
         end: four(bytes, at + 8),

@@ -54,7 +54,7 @@ impl Gap {
             newline: self.newline,
             comment: true,
             pending: false,
-            cut: cut,
+            cut,
         }
     }
 
@@ -66,7 +66,7 @@ impl Gap {
             newline: self.newline,
             comment: true,
             pending: self.newline,
-            cut: cut,
+            cut,
         }
     }
 
@@ -145,10 +145,7 @@ fn pass_openings(s: &[u8], at: usize) -> Nest
         i += 8;
         depth += 4;
     }
-    Nest {
-        at: i,
-        depth: depth,
-    }
+    Nest { at: i, depth }
 }
 
 // From inside a comment, with so many more open: past the outermost's end. What is neither `*` nor `/` is passed by eights first, since most
@@ -228,7 +225,7 @@ pub fn block_end(s: &[u8], at: usize) -> usize
     requires { (at ≤ length s.now) × (opensBlock (from s.now at) ≡ true) }
     ensures { result ≡ blockEnd s.now at }
 {
-    let closed = Cursor { at: at }.consume_block_comment(s);
+    let closed = Cursor { at }.consume_block_comment(s);
     let Closed::At(end) = closed else {
         return at;
     };

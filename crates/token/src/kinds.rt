@@ -188,7 +188,7 @@ impl Form {
         ensures { result ≡ plainForm number }
     {
         Form {
-            number: number,
+            number,
             length: TokenKind::HEAD_LENGTH,
             values: 0,
         }

@@ -35,10 +35,9 @@ fn lex_word(s: &[u8], c: Cursor) -> Piece
     requires { (c.at < length s.now) × (isAny wordless (from s.now c.at) ≡ false) × (opensComment (from s.now c.at) ≡ false) }
     ensures { result ≡ pieceOf (length s.now) (scan (length s.now) (from s.now c.at)) }
 {
-    let at = c.at;
-    let b = s[at];
+    let b = s[c.at];
     if chars::classes::is_ascii_start(b) {
-        return crate::ident::lex_ident(s, c, Cursor { at: at + 1 });
+        return crate::ident::lex_ident(s, c, Cursor { at: c.at + 1 });
     }
     if 0x80 <= b {
         return lex_wide_word(s, c);
@@ -46,7 +45,7 @@ fn lex_word(s: &[u8], c: Cursor) -> Piece
     if chars::classes::is_op_byte(b) {
         return crate::ident::lex_op_run(s, c);
     }
-    Piece::Refused(3, at)
+    Piece::Refused(3, c.at)
 }
 
 // The same by the character that stands there. A Russian letter is recognised from its bytes; an operator sign needs no table.
@@ -127,10 +126,8 @@ fn stop_at(s: &[u8], c: Cursor, g: Gap) -> Next
     requires { (c.at < length s.now) × (isAny " \t" (from s.now c.at) ≡ false) × (opensComment (from s.now c.at) ≡ false) }
     ensures { result ≡ nextOf (length s.now) (seek (length s.now) 0 g (from s.now c.at)) }
 {
-    let at = c.at;
-    let b = s[at];
-    match b {
-        0x0A => Next::LineEnd(at, Cursor { at: at + 1 }, g.comment, g.line_end()),
+    match s[c.at] {
+        0x0A => Next::LineEnd(c.at, Cursor { at: c.at + 1 }, g.comment, g.line_end()),
         0x0D => return_at(s, c, g),
         _ => token_at(s, c, g),
     }
@@ -142,11 +139,10 @@ fn return_at(s: &[u8], c: Cursor, g: Gap) -> Next
     requires { (c.at < length s.now) × (isAny "\r" (from s.now c.at) ≡ true) }
     ensures { result ≡ nextOf (length s.now) (seek (length s.now) 0 g (from s.now c.at)) }
 {
-    let at = c.at;
-    if two_at(s, at, 0x0D, 0x0A) {
-        return Next::LineEnd(at, Cursor { at: at + 2 }, g.comment, g.line_end());
+    if two_at(s, c.at, 0x0D, 0x0A) {
+        return Next::LineEnd(c.at, Cursor { at: c.at + 2 }, g.comment, g.line_end());
     }
-    Next::Refused(1, at)
+    Next::Refused(1, c.at)
 }
 
 // Past the comment that begins there.

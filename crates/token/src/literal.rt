@@ -40,7 +40,7 @@ fn literal_end(s: &[u8], v: u64, end: usize) -> NumberLit
             long: true,
         },
         _ => NumberLit {
-            end: end,
+            end,
             value: v,
             long: false,
         },
@@ -73,18 +73,12 @@ fn full_end(s: &[u8], v: u64, end: usize, base: u64) -> NumberLit
 {
     if digit_of(byte_at(s, end)) < base {
         return NumberLit {
-            end: end,
+            end,
             value: ABOVE_ALL,
             long: false,
         };
     }
     literal_end(s, v, end)
-}
-
-fn wide(b: u8) -> u64
-    ensures { result ≡ b }
-{
-    b as u64
 }
 
 // The number of base 10 that begins there, if its digits are fewer than 20.
@@ -96,7 +90,7 @@ fn decimal_number(s: &[u8], start: usize) -> NumberLit
     let mut v: u64 = 0;
     let mut i = start;
     while i < stop {
-        let b = wide(s[i]);
+        let b = s[i] as u64;
         if (b < 0x30) | (0x39 < b) {
             return literal_end(s, v, i);
         }
@@ -111,7 +105,7 @@ pub fn digit_value(s: &[u8], at: usize) -> u64
     requires { (at < length s.now) × (isDigit (get_or s.now at 0) ≡ true) }
     ensures { result ≡ digitValue (get_or s.now at 0) }
 {
-    wide(s[at]) % 16
+    s[at] as u64 % 16
 }
 
 // The number that begins there with a digit, behind which a byte of the class e stands: behind a digit no `0x` has to be looked for.
@@ -122,7 +116,7 @@ pub fn literal_at(s: &[u8], e: u8, at: usize) -> NumberLit
     if e == DIGIT {
         return decimal_number(s, at);
     }
-    if hex_ahead(s, Cursor { at: at }) {
+    if hex_ahead(s, Cursor { at }) {
         return hex_number(s, at);
     }
     decimal_number(s, at)

@@ -20,7 +20,7 @@ pub fn here_at(s: &[u8], t: &[u8; 256], at: usize) -> Here
     ensures { result ≡ hereOf s.now at }
 {
     Here {
-        at: at,
+        at,
         class: class_at(s, t, at),
     }
 }

@@ -182,19 +182,13 @@ pub fn string_at(s: &[u8], t: &[u8; 256], at: usize, prefixed: bool) -> Quoted
         if end == at + 3 {
             return Quoted { end: at, quotes: 3 };
         }
-        return Quoted {
-            end: end,
-            quotes: 3,
-        };
+        return Quoted { end, quotes: 3 };
     }
     let end = single_end(s, t, at + 1, prefixed);
     if end == at + 1 {
         return Quoted { end: at, quotes: 1 };
     }
-    Quoted {
-        end: end,
-        quotes: 1,
-    }
+    Quoted { end, quotes: 1 }
 }
 
 // Where the backtick ends that begins there; the place itself, where it is open or empty.

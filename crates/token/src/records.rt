@@ -62,8 +62,8 @@ fn stand_of(x: Walked) -> Stand
     Stand {
         at: x.at,
         gap: Gap {
-            newline: newline,
-            comment: comment,
+            newline,
+            comment,
             pending: false,
             cut: false,
         },

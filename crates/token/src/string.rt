@@ -26,17 +26,16 @@ pub fn consume_escape(s: &[u8], c: Cursor) -> Ended
     requires { c.at ≤ length s.now }
     ensures { result ≡ escapeOf (length s.now) (from s.now c.at) }
 {
-    let at = c.at;
-    if s.len() <= at {
-        return Ended::Refused(12, at);
+    if s.len() <= c.at {
+        return Ended::Refused(12, c.at);
     }
-    let code = s[at];
-    let next = Cursor { at: at + 1 };
+    let code = s[c.at];
+    let next = Cursor { at: c.at + 1 };
     match code {
         0x62 | 0x74 | 0x6E | 0x66 | 0x72 | 0x27 | 0x22 | 0x5D => Ended::At(next),
         0x30..=0x39 => Ended::At(consume_digits(s, next, 10, 2)),
         0x75 => consume_hexes(s, next),
-        _ => Ended::Refused(14, at),
+        _ => Ended::Refused(14, c.at),
     }
 }
 
@@ -107,20 +106,11 @@ fn single_item(s: &[u8], c: Cursor, prefixed: bool) -> Ended
     requires { c.at < length s.now }
     ensures { result ≡ singleItem prefixed s.now c.at }
 {
-    let at = c.at;
-    let next = Cursor { at: at + 1 };
-    match s[at] {
-        0x0A => Ended::Refused(8, at),
-        0x24 => if prefixed {
-            consume_interp_dollar(s, c)
-        } else {
-            Ended::At(next)
-        },
-        0x5C => if prefixed {
-            Ended::At(next)
-        } else {
-            consume_escape(s, next)
-        },
+    let next = Cursor { at: c.at + 1 };
+    match s[c.at] {
+        0x0A => Ended::Refused(8, c.at),
+        0x24 if prefixed => consume_interp_dollar(s, c),
+        0x5C if !prefixed => consume_escape(s, next),
         _ => Ended::At(next),
     }
 }
@@ -133,9 +123,8 @@ fn lex_single_string(s: &[u8], c: Cursor, prefixed: bool) -> Ended
 {
     let mut d = skip_ordinary(s, Cursor { at: c.at + 1 });
     while d.at < s.len() {
-        let at = d.at;
-        if s[at] == 0x22 {
-            return Ended::At(Cursor { at: at + 1 });
+        if s[d.at] == 0x22 {
+            return Ended::At(Cursor { at: d.at + 1 });
         }
         let item = single_item(s, d, prefixed);
         let Ended::At(next) = item else {
@@ -180,15 +169,10 @@ fn triple_item(s: &[u8], c: Cursor, prefixed: bool) -> Ended
     requires { c.at < length s.now }
     ensures { result ≡ tripleItem prefixed s.now c.at }
 {
-    let at = c.at;
-    let next = Cursor { at: at + 1 };
-    match s[at] {
-        0x24 => if prefixed {
-            consume_interp_dollar(s, c)
-        } else {
-            Ended::At(next)
-        },
-        0x5C => Ended::Refused(10, at),
+    let next = Cursor { at: c.at + 1 };
+    match s[c.at] {
+        0x24 if prefixed => consume_interp_dollar(s, c),
+        0x5C => Ended::Refused(10, c.at),
         _ => Ended::At(next),
     }
 }

@@ -270,8 +270,7 @@ fn digit_step(out: &mut [u8], s: &[u8], x: Walked, end: Here) -> Walked
     requires { (length s.now ≤ mostBytes) × Good s.now x × (eqb x.class digitClass ≡ true) × (end ≡ hereOf s.now (x.at + 1)) × (inWord end.class ≡ false) }
     ensures { Steps s.now x out.old result out.new }
 {
-    let at = x.at;
-    put_int_if(out, x.bytes, at, end.at, digit_value(s, at));
+    put_int_if(out, x.bytes, x.at, end.at, digit_value(s, x.at));
     behind_values(x, end, INT)
 }
 

@@ -1,9 +1,9 @@
 -- Stores that follow one another are one store; what each writer of src/write.rt stores is one list.
-use Prim.Native.Nat.{ℕ, suc, ◌≤◌, ◌<◌, ◌+◌, ◌/◌, ◌%◌}
+use Prim.Native.Nat.{ℕ, suc, ◌≤◌, ◌+◌, ◌/◌, ◌%◌}
 use mathlib.Core.Path.{◌≡◌, refl, sym, ◌∙◌, ap}
 use mathlib.Core.List.{List, [], ◌∷◌, ◌++◌, append-nil}
-use lib.ListN.{length, set, take, drop, get_or}
-use lib.Seq.{sets, sets-eq, length-take-le, take-suc, drop-length}
+use lib.ListN.{length, set, take, drop}
+use lib.Seq.{sets, sets-eq, length-take-le, drop-length}
 use native.Mathlib.Nat.{add-zero, zero-add}
 use native.Mathlib.Numerals.{add-one, add-two, add-three}
 use native.Mathlib.Omega.{arith}
@@ -17,15 +17,16 @@ sets-append l i (x ∷ a) b = let e : i + suc (length a) ≡ suc i + length a = 
 pub after : (a b l m : List ℕ) (i j : ℕ) → m ≡ sets l i a → j ≡ i + length a → sets m j b ≡ sets l i (a ++ b)
 after a b l m i j e f = rw (e, f) (sym (sets-append l i a b))
 
--- one more byte of a list that is stored from its front on
-pub copy-more : (l m src : List ℕ) (i : ℕ) → i < length src → m ≡ sets l 0 (take i src) → set m i (get_or src i 0) ≡ sets l 0 (take (i + 1) src)
-copy-more l m src i h e =
-    after (take i src) (get_or src i 0 ∷ []) l m 0 i e (sym (zero-add _ ∙ length-take-le i src (omega arith)))
-    ∙ ap (sets l 0) (sym (ap (λ k. take k src) (add-one i) ∙ take-suc src i 0 h))
-
 -- a store from the front keeps what is past it
 pub sets-front : (l v : List ℕ) → length v ≤ length l → sets l 0 v ≡ v ++ drop (length v) l
 sets-front l v h = sets-eq v l 0 (omega arith) ∙ ap (λ k. v ++ drop k l) (zero-add (length v))
+
+-- the first part of a list in the place of as many
+pub copied : (l src : List ℕ) (n : ℕ) → n ≤ length l → n ≤ length src → take n src ++ drop n l ≡ sets l 0 (take n src)
+copied l src n h k =
+    let e = length-take-le n src k in
+    let fits : length (take n src) ≤ length l = rw e h in
+    sym (sets-front l (take n src) fits ∙ ap (λ m. take n src ++ drop m l) e)
 
 -- and one over the whole list leaves nothing of it
 pub whole : (l v : List ℕ) → length l ≡ length v → sets l 0 v ≡ v

@@ -4,13 +4,6 @@ ghost use Rattle.std.specs.Prelude.{◌≡◌, ◌+◌, ◌<◌, ◌≤◌};
 ghost use Rattle.words.specs.Words.{oneAt, twoAt, fourAt, eightAt};
 ghost use Rattle.words.specs.Joins.{Joins};
 
-fn wide(x: u8) -> u64
-    ensures value { result ≡ x }
-    ensures upper_bound { result < 256 }
-{
-    x as u64
-}
-
 pub fn one(bytes: &[u8], at: usize) -> u64
     ensures value { result ≡ oneAt bytes.now at }
     ensures upper_bound { result < 256 }
@@ -18,7 +11,7 @@ pub fn one(bytes: &[u8], at: usize) -> u64
     if at >= bytes.len() {
         return 0;
     }
-    wide(bytes[at])
+    bytes[at] as u64
 }
 
 pub fn two(bytes: &[u8], at: usize) -> u64

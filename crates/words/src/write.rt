@@ -22,15 +22,12 @@ pub fn put8(out: &mut [u8], w: usize, x: u64)
 }
 
 // The first n bytes of a buffer into another.
+#[tactic(auto, using(crate::proofs::Stores::copied))]
 pub fn copy(out: &mut [u8], src: &[u8], n: usize)
     requires { (n ≤ length out.old) × (n ≤ length src.now) }
     ensures { out.new ≡ sets out.old 0 (take n src.now) }
 {
-    let mut i = 0;
-    while i < n {
-        out[i] = src[i];
-        i += 1;
-    }
+    out[..n].copy_from_slice(&src[..n]);
 }
 
 // Four numbers of four bytes, from w on.
