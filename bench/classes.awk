@@ -6,8 +6,7 @@ BEGIN { print "/*!re2c" }
     text = ""
 }
 /^ *0x/ {
-    end = substr($1, 3, 4)
-    text = text (ends++ % 2 ? "-" : "") "\\u" end
+    for (i = 1; i <= NF; i++) text = text (ends++ % 2 ? "-" : "") "\\u" substr($i, 3, 4)
 }
 /^\];/ { print name " = [" text "];" }
 END { print "*/" }

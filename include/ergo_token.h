@@ -1,8 +1,8 @@
-/* ErgoScript tokens as records: the six functions of crates/ergo, for C and C++. `rt staticlib ergo` makes the library,
- * target/staticlib/libergo.a, for x86-64 Linux. Tokenizing takes some 12 kB of stack, reading stored records less than 200 bytes, lines and columns
- * some 200. The library allocates nothing, and calls nothing but memcpy and memset, which the compiler puts in; a host without a C library must
- * have these two. It keeps nothing between calls: calls from several threads at once are fine as long as no two of them lend the same bytes for
- * writing.
+/* ErgoScript tokens as records: the six functions of crates/ergo, for C and C++. `rt lib`, in that folder, makes the library,
+ * crates/ergo/out/libergo.a, for Linux on x86-64 processors of level v2 (SSE4.2). Tokenizing takes at most some 12 kB of stack, reading stored
+ * records less than 200 bytes, lines and columns some 200. The library allocates nothing, and calls nothing but memcpy and memset, which the
+ * compiler puts in; a host without a C library must have these two. It keeps nothing between calls: calls from several threads at once are fine as
+ * long as no two of them lend the same bytes for writing.
  *
  * All places are byte offsets from 0: those of tokens and of refusals 1 to 18 into the script, those of refusals 22 to 24 into the roll. All
  * numbers in records and answer blocks are unsigned and little-endian. Those of an index of line starts are uint32_t, in the machine's own byte

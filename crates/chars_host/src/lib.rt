@@ -1,5 +1,5 @@
-// The functions of crates/chars for hosts written in C or Rust, and for the comparisons of compare/utf8. `rt staticlib chars_host` makes the
-// library, target/staticlib/libchars_host.a. A slice is passed as a pointer and a length.
+// The functions of crates/chars for hosts written in C or Rust, and for the comparisons of compare/utf8. `rt lib`, in this
+// crate's folder, makes the library, out/libchars_host.a. A slice is passed as a pointer and a length.
 #![tactic(auto)]
 
 ghost use Rattle.std.specs.Prelude.{◌≡◌, cond, ◌≤◌};

@@ -1,4 +1,4 @@
-// Replays lines and columns that another program counted, which calls nothing of the crates. `rt check line_replay` runs it on `stdin`, which
+// Replays lines and columns that another program counted, which calls nothing of the crates. `rt ci` runs it on `stdin`, which
 // `compare/lines` wrote, and holds what it prints to `stdout`.
 //
 // Standard input holds cases, one directly after the other, up to its end. Numbers are four bytes each, little-endian. A case is

@@ -1,4 +1,4 @@
-// Listings of many scripts: for each case a line `-- K`, counted from 1, and the script's listing. `rt check listing_cases` runs it on `stdin`
+// Listings of many scripts: for each case a line `-- K`, counted from 1, and the script's listing. `rt ci` runs it on `stdin`
 // and holds what it prints to `stdout`; `compare/tokenize FOLDER --listing` wrote both, the listings by the published tokenize alone.
 //
 // Standard input holds cases, one directly after the other. A case is four decimal digits, the script's length, a line feed, and the script.

@@ -1,4 +1,4 @@
-// Replays answers of the published tokenize. `rt check replay` runs it on `stdin`, which `compare/tokenize FOLDER --list` wrote, and holds
+// Replays answers of the published tokenize. `rt ci` runs it on `stdin`, which `compare/tokenize FOLDER --list` wrote, and holds
 // what it prints to `stdout`.
 //
 // Standard input holds cases, one directly after the other, up to its end. Numbers are four bytes each, little-endian. A case is

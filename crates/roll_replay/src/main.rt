@@ -1,4 +1,4 @@
-// Replays the answers of a second reader of rolls, which calls nothing of the crates. `rt check roll_replay` runs it on `stdin`, which
+// Replays the answers of a second reader of rolls, which calls nothing of the crates. `rt ci` runs it on `stdin`, which
 // `compare/rolls` wrote, and holds what it prints to `stdout`.
 //
 // Standard input holds cases, one directly after the other, up to its end. Numbers are four bytes each, little-endian. A case is

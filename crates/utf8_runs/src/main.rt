@@ -1,6 +1,6 @@
 // The longest valid UTF-8 prefix of every sequence of one, two and three bytes, and of those of four bytes whose last two bytes are
 // 7F, 80, BF or C0. Each line has the length, the first byte in hexadecimal (or `all`), and how many of these
-// sequences have a longest valid prefix of 0, 1, 2, 3 and 4 bytes. `rt check utf8_runs` holds what it writes to `stdout`, which compare/utf8
+// sequences have a longest valid prefix of 0, 1, 2, 3 and 4 bytes. `rt ci` holds what it writes to `stdout`, which compare/utf8
 // --summary made of Rust's std::str::from_utf8.
 #![tactic(auto)]
 
