@@ -64,8 +64,5 @@ pub fn replay<C: Case>(list: &[u8]) -> Counts
         }
         at = one.next;
     }
-    Counts {
-        cases,
-        differ,
-    }
+    Counts { cases, differ }
 }

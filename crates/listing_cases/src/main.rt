@@ -9,9 +9,9 @@ ghost use Rattle.listing_cases.specs.Cases.{digit as digitOf, scriptLength, case
 ghost use Rattle.std.proofs.lemmas.List.Edits.{sets};
 ghost use Rattle.io.specs.Counts.{IsPrefixLen};
 
+use listing_text::TEXT_BYTES;
 use std::io;
 use std::io::Read;
-use listing_text::TEXT_BYTES;
 
 const HEAD_BYTES: usize = 5;
 

@@ -13,7 +13,7 @@ loop-at-preserved-then-not-one g c =
     record {
       counted = replays-differ c.loop-at.invariant.counted c.loop-at-test.true one.next_value one.variant (not-true _ c.if-not-one.true);
       few = (omega arith, omega arith);
-      within = omega arith
+      within = omega arith;
     }
 
 pub loop-at-preserved : goal.loop-at-preserved
@@ -22,5 +22,5 @@ loop-at-preserved g c =
     record {
       counted = replays-agree c.loop-at.invariant.counted c.loop-at-test.true one.next_value one.variant (not-false _ c.if-not-one.false);
       few = (omega arith, omega arith);
-      within = omega arith
+      within = omega arith;
     }

@@ -7,7 +7,7 @@ abbrev pub invariant-loop-at : goal.invariant-loop-at
 invariant-loop-at g l = record {
   counted : Replays l.list (g.C.Case.next l.list) (g.C.Case.agrees l.list) l.at l.cases l.differ;
   few : (l.cases ≤ l.at) × (l.differ ≤ l.cases);
-  within : l.at ≤ length l.list
+  within : l.at ≤ length l.list;
 }
 
 abbrev pub decreases-loop-at : goal.decreases-loop-at
