@@ -31,7 +31,7 @@ use Rattle.listing_text.proofs.TokenLines.{records-shown}
 open valid-laws use {valid, longest-one, valid-all}
 
 -- no more of a list than it has
-take_min : (a : ℕ) (l : List ℕ) → take (min a (length l)) l ≡ take a l
+pub take_min : (a : ℕ) (l : List ℕ) → take (min a (length l)) l ≡ take a l
 take_min a l = go (leb a (length l)) refl
   where
     go : (b : Bool) → leb a (length l) ≡ b → take (min a (length l)) l ≡ take a l
@@ -42,18 +42,6 @@ take_min a l = go (leb a (length l)) refl
     go false e =
         let h = leb-false a (length l) e in
         take_all (min a (length l)) l (omega arith) ∙ sym (take_all a l (omega arith))
-
-pub accepted-text : (number n f : ℕ) (records block : List ℕ) → number ≡ 0 → f ≡ fourAt block 12 → n ≡ min f (length records)
-    → recordLines (take n records) ≡ answerText (seen number records block)
-unfolding answerText
-accepted-text number n f records block z e m =
-    let k = m ∙ ap (λ x. min x (length records)) e in
-    simp (eq-eqb number 0 z) (ap recordLines (ap (λ i. take i records) k ∙ take_min (fourAt block 12) records))
-
-pub refused-text : (number place : ℕ) (records block : List ℕ) → (number ≡ 0 → ⊥) → place ≡ fourAt block 4
-    → refusedAt number place ≡ answerText (seen number records block)
-unfolding answerText
-refused-text number place records block z e = simp (ne_eqb number 0 z) (ap (refusedAt number) e)
 
 -- ---- the listing
 
@@ -98,9 +86,9 @@ seen-text {script} (Sees.eighteen {n} z v l) b s m =
 seen-text {script} {buffer} (Sees.refused {j} {a} c h) b s m =
     let place = refused-within script j a h in
     let least = (met-range h.first.met).0 in
-    sym (refused-text j (fourAt (block_of j a 0 0) 4) buffer (block_of j a 0 0) (λ z. omega arith) refl)
-    ∙ ap (refusedAt j) (block-place j a 0 0 (omega arith))
-    ∙ listed-refused script (omega arith) c.utf8 j a ((refusal script j a).1 h)
+    let some : j ≡ 0 → ⊥ = λ z. omega arith in
+    simp (ne_eqb j 0 some)
+    (ap (refusedAt j) (block-place j a 0 0 (omega arith)) ∙ listed-refused script (omega arith) c.utf8 j a ((refusal script j a).1 h))
 seen-text {script} (Sees.nineteen {ts} r l) b s m =
     let n = need script ts (answer-tokens script ts r.tokensOf) in
     absurd (omega arith)
@@ -114,7 +102,7 @@ seen-text {script} {buffer} (Sees.accepted {ts} r l) b s m =
     ∙ records-shown (length script) (omega arith) ts (all-bounded script ts r.tokensOf)
     ∙ listed-tokens script (omega arith) r.clean.utf8 ts e
 
-pub long-text : (script : List ℕ) → mostScript < length script → codes "long\n" ≡ printed script
+pub long-text : (script : List ℕ) → mostScript < length script → printed script ≡ codes "long\n"
 unfolding printed
 long-text script h = simp (lt-leb (length script) mostScript h)
 
@@ -122,10 +110,10 @@ zeros-length : (n : ℕ) → length (zeros n) ≡ n
 unfolding zeros
 zeros-length n = length-replicate n 0
 
-pub short-text : (script r b : List ℕ) (s : Seen) → length script ≤ mostScript → r ≡ zeros recordsRoom → b ≡ zeros 16 → s ≡ hostOf script r b
-    → answerText s ≡ printed script
+pub short-text : (script : List ℕ) → length script ≤ mostScript → answerText (hostOf script (zeros recordsRoom) (zeros 16)) ≡ printed script
 unfolding printed
-short-text script r b s h er eb e =
-    let room : length r ≡ recordsRoom = ap length er ∙ zeros-length recordsRoom in
-    let sixteen : length b ≡ 16 = ap length eb ∙ zeros-length 16 in
-    simp (le-leb (length script) mostScript h) (ap answerText e ∙ seen-text (sees-host script r b) sixteen h (omega arith))
+short-text script h =
+    let room = zeros-length recordsRoom in
+    simp (le-leb (length script) mostScript h) (seen-text (sees-host script (zeros recordsRoom) (zeros 16)) (zeros-length 16) h (omega arith))
+
+pub ruleset texts = (long-text, short-text)

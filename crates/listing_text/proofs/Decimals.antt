@@ -67,3 +67,5 @@ few-digits k n h m = go (leb k 20) refl
         let low : 10 ^ (k - 1) ≤ n = h.2 (omega arith) in
         let p : 10 ^ 20 ≤ 10 ^ (k - 1) = pow-le-pow_right ten more in
         absurd (omega arith)
+
+pub ruleset decimals = (fewest-decimal, few-digits)

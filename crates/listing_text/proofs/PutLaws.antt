@@ -1,11 +1,11 @@
 -- Text put behind text is one text.
 use Prim.Native.Nat.{ℕ, ◌+◌, ◌<◌, ◌≤◌}
 use mathlib.Core.Path.{◌≡◌, refl, sym, ◌∙◌, ap}
-use mathlib.Core.List.{List, [], ◌∷◌, ◌++◌, append-nil}
-use lib.ListN.{length, take, set, get_or, length-append}
-use lib.Seq.{sets, length-take-le, take-suc, take_all}
-use native.Mathlib.Numerals.{add-one}
+use mathlib.Core.List.{List, [], ◌∷◌, ◌++◌, append-nil, append_assoc}
+use lib.ListN.{length, take, drop, set, length-append}
+use lib.Seq.{sets, sets-eq, length-take-le, drop-drop, take_all}
 use native.Mathlib.Omega.{arith}
+use borrow.Rule.Slice.PartMut.{put_mid}
 use Rattle.io.specs.Counts.{IsPrefixLen}
 use Rattle.words.proofs.Stores.{after}
 use Rattle.token.specs.computed.Listing.{decimal, spaced}
@@ -35,15 +35,12 @@ put_as {l} {m} {a} {b} {i} {j} e p = record { stored = p.stored ∙ ap (sets l i
 pub counted : (k : ℕ) (l m : List ℕ) → k ≤ length l → length m ≡ length l → IsPrefixLen k m
 counted k l m h e = let i : k ≤ length m = omega arith in (i, sym (length-take-le k m i))
 
--- ---- byte by byte
+-- ---- a part of what is lent, written over
 
-pub put_next : (l m b : List ℕ) (at i : ℕ) → i < length b → m ≡ sets l at (take i b) → set m (at + i) (get_or b i 0) ≡ sets l at (take (i + 1) b)
-put_next l m b at i h e =
-    let n : at + i ≡ at + length (take i b) = ap (λ k. at + k) (sym (length-take-le i b (omega arith))) in
-    rw add-one (after (take i b) (get_or b i 0 ∷ []) l m at (at + i) e n ∙ ap (sets l at) (sym (take-suc b i 0 h)))
-
-pub put_all : (l m b : List ℕ) (at i : ℕ) → length b ≤ i → m ≡ sets l at (take i b) → Puts l at b m (at + length b)
-put_all l m b at i h e = record { stored = e ∙ ap (sets l at) (take_all i b h); behind = refl }
+pub put_part : (l b m : List ℕ) (at k : ℕ) → m ≡ b → k ≡ length b → at + length b ≤ length l → put_mid at k l m ≡ sets l at b
+put_part l b m at k e n h =
+    let rest : drop k (drop at l) ≡ drop (at + length b) l = drop-drop k at l ∙ ap (λ i. drop (at + i) l) n in
+    rw (e, rest) (sym (sets-eq b l at h ∙ append_assoc (take at l) b _))
 
 -- ---- numbers
 
@@ -55,3 +52,15 @@ put-space {l} {m} {i} {k} v p = put_as (ap (λ t. 32 ∷ t) (sym (append-nil (de
 pub put-more : {l m n : List ℕ} {i j k : ℕ} (v : ℕ) (vs : List ℕ) → Puts l i (spaced (v ∷ [])) m j → Puts m j (spaced vs) n k
     → Puts l i (spaced (v ∷ vs)) n k
 put-more v vs p q = put_as (ap (λ t. (32 ∷ t) ++ spaced vs) (append-nil (decimal v))) (put_on p q)
+
+-- ---- nested
+
+pub put-behind : (l a b : List ℕ) (i j : ℕ) → j ≡ i + length a → sets (sets l i a) j b ≡ sets l i (a ++ b)
+put-behind l a b i j e = after a b l (sets l i a) i j refl e
+
+pub put-byte_behind : (l a : List ℕ) (i j x : ℕ) → j ≡ i + length a → set (sets l i a) j x ≡ sets l i (a ++ x ∷ [])
+put-byte_behind l a i j x e = after a (x ∷ []) l (sets l i a) i j refl e
+
+pub ruleset puts = (put-behind, put-byte_behind, length-append, append_assoc)
+
+pub ruleset values = (puts, take_all)
