@@ -1,13 +1,11 @@
 -- The text of an answer, and of a script.
 use Prim.Native.Nat.{ℕ, ◌<◌, ◌≤◌, min}
-use mathlib.Core.Path.{◌≡◌, refl, sym, ◌∙◌, ap}
-use mathlib.Core.Bool.{Bool, true, false}
+use mathlib.Core.Path.{◌≡◌, sym, ◌∙◌, ap}
 use mathlib.Core.List.{List, [], ◌++◌}
 use lib.ListN.{length, take, drop, length-replicate}
-use lib.Dec.{leb}
 use lib.Seq.{take_all, take_at}
 use native.Mathlib.Omega.{arith}
-use borrow.Author.Tests.{le-leb, lt-leb, leb-true, leb-false, eq-eqb, ne_eqb}
+use borrow.Author.Tests.{le-leb, lt-leb, ne_eqb}
 use Rattle.words.specs.Words.{le4, fourAt, block_of}
 use Rattle.words.proofs.Joins.{four-drop, four-le4}
 use Rattle.chars.specs.paper.Quoted.{codes}
@@ -21,7 +19,7 @@ use Rattle.token.specs.computed.Listing.{shown, refusedAt}
 use Rattle.token.proofs.theorems.Alone.{records-length}
 use Rattle.token.proofs.theorems.Bounded.{all-bounded, refused-within}
 use Rattle.token.proofs.theorems.Theorems.{refusal, need, answer-tokens}
-use Rattle.entry.specs.paper.Host.{Seen, seen, Sees}
+use Rattle.entry.specs.paper.Host.{Seen, Sees}
 use Rattle.entry.specs.computed.Host.{byRoom, verdict, hostOf}
 use Rattle.entry.specs.computed.Listing.{verdictText, listingOf}
 use Rattle.entry.proofs.host.Verdicts.{verdict-18, verdict-rest, room-granted, room-rejected}
@@ -32,16 +30,7 @@ open valid-laws use {valid, longest-one, valid-all}
 
 -- no more of a list than it has
 pub take_min : (a : ℕ) (l : List ℕ) → take (min a (length l)) l ≡ take a l
-take_min a l = go (leb a (length l)) refl
-  where
-    go : (b : Bool) → leb a (length l) ≡ b → take (min a (length l)) l ≡ take a l
-    go true e =
-        let h = leb-true a (length l) e in
-        let m : min a (length l) ≡ a = omega arith in
-        ap (λ k. take k l) m
-    go false e =
-        let h = leb-false a (length l) e in
-        take_all (min a (length l)) l (omega arith) ∙ sym (take_all a l (omega arith))
+take_min a l = grind (arith, take_all)
 
 -- ---- the listing
 
