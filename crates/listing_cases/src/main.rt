@@ -34,6 +34,7 @@ fn digit(list: &[u8], at: usize) -> usize
     code - 0x30
 }
 
+#[tactic(auto, unfolding(crate::specs::Cases::scriptLength))]
 fn script_length(list: &[u8], at: usize) -> usize
     requires { at + 5 ≤ length list.now }
     ensures value { result ≡ scriptLength list.now at }
@@ -46,6 +47,7 @@ fn script_length(list: &[u8], at: usize) -> usize
 }
 
 // Where the script of the case at a place ends.
+#[tactic(auto, unfolding(crate::specs::Cases::caseEnd))]
 fn case_end(list: &[u8], at: usize) -> usize
     requires { at + 5 ≤ length list.now }
     ensures value { result ≡ caseEnd list.now at }
@@ -61,6 +63,7 @@ fn case_end(list: &[u8], at: usize) -> usize
 }
 
 // The text of the case that starts at a place, after `earlier` others, at the start of out. The answer is the text's length.
+#[tactic(auto, unfolding(crate::specs::Cases::case_of, crate::specs::Cases::caseScript))]
 fn put_case(list: &[u8], at: usize, earlier: u64, out: &mut [u8; TEXT_BYTES]) -> usize
     requires { (at + 5 ≤ length list.now) × (at ≡ casePlace list.now earlier) × (earlier ≤ at) }
     ensures value { result ≡ length (case_of list.now earlier) }
@@ -74,6 +77,7 @@ fn put_case(list: &[u8], at: usize, earlier: u64, out: &mut [u8; TEXT_BYTES]) ->
 
 // Writes the text of each case in turn, and hands back how many there are. What is written no contract can say: that of `write_all` has no record
 // of it.
+#[tactic(auto, using(crate::proofs::CaseLaws::cases))]
 fn write_cases(rt: &impl Print, list: &[u8]) -> io::Result<u64>
     ensures { IfOk result (λ written. written ≡ case_count list.now) }
 {

@@ -1,13 +1,11 @@
 -- The text of an answer, and of a script.
 use Prim.Native.Nat.{ℕ, ◌<◌, ◌≤◌, min}
-use mathlib.Core.Path.{◌≡◌, refl, sym, ◌∙◌, ap}
-use mathlib.Core.Bool.{Bool, true, false}
+use mathlib.Core.Path.{◌≡◌, sym, ◌∙◌, ap}
 use mathlib.Core.List.{List, [], ◌++◌}
 use lib.ListN.{length, take, drop, length-replicate}
-use lib.Dec.{leb}
 use lib.Seq.{take_all, take_at}
 use native.Mathlib.Omega.{arith}
-use borrow.Author.Tests.{le-leb, lt-leb, leb-true, leb-false, eq-eqb, ne_eqb}
+use borrow.Author.Tests.{le-leb, lt-leb, ne_eqb}
 use Rattle.words.specs.Words.{le4, fourAt, block_of}
 use Rattle.words.proofs.Joins.{four-drop, four-le4}
 use Rattle.chars.specs.paper.Quoted.{codes}
@@ -21,7 +19,7 @@ use Rattle.token.specs.computed.Listing.{shown, refusedAt}
 use Rattle.token.proofs.theorems.Alone.{records-length}
 use Rattle.token.proofs.theorems.Bounded.{all-bounded, refused-within}
 use Rattle.token.proofs.theorems.Theorems.{refusal, need, answer-tokens}
-use Rattle.entry.specs.paper.Host.{Seen, seen, Sees}
+use Rattle.entry.specs.paper.Host.{Seen, Sees}
 use Rattle.entry.specs.computed.Host.{byRoom, verdict, hostOf}
 use Rattle.entry.specs.computed.Listing.{verdictText, listingOf}
 use Rattle.entry.proofs.host.Verdicts.{verdict-18, verdict-rest, room-granted, room-rejected}
@@ -31,29 +29,8 @@ use Rattle.listing_text.proofs.TokenLines.{records-shown}
 open valid-laws use {valid, longest-one, valid-all}
 
 -- no more of a list than it has
-take_min : (a : ℕ) (l : List ℕ) → take (min a (length l)) l ≡ take a l
-take_min a l = go (leb a (length l)) refl
-  where
-    go : (b : Bool) → leb a (length l) ≡ b → take (min a (length l)) l ≡ take a l
-    go true e =
-        let h = leb-true a (length l) e in
-        let m : min a (length l) ≡ a = omega arith in
-        ap (λ k. take k l) m
-    go false e =
-        let h = leb-false a (length l) e in
-        take_all (min a (length l)) l (omega arith) ∙ sym (take_all a l (omega arith))
-
-pub accepted-text : (number n f : ℕ) (records block : List ℕ) → number ≡ 0 → f ≡ fourAt block 12 → n ≡ min f (length records)
-    → recordLines (take n records) ≡ answerText (seen number records block)
-unfolding answerText
-accepted-text number n f records block z e m =
-    let k = m ∙ ap (λ x. min x (length records)) e in
-    simp (eq-eqb number 0 z) (ap recordLines (ap (λ i. take i records) k ∙ take_min (fourAt block 12) records))
-
-pub refused-text : (number place : ℕ) (records block : List ℕ) → (number ≡ 0 → ⊥) → place ≡ fourAt block 4
-    → refusedAt number place ≡ answerText (seen number records block)
-unfolding answerText
-refused-text number place records block z e = simp (ne_eqb number 0 z) (ap (refusedAt number) e)
+pub take_min : (a : ℕ) (l : List ℕ) → take (min a (length l)) l ≡ take a l
+take_min a l = grind (arith, take_all)
 
 -- ---- the listing
 
@@ -98,9 +75,9 @@ seen-text {script} (Sees.eighteen {n} z v l) b s m =
 seen-text {script} {buffer} (Sees.refused {j} {a} c h) b s m =
     let place = refused-within script j a h in
     let least = (met-range h.first.met).0 in
-    sym (refused-text j (fourAt (block_of j a 0 0) 4) buffer (block_of j a 0 0) (λ z. omega arith) refl)
-    ∙ ap (refusedAt j) (block-place j a 0 0 (omega arith))
-    ∙ listed-refused script (omega arith) c.utf8 j a ((refusal script j a).1 h)
+    let some : j ≡ 0 → ⊥ = λ z. omega arith in
+    simp (ne_eqb j 0 some)
+    (ap (refusedAt j) (block-place j a 0 0 (omega arith)) ∙ listed-refused script (omega arith) c.utf8 j a ((refusal script j a).1 h))
 seen-text {script} (Sees.nineteen {ts} r l) b s m =
     let n = need script ts (answer-tokens script ts r.tokensOf) in
     absurd (omega arith)
@@ -114,7 +91,7 @@ seen-text {script} {buffer} (Sees.accepted {ts} r l) b s m =
     ∙ records-shown (length script) (omega arith) ts (all-bounded script ts r.tokensOf)
     ∙ listed-tokens script (omega arith) r.clean.utf8 ts e
 
-pub long-text : (script : List ℕ) → mostScript < length script → codes "long\n" ≡ printed script
+pub long-text : (script : List ℕ) → mostScript < length script → printed script ≡ codes "long\n"
 unfolding printed
 long-text script h = simp (lt-leb (length script) mostScript h)
 
@@ -122,10 +99,10 @@ zeros-length : (n : ℕ) → length (zeros n) ≡ n
 unfolding zeros
 zeros-length n = length-replicate n 0
 
-pub short-text : (script r b : List ℕ) (s : Seen) → length script ≤ mostScript → r ≡ zeros recordsRoom → b ≡ zeros 16 → s ≡ hostOf script r b
-    → answerText s ≡ printed script
+pub short-text : (script : List ℕ) → length script ≤ mostScript → answerText (hostOf script (zeros recordsRoom) (zeros 16)) ≡ printed script
 unfolding printed
-short-text script r b s h er eb e =
-    let room : length r ≡ recordsRoom = ap length er ∙ zeros-length recordsRoom in
-    let sixteen : length b ≡ 16 = ap length eb ∙ zeros-length 16 in
-    simp (le-leb (length script) mostScript h) (ap answerText e ∙ seen-text (sees-host script r b) sixteen h (omega arith))
+short-text script h =
+    let room = zeros-length recordsRoom in
+    simp (le-leb (length script) mostScript h) (seen-text (sees-host script (zeros recordsRoom) (zeros 16)) (zeros-length 16) h (omega arith))
+
+pub ruleset texts = (long-text, short-text)

@@ -1,12 +1,10 @@
 -- A number's fewest digits are its decimal.
 use Prim.Native.Nat.{ℕ, zero, suc, ◌+◌, ◌*◌, ◌-◌, ◌/◌, ◌%◌, ◌^◌, ◌<◌, ◌≤◌}
-use mathlib.Core.Path.{◌≡◌, refl, sym, ◌∙◌}
+use mathlib.Core.Path.{◌≡◌, sym, ◌∙◌}
 use mathlib.Core.List.{List, [], ◌∷◌, ◌++◌, append_assoc, append-nil}
-use lib.Dec.{leb}
-use mathlib.Core.Bool.{Bool, true, false}
 use native.Mathlib.Nat.{pow-suc, div-lt_iff_lt-mul, le-div_iff_mul-le, one-le-pow, pow-le-pow_right}
 use native.Mathlib.Omega.{arith}
-use borrow.Author.Tests.{lt-ltb, le-ltb, leb-true, leb-false}
+use borrow.Author.Tests.{lt-ltb, le-ltb}
 use Rattle.io.specs.Digits.{hex_digit_ascii, last_digits, IsDigitCount}
 use Rattle.token.specs.computed.Listing.{decimalFor, decimal}
 
@@ -56,14 +54,8 @@ fewest-decimal k n h m = sym (digits_are k 20 n [] h m ∙ append-nil (last_digi
 
 -- A number of 64 bits has at most 20 digits.
 pub few-digits : (k n : ℕ) → IsDigitCount 10 1 n k → n < 18446744073709551616 → k ≤ 20
-few-digits k n h m = go (leb k 20) refl
-  where
-    go : (b : Bool) → leb k 20 ≡ b → k ≤ 20
-    go true e = leb-true k 20 e
-    go false e =
-        let over : 20 < k = leb-false k 20 e in
-        let ten : 0 < 10 = omega arith in
-        let more : 20 ≤ k - 1 = omega arith in
-        let low : 10 ^ (k - 1) ≤ n = h.2 (omega arith) in
-        let p : 10 ^ 20 ≤ 10 ^ (k - 1) = pow-le-pow_right ten more in
-        absurd (omega arith)
+few-digits k n h m =
+    let grown : 20 ≤ k - 1 → 10 ^ 20 ≤ 10 ^ (k - 1) = λ p. pow-le-pow_right (omega arith) p in
+    grind arith
+
+pub ruleset decimals = (fewest-decimal, few-digits)

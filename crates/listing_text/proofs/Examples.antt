@@ -2,6 +2,6 @@
 use mathlib.Core.Path.{refl}
 use Rattle.listing_text.specs.Examples.{made, ListingExamples}
 
-pub listing-examples : ListingExamples
+pub listing_examples : ListingExamples
 unfolding made
-listing-examples = record { listing-holds = refl; marked-holds = refl; long-holds = refl }
+listing_examples = record { listing-holds = refl; marked-holds = refl; long-holds = refl }

@@ -121,7 +121,7 @@ records-shown n short (t ∷ ts) h =
     let own = own-length n short t h.0 (records ts) in
     let least = known-least (storable n short t h.0).known in
     let longer : lengthHere (recordOf t ++ records ts) ≡ 0 → ⊥ = λ z. omega arith in
-    sym (lines-turn (recordOf t ++ records ts) longer)
+    lines-turn (recordOf t ++ records ts) longer
     ∙ ap (λ l. lineText (line_of (held_at (recordOf t ++ records ts) 0)) ++ recordLines l) (drop_at (recordOf t) (records ts) _ (length-record t ∙ sym own))
     ∙ ap (λ l. l ++ recordLines (records ts)) (line-shown n short t h.0 (records ts))
     ∙ ap (λ l. shownLine t ++ l) (records-shown n short ts h.1)

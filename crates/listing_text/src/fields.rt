@@ -8,6 +8,7 @@ use token::kinds::TokenKind;
 use words::read::two;
 
 // The length of the record at the start; 0 where no whole one stands there.
+#[tactic(auto, unfolding(crate::specs::Fields::lengthHere))]
 pub fn record_length(bytes: &[u8]) -> usize
     ensures value { result ≡ lengthHere bytes.now }
     ensures upper_bound { result ≤ length bytes.now }
@@ -30,6 +31,7 @@ const STR: u64 = TokenKind::STR as u64;
 
 const NEWLINE: u64 = TokenKind::NEWLINE as u64;
 
+#[tactic(auto, unfolding(crate::specs::Fields::valueCount))]
 fn value_count(kind: u64) -> u64
     ensures { result ≡ valueCount kind }
 {
@@ -43,6 +45,7 @@ fn value_count(kind: u64) -> u64
 }
 
 // Of a string's two values the first is in the lower four bytes.
+#[tactic(auto, unfolding(crate::specs::Fields::firstValue))]
 fn first_value(kind: u64, values: u64) -> u64
     ensures { result ≡ firstValue kind values }
 {
@@ -65,6 +68,7 @@ pub struct Line {
 }
 
 // The line of the record at the start.
+#[tactic(auto, unfolding(crate::specs::Fields::line_of))]
 pub fn line_of(bytes: &[u8]) -> Line
     ensures { result ≡ line_of (held_at bytes.now 0) }
 {

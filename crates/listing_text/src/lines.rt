@@ -7,6 +7,7 @@ use crate::fields::{Line, line_of, record_length};
 use crate::puts::{put_bytes, put_number, put_spaced};
 
 // Kind, start, end and cut: four numbers of at most 20 digits, and three spaces.
+#[tactic(auto, using(crate::proofs::PutLaws::puts), unfolding(crate::specs::Lines::headText))]
 fn put_head(out: &mut [u8], at: usize, line: Line) -> usize
     requires { at + 83 ≤ length out.old }
     ensures puts { Puts out.old at (headText line) out.new result }
@@ -19,6 +20,7 @@ fn put_head(out: &mut [u8], at: usize, line: Line) -> usize
 }
 
 // The values: none, one or two.
+#[tactic(auto, using(crate::proofs::PutLaws::values), unfolding(crate::specs::Lines::valuesText))]
 fn put_values(out: &mut [u8], at: usize, line: Line) -> usize
     requires { at + 42 ≤ length out.old }
     ensures puts { Puts out.old at (valuesText line) out.new result }
@@ -35,6 +37,7 @@ fn put_values(out: &mut [u8], at: usize, line: Line) -> usize
 }
 
 // One line.
+#[tactic(auto, using(crate::proofs::PutLaws::puts), unfolding(crate::specs::Lines::lineText))]
 fn put_line(out: &mut [u8], at: usize, line: Line) -> usize
     requires { at + 126 ≤ length out.old }
     ensures puts { Puts out.old at (lineText line) out.new result }
@@ -48,6 +51,7 @@ fn put_line(out: &mut [u8], at: usize, line: Line) -> usize
 
 // A line for each record, by its own length, up to the end or to where no whole record stands. A line has at most 126 bytes and a record
 // at least 13, so that ten bytes for each of theirs are enough.
+#[tactic(auto, using(crate::proofs::LineLaws::turns))]
 pub fn put_records(out: &mut [u8], at: usize, records: &[u8]) -> usize
     requires { at + 10 * length records.now ≤ length out.old }
     ensures puts { Puts out.old at (recordLines records.now) out.new result }
@@ -67,6 +71,7 @@ pub fn put_records(out: &mut [u8], at: usize, records: &[u8]) -> usize
     next
 }
 
+#[tactic(auto, using(crate::proofs::PutLaws::puts), unfolding(token::specs::computed::Listing::refusedAt))]
 pub fn put_refused(out: &mut [u8], at: usize, number: u64, place: u64) -> usize
     requires { at + 53 ≤ length out.old }
     ensures puts { Puts out.old at (refusedAt number place) out.new result }

@@ -3,19 +3,18 @@ ghost use Rattle.std.specs.Prelude.{[], ◌∷◌, ◌+◌, ◌≤◌, length};
 ghost use Rattle.token.specs.computed.Listing.{decimal, spaced};
 ghost use Rattle.listing_text.specs.Lines.{Puts};
 
+#[tactic(auto, using(crate::proofs::PutLaws::put_part))]
 pub fn put_bytes(out: &mut [u8], at: usize, bytes: &[u8]) -> usize
     requires { at + length bytes.now ≤ length out.old }
     ensures { Puts out.old at bytes.now out.new result }
 {
-    let mut i: usize = 0;
-    while i < bytes.len() {
-        out[at + i] = bytes[i];
-        i += 1;
-    }
-    at + bytes.len()
+    let end = at + bytes.len();
+    out[at..end].copy_from_slice(bytes);
+    end
 }
 
 // A number in base ten: at most 20 digits.
+#[tactic(auto, using(crate::proofs::Decimals::decimals))]
 pub fn put_number(out: &mut [u8], at: usize, number: u64) -> usize
     requires { at + 20 ≤ length out.old }
     ensures puts { Puts out.old at (decimal number) out.new result }

@@ -21,6 +21,7 @@ const RECORDS_BYTES: usize = TokenKind::INT_LIT_LENGTH as usize * MOST_BYTES
 // Ten bytes for each of theirs, and 24 for a case's number, are enough for every script's text.
 pub const TEXT_BYTES: usize = 10 * RECORDS_BYTES + 24;
 
+#[tactic(auto, unfolding(crate::specs::Lines::zeros))]
 fn records_space() -> [u8; RECORDS_BYTES]
     ensures value { result ≡ zeros recordsRoom }
     ensures records_room_value { recordsRoom ≡ length result }
@@ -28,6 +29,7 @@ fn records_space() -> [u8; RECORDS_BYTES]
     [0; RECORDS_BYTES]
 }
 
+#[tactic(auto, unfolding(crate::specs::Lines::zeros))]
 fn block_space() -> [u8; 16]
     ensures { result ≡ zeros 16 }
 {
@@ -40,6 +42,7 @@ fn least(a: u64, b: usize) -> usize
     if a < b as u64 { a as usize } else { b }
 }
 
+#[tactic(auto, using(crate::proofs::AnswerLaws::take_min), unfolding(crate::specs::Lines::answerText))]
 fn put_answer(out: &mut [u8], at: usize, number: u32, records: &[u8], block: &[u8]) -> usize
     requires { (at + linesRoom ≤ length out.old) × (length records.now ≤ recordsRoom) }
     ensures puts { Puts out.old at (answerText (seen number records.now block.now)) out.new result }
@@ -53,6 +56,7 @@ fn put_answer(out: &mut [u8], at: usize, number: u32, records: &[u8], block: &[u
 }
 
 // The listing of a script; more than 3,000 bytes give `long`.
+#[tactic(auto, using(crate::proofs::AnswerLaws::texts))]
 fn put_listing(out: &mut [u8], at: usize, script: &[u8]) -> usize
     requires { at + linesRoom ≤ length out.old }
     ensures puts { Puts out.old at (printed script.now) out.new result }
@@ -69,6 +73,7 @@ fn put_listing(out: &mut [u8], at: usize, script: &[u8]) -> usize
 
 // The listing of a script stands at the start of out, and every other byte is as it was. The answer is the listing's length. The last clause: document
 // 01's listing and marked scripts come out as it says.
+#[tactic(auto, using(crate::proofs::Examples::listing_examples))]
 pub fn listing(script: &[u8], out: &mut [u8; TEXT_BYTES]) -> usize
     ensures value { result ≡ length (printed script.now) }
     ensures out_after { out.new ≡ sets out.old 0 (printed script.now) }
@@ -79,6 +84,7 @@ pub fn listing(script: &[u8], out: &mut [u8; TEXT_BYTES]) -> usize
 }
 
 // The same with the line `-- K` before it, for one case of several.
+#[tactic(auto, using(crate::proofs::PutLaws::puts), unfolding(crate::specs::Lines::caseText))]
 pub fn case_text(number: u64, script: &[u8], out: &mut [u8; TEXT_BYTES]) -> usize
     ensures value { result ≡ length (caseText number script.now) }
     ensures out_after { out.new ≡ sets out.old 0 (caseText number script.now) }

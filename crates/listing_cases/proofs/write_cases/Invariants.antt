@@ -1,0 +1,16 @@
+-- Those written and those to come are all cases.
+use Rattle.std.proofs.Common.{◌≡◌, ◌≤◌, ◌+◌, ◌-◌, length}
+use Rattle.listing_cases.specs.Cases.{casePlace, count_for, case_count}
+use Rattle.listing_cases.proofs.write_cases.Given as goal
+
+abbrev pub invariant-loop-at : goal.invariant-loop-at
+invariant-loop-at g l =
+    record {
+      within : l.at ≤ length l.list;
+      fewer : l.written ≤ l.at;
+      place : l.at ≡ casePlace l.list l.written;
+      counted : l.written + count_for (length l.list - l.at) l.list l.at ≡ case_count l.list;
+    }
+
+abbrev pub decreases-loop-at : goal.decreases-loop-at
+decreases-loop-at g l = length l.list - l.at
