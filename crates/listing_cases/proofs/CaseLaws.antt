@@ -5,7 +5,7 @@ use mathlib.Core.List.{List}
 use lib.ListN.{length}
 use native.Mathlib.Numerals.{add-one}
 use native.Mathlib.Omega.{arith}
-use Rattle.listing_cases.specs.Cases.{caseEnd, casePlace, count_for, case_count}
+use Rattle.listing_cases.specs.Cases.{caseEnd, casePlace, countFor, caseCount}
 
 pub place-start : (list : List ℕ) → casePlace list 0 ≡ 0
 unfolding casePlace
@@ -19,29 +19,29 @@ place-on list k = rw add-one
 
 -- how many cases stand from a place on
 abbrev from : List ℕ → ℕ → ℕ
-from list at = count_for (length list - at) list at
+from list at = countFor (length list - at) list at
 
 -- no more of them are asked for than there can be
-enough : (f g : ℕ) (list : List ℕ) (at : ℕ) → length list ≤ at + f → length list ≤ at + g → count_for f list at ≡ count_for g list at
-unfolding count_for caseEnd
+enough : (f g : ℕ) (list : List ℕ) (at : ℕ) → length list ≤ at + f → length list ≤ at + g → countFor f list at ≡ countFor g list at
+unfolding countFor caseEnd
 enough zero zero list at h k = refl
 enough zero (suc g) list at h k = grind arith
 enough (suc f) zero list at h k = grind arith
 enough (suc f) (suc g) list at h k = grind (arith, enough f g list (caseEnd list at))
 
-pub count-start : (list : List ℕ) → case_count list ≡ from list 0
-unfolding case_count
+pub count-start : (list : List ℕ) → caseCount list ≡ from list 0
+unfolding caseCount
 count-start list = grind arith
 
 pub count-turn : (list : List ℕ) (at : ℕ) → at + 5 ≤ length list → from list at ≡ 1 + from list (caseEnd list at)
-unfolding count_for caseEnd
+unfolding countFor caseEnd
 count-turn list at h =
     let next = caseEnd list at in
     let more : length list - at ≡ suc (length list - at - 1) = omega arith in
     rw more (grind (arith, enough (length list - at - 1) (length list - next) list next))
 
-pub count-end : (n : ℕ) (list : List ℕ) (at : ℕ) → length list < at + 5 → count_for n list at ≡ 0
-unfolding count_for
+pub count-end : (n : ℕ) (list : List ℕ) (at : ℕ) → length list < at + 5 → countFor n list at ≡ 0
+unfolding countFor
 count-end zero list at h = refl
 count-end (suc n) list at h = grind arith
 

@@ -22,16 +22,16 @@ casePlace list zero = 0
 casePlace list (suc k) = caseEnd list (casePlace list k)
 
 -- its text: the line `-- K`, counted from 1, and the script's listing
-unfoldable pub case_of : List ℕ → ℕ → List ℕ
-case_of list k = caseText (k + 1) (caseScript list (casePlace list k))
+unfoldable pub caseOf : List ℕ → ℕ → List ℕ
+caseOf list k = caseText (k + 1) (caseScript list (casePlace list k))
 
 -- How many cases stand from a place on: each starts where the one before it ends, and has at least its five bytes. The first argument
 -- bounds them.
-unfoldable pub count_for : ℕ → List ℕ → ℕ → ℕ
-count_for zero list at = 0
-count_for (suc most) list at =
-    let more = 1 + count_for most list (caseEnd list at) in
+unfoldable pub countFor : ℕ → List ℕ → ℕ → ℕ
+countFor zero list at = 0
+countFor (suc most) list at =
+    let more = 1 + countFor most list (caseEnd list at) in
     cond (leb (at + 5) (length list)) more 0
 
-unfoldable pub case_count : List ℕ → ℕ
-case_count list = count_for (length list) list 0
+unfoldable pub caseCount : List ℕ → ℕ
+caseCount list = countFor (length list) list 0

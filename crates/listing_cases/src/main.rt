@@ -5,7 +5,7 @@
 #![tactic(auto)]
 
 ghost use Rattle.std.specs.Prelude.{◌≡◌, length, ◌+◌, ◌<◌, ◌≤◌, IfOk};
-ghost use Rattle.listing_cases.specs.Cases.{digit as digitOf, scriptLength, caseEnd, casePlace, case_of, case_count};
+ghost use Rattle.listing_cases.specs.Cases.{digit as digitOf, scriptLength, caseEnd, casePlace, caseOf, caseCount};
 ghost use Rattle.std.proofs.lemmas.List.Edits.{sets};
 ghost use Rattle.io.specs.Counts.{IsPrefixLen};
 
@@ -63,11 +63,11 @@ fn case_end(list: &[u8], at: usize) -> usize
 }
 
 // The text of the case that starts at a place, after `earlier` others, at the start of out. The answer is the text's length.
-#[tactic(auto, unfolding(crate::specs::Cases::case_of, crate::specs::Cases::caseScript))]
+#[tactic(auto, unfolding(crate::specs::Cases::caseOf, crate::specs::Cases::caseScript))]
 fn put_case(list: &[u8], at: usize, earlier: u64, out: &mut [u8; TEXT_BYTES]) -> usize
     requires { (at + 5 ≤ length list.now) × (at ≡ casePlace list.now earlier) × (earlier ≤ at) }
-    ensures value { result ≡ length (case_of list.now earlier) }
-    ensures out_after { out.new ≡ sets out.old 0 (case_of list.now earlier) }
+    ensures value { result ≡ length (caseOf list.now earlier) }
+    ensures out_after { out.new ≡ sets out.old 0 (caseOf list.now earlier) }
     ensures prefix_len { IsPrefixLen result out.new }
 {
     let start = at + HEAD_BYTES;
@@ -79,7 +79,7 @@ fn put_case(list: &[u8], at: usize, earlier: u64, out: &mut [u8; TEXT_BYTES]) ->
 // of it.
 #[tactic(auto, using(crate::proofs::CaseLaws::cases))]
 fn write_cases(rt: &impl Print, list: &[u8]) -> io::Result<u64>
-    ensures { IfOk result (λ written. written ≡ case_count list.now) }
+    ensures { IfOk result (λ written. written ≡ caseCount list.now) }
 {
     let mut text = [0u8; TEXT_BYTES];
     let mut at: usize = 0;

@@ -6,7 +6,7 @@ use lib.ListN.{length, take, drop, length-replicate}
 use lib.Seq.{take_all, take_at}
 use native.Mathlib.Omega.{arith}
 use borrow.Author.Tests.{le-leb, lt-leb, ne_eqb}
-use Rattle.words.specs.Words.{le4, fourAt, block_of}
+use Rattle.words.specs.Words.{le4, fourAt, blockOf}
 use Rattle.words.proofs.Joins.{four-drop, four-le4}
 use Rattle.chars.specs.paper.Quoted.{codes}
 use Rattle.chars.specs.paper.Utf8.{WellFormed}
@@ -35,13 +35,13 @@ take_min a l = grind (arith, take_all)
 -- ---- the listing
 
 -- what the block holds: its second number, and its fourth
-block-place : (j a count bytes : ℕ) → a < 4294967296 → fourAt (block_of j a count bytes) 4 ≡ a
-unfolding block_of le4
-block-place j a count bytes h = four-drop (block_of j a count bytes) 4 ∙ four-le4 a _ h
+block-place : (j a count bytes : ℕ) → a < 4294967296 → fourAt (blockOf j a count bytes) 4 ≡ a
+unfolding blockOf le4
+block-place j a count bytes h = four-drop (blockOf j a count bytes) 4 ∙ four-le4 a _ h
 
-block-bytes : (j a count bytes : ℕ) → bytes < 4294967296 → fourAt (block_of j a count bytes) 12 ≡ bytes
-unfolding block_of le4
-block-bytes j a count bytes h = four-drop (block_of j a count bytes) 12 ∙ four-le4 bytes [] h
+block-bytes : (j a count bytes : ℕ) → bytes < 4294967296 → fourAt (blockOf j a count bytes) 12 ≡ bytes
+unfolding blockOf le4
+block-bytes j a count bytes h = four-drop (blockOf j a count bytes) 12 ∙ four-le4 bytes [] h
 
 -- over tokens, case by case
 module _ (script : List ℕ) where

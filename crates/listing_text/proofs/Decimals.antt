@@ -24,8 +24,8 @@ more-digits : (n k : ℕ) → IsDigitCount 10 1 n (suc (suc k)) → 10 ≤ n
 more-digits n k h = omega (arith, lowest n k h, pow-suc 10 k, one-le-pow k 10 (omega arith))
 
 -- and a tenth of it has one digit less
-fewer_digits : (n k : ℕ) → IsDigitCount 10 1 n (suc (suc k)) → IsDigitCount 10 1 (n / 10) (suc k)
-fewer_digits n k h =
+fewer-digits : (n k : ℕ) → IsDigitCount 10 1 n (suc (suc k)) → IsDigitCount 10 1 (n / 10) (suc k)
+fewer-digits n k h =
     let ten : 0 < 10 = omega arith in
     let top : n < 10 ^ suc k * 10 = omega (arith, h.1, pow-suc 10 (suc k)) in
     let low : 10 ^ k * 10 ≤ n = omega (arith, pow-suc 10 k, lowest n k h) in
@@ -36,21 +36,21 @@ fewer_digits n k h =
 ends : (n : ℕ) (d t : List ℕ) → d ++ ((0x30 + n % 10) ∷ t) ≡ (d ++ (hex_digit_ascii (n % 10) ∷ [])) ++ t
 ends n d t = rw (glyph-digit n, append_assoc)
 
-digits_are : (k f n : ℕ) (t : List ℕ) → IsDigitCount 10 1 n k → k ≤ f → decimalFor f n t ≡ last_digits 10 k n ++ t
+digits-are : (k f n : ℕ) (t : List ℕ) → IsDigitCount 10 1 n k → k ≤ f → decimalFor f n t ≡ last_digits 10 k n ++ t
 unfolding decimalFor
-digits_are zero f n t h m = let x = h.0 in absurd (omega arith)
-digits_are (suc k) zero n t h m = absurd (omega arith)
-digits_are (suc zero) (suc f) n t h m =
+digits-are zero f n t h m = let x = h.0 in absurd (omega arith)
+digits-are (suc k) zero n t h m = absurd (omega arith)
+digits-are (suc zero) (suc f) n t h m =
     let b : n < 10 = h.1 in
     simp (lt-ltb n 10 b, one-digit n b)
-digits_are (suc (suc k)) (suc f) n t h m =
+digits-are (suc (suc k)) (suc f) n t h m =
     let b = more-digits n k h in
-    let g = fewer_digits n k h in
-    let front = digits_are (suc k) f (n / 10) ((0x30 + n % 10) ∷ t) g (omega arith) in
+    let g = fewer-digits n k h in
+    let front = digits-are (suc k) f (n / 10) ((0x30 + n % 10) ∷ t) g (omega arith) in
     simp (le-ltb n 10 b) (front ∙ ends n (last_digits 10 k (n / 10 / 10) ++ (hex_digit_ascii (n / 10 % 10) ∷ [])) t)
 
 pub fewest-decimal : (k n : ℕ) → IsDigitCount 10 1 n k → k ≤ 20 → last_digits 10 k n ≡ decimal n
-fewest-decimal k n h m = sym (digits_are k 20 n [] h m ∙ append-nil (last_digits 10 k n))
+fewest-decimal k n h m = sym (digits-are k 20 n [] h m ∙ append-nil (last_digits 10 k n))
 
 -- A number of 64 bits has at most 20 digits.
 pub few-digits : (k n : ℕ) → IsDigitCount 10 1 n k → n < 18446744073709551616 → k ≤ 20

@@ -7,25 +7,25 @@ use lib.Seq.{drop-drop, take_all}
 use native.Mathlib.Omega.{arith}
 use borrow.Author.Tests.{ne_eqb}
 use Rattle.token.specs.paper.Records.{headLength}
-use Rattle.token.specs.code.Form.{held_at}
-use Rattle.listing_text.specs.Fields.{lengthHere, line_of}
+use Rattle.token.specs.code.Form.{heldAt}
+use Rattle.listing_text.specs.Fields.{lengthHere, lineOf}
 use Rattle.listing_text.specs.Lines.{lineText, linesFor, recordLines}
 use Rattle.listing_text.proofs.PutLaws.{puts}
 
 -- ---- a record's own length
 
-no_record : (b : List ℕ) → length b < headLength → lengthHere b ≡ 0
+no-record : (b : List ℕ) → length b < headLength → lengthHere b ≡ 0
 unfolding lengthHere
-no_record b h = grind arith
+no-record b h = grind arith
 
-pub at_least : (b : List ℕ) → (lengthHere b ≡ 0 → ⊥) → headLength ≤ lengthHere b
+pub at-least : (b : List ℕ) → (lengthHere b ≡ 0 → ⊥) → headLength ≤ lengthHere b
 unfolding lengthHere
-at_least b h = grind arith
+at-least b h = grind arith
 
 -- ---- lines, record by record
 
 abbrev first : List ℕ → List ℕ
-first b = lineText (line_of (held_at b 0))
+first b = lineText (lineOf (heldAt b 0))
 
 abbrev others : List ℕ → List ℕ
 others b = drop (lengthHere b) b
@@ -34,20 +34,20 @@ others b = drop (lengthHere b) b
 enough : (f g : ℕ) (b : List ℕ) → length b ≤ f → length b ≤ g → linesFor f b ≡ linesFor g b
 unfolding linesFor
 enough zero zero b p q = refl
-enough zero (suc g) b p q = simp (no_record b (omega arith))
-enough (suc f) zero b p q = simp (no_record b (omega arith))
-enough (suc f) (suc g) b p q = grind (arith, at_least, length-drop, enough f g (others b))
+enough zero (suc g) b p q = simp (no-record b (omega arith))
+enough (suc f) zero b p q = simp (no-record b (omega arith))
+enough (suc f) (suc g) b p q = grind (arith, at-least, length-drop, enough f g (others b))
 
-pub lines_none : (b : List ℕ) → lengthHere b ≡ 0 → recordLines b ≡ []
+pub lines-none : (b : List ℕ) → lengthHere b ≡ 0 → recordLines b ≡ []
 unfolding recordLines linesFor
-lines_none [] e = refl
-lines_none (x ∷ b) e = simp e
+lines-none [] e = refl
+lines-none (x ∷ b) e = simp e
 
 pub lines-turn : (b : List ℕ) → (lengthHere b ≡ 0 → ⊥) → recordLines b ≡ first b ++ recordLines (others b)
 unfolding recordLines linesFor
-lines-turn [] h = absurd (h (no_record [] (omega arith)))
+lines-turn [] h = absurd (h (no-record [] (omega arith)))
 lines-turn (x ∷ b) h =
-    let n = at_least (x ∷ b) h in
+    let n = at-least (x ∷ b) h in
     let d = length-drop (lengthHere (x ∷ b)) (x ∷ b) in
     let rest = others (x ∷ b) in
     let e = enough (length b) (length rest) rest (omega arith) (omega arith) in
@@ -55,10 +55,10 @@ lines-turn (x ∷ b) h =
 
 -- behind the last record there is no line
 pub lines_end : (b : List ℕ) (from : ℕ) → length b ≤ from → recordLines (drop from b) ≡ []
-lines_end b from h = lines_none (drop from b) (no_record (drop from b) (omega (arith, length-drop from b)))
+lines_end b from h = lines-none (drop from b) (no-record (drop from b) (omega (arith, length-drop from b)))
 
 -- the part of a slice from a place on
-pub from_on : (l : List ℕ) (i : ℕ) → take (length l - i) (drop i l) ≡ drop i l
-from_on l i = take_all (length l - i) (drop i l) (omega (arith, length-drop i l))
+pub from-on : (l : List ℕ) (i : ℕ) → take (length l - i) (drop i l) ≡ drop i l
+from-on l i = take_all (length l - i) (drop i l) (omega (arith, length-drop i l))
 
-pub ruleset turns = (puts, from_on, lines_none, lines-turn, lines_end, at_least, drop-drop, length-drop)
+pub ruleset turns = (puts, from-on, lines-none, lines-turn, lines_end, at-least, drop-drop, length-drop)

@@ -10,9 +10,9 @@ use borrow.Author.Tests.{le-leb}
 use Rattle.words.specs.Words.{twoAt}
 use Rattle.chars.specs.paper.Quoted.{codes}
 use Rattle.token.specs.paper.Kinds.{kwNumber, kindNumber, Token}
-use Rattle.token.specs.paper.Records.{bit, values_of, headLength, mostBytes, recordLength, recordOf, records}
+use Rattle.token.specs.paper.Records.{bit, valuesOf, headLength, mostBytes, recordLength, recordOf, records}
 use Rattle.token.specs.computed.Listing.{decimal, spaced, valueNumbers, shown}
-use Rattle.token.specs.code.Form.{joined, form_of, held_at}
+use Rattle.token.specs.code.Form.{joined, formOf, heldAt}
 use Rattle.token.specs.declared.kinds.Kw.{Kw}
 use Rattle.token.specs.declared.kinds.Kw.TheVariants as kw
 use Rattle.token.specs.declared.kinds.TokenKind.{TokenKind}
@@ -20,8 +20,8 @@ use Rattle.token.specs.declared.kinds.TokenKind.TheVariants as tk
 use Rattle.token.specs.declared.form.Held.{Held}
 use Rattle.token.proofs.form.Laws.{known-least}
 use Rattle.token.proofs.form.Stores.{length-record}
-use Rattle.token.proofs.theorems.Bounded.{ValuesWithin, Bounded, AllBounded, storable, token_back}
-use Rattle.listing_text.specs.Fields.{lengthHere, valueCount, firstValue, line_of}
+use Rattle.token.proofs.theorems.Bounded.{ValuesWithin, Bounded, AllBounded, storable, token-back}
+use Rattle.listing_text.specs.Fields.{lengthHere, valueCount, firstValue, lineOf}
 use Rattle.listing_text.specs.Lines.{headText, valuesText, lineText, linesFor, recordLines}
 use Rattle.listing_text.proofs.LineLaws.{lines-turn}
 
@@ -59,7 +59,7 @@ two-places b c h k =
     let second : v / 4294967296 ≡ c = high ∙ mod-eq_of_lt (omega arith) in
     rw (first, second)
 
-values-shown : (a e : ℕ) (k : TokenKind) → ValuesWithin a e k → e ≤ mostBytes → lineValues (kindNumber k) (joined (values_of k)) ≡ valueNumbers (values_of k)
+values-shown : (a e : ℕ) (k : TokenKind) → ValuesWithin a e k → e ≤ mostBytes → lineValues (kindNumber k) (joined (valuesOf k)) ≡ valueNumbers (valuesOf k)
 unfolding valueCount firstValue
 values-shown a e tk.Ident h l = refl
 values-shown a e tk.OpId h l = refl
@@ -87,26 +87,26 @@ spaced-on (v ∷ a) b = append_assoc (codes " " ++ decimal v) (spaced a) (spaced
 
 -- a token's line
 abbrev shownLine : Token → List ℕ
-shownLine t = decimal (kindNumber t.kind) ++ spaced (t.start ∷ t.end ∷ bit t.cut ∷ valueNumbers (values_of t.kind)) ++ codes "\n"
+shownLine t = decimal (kindNumber t.kind) ++ spaced (t.start ∷ t.end ∷ bit t.cut ∷ valueNumbers (valuesOf t.kind)) ++ codes "\n"
 
 module _ (n : ℕ) (short : n ≤ mostBytes) (t : Token) (h : Bounded n t) (rest : List ℕ) where
-  line-shown : lineText (line_of (held_at (recordOf t ++ rest) 0)) ≡ shownLine t
-  unfolding lineText headText valuesText line_of
+  line-shown : lineText (lineOf (heldAt (recordOf t ++ rest) 0)) ≡ shownLine t
+  unfolding lineText headText valuesText lineOf
   line-shown =
       let e = h.end in
       let values = values-shown t.start t.end t.kind h.values (omega arith) in
       let front = t.start ∷ t.end ∷ bit t.cut ∷ [] in
       let kind = decimal (kindNumber t.kind) in
-      rw (token_back n short t h rest)
+      rw (token-back n short t h rest)
       (ap (λ l. kind ++ spaced front ++ spaced l ++ codes "\n") values
       ∙ ap (λ l. l ++ codes "\n")
-      (append_assoc kind (spaced front) (spaced (valueNumbers (values_of t.kind)))
-      ∙ ap (λ l. kind ++ l) (spaced-on front (valueNumbers (values_of t.kind)))))
+      (append_assoc kind (spaced front) (spaced (valueNumbers (valuesOf t.kind)))
+      ∙ ap (λ l. kind ++ l) (spaced-on front (valueNumbers (valuesOf t.kind)))))
 
   own-length : lengthHere (recordOf t ++ rest) ≡ recordLength t.kind
-  unfolding lengthHere held_at form_of
+  unfolding lengthHere heldAt formOf
   own-length =
-      let size : twoAt (recordOf t ++ rest) 0 ≡ recordLength t.kind = ap (λ (r : Held). r.length) (token_back n short t h rest) in
+      let size : twoAt (recordOf t ++ rest) 0 ≡ recordLength t.kind = ap (λ (r : Held). r.length) (token-back n short t h rest) in
       let least = known-least (storable n short t h).known in
       let whole = length-append (recordOf t) rest in
       let own = length-record t in
@@ -115,13 +115,13 @@ module _ (n : ℕ) (short : n ≤ mostBytes) (t : Token) (h : Bounded n t) (rest
 -- ---- all of them
 
 pub records-shown : (n : ℕ) → n ≤ mostBytes → (ts : List Token) → AllBounded n ts → recordLines (records ts) ≡ shown ts
-unfolding records shown recordLines linesFor form_of
+unfolding records shown recordLines linesFor formOf
 records-shown n short [] h = refl
 records-shown n short (t ∷ ts) h =
     let own = own-length n short t h.0 (records ts) in
     let least = known-least (storable n short t h.0).known in
     let longer : lengthHere (recordOf t ++ records ts) ≡ 0 → ⊥ = λ z. omega arith in
     lines-turn (recordOf t ++ records ts) longer
-    ∙ ap (λ l. lineText (line_of (held_at (recordOf t ++ records ts) 0)) ++ recordLines l) (drop_at (recordOf t) (records ts) _ (length-record t ∙ sym own))
+    ∙ ap (λ l. lineText (lineOf (heldAt (recordOf t ++ records ts) 0)) ++ recordLines l) (drop_at (recordOf t) (records ts) _ (length-record t ∙ sym own))
     ∙ ap (λ l. l ++ recordLines (records ts)) (line-shown n short t h.0 (records ts))
     ∙ ap (λ l. shownLine t ++ l) (records-shown n short ts h.1)

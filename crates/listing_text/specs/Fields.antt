@@ -35,8 +35,8 @@ unfoldable pub firstValue : ℕ → ℕ → ℕ
 firstValue kind values = cond (eqb kind str) (values % 4294967296) values
 
 -- the numbers of a record's line; of its values as many count as `count` says
-unfoldable pub line_of : Held → Line
-line_of held =
+unfoldable pub lineOf : Held → Line
+lineOf held =
     record {
       kind = held.number;
       start = held.start;

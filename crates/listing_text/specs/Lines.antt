@@ -4,11 +4,11 @@ use Rattle.std.proofs.lemmas.List.Edits.{sets}
 use Rattle.words.specs.Words.{fourAt}
 use Rattle.chars.specs.paper.Quoted.{codes}
 use Rattle.token.specs.paper.Records.{mostNeed}
-use Rattle.token.specs.code.Form.{held_at}
+use Rattle.token.specs.code.Form.{heldAt}
 use Rattle.token.specs.computed.Listing.{decimal, spaced, refusedAt}
 use Rattle.entry.specs.paper.Host.{Seen, seen}
 use Rattle.entry.specs.computed.Listing.{listingOf}
-use Rattle.listing_text.specs.Fields.{lengthHere, line_of}
+use Rattle.listing_text.specs.Fields.{lengthHere, lineOf}
 use Rattle.listing_text.specs.declared.fields.Line.{Line}
 
 -- The text stands at the place `at` of what was `old`, and the rest is as it was; `next` is the place behind it.
@@ -32,7 +32,7 @@ unfoldable pub linesFor : ℕ → List ℕ → List ℕ
 linesFor zero bytes = []
 linesFor (suc most) bytes =
     let n = lengthHere bytes in
-    let lines = lineText (line_of (held_at bytes 0)) ++ linesFor most (drop n bytes) in
+    let lines = lineText (lineOf (heldAt bytes 0)) ++ linesFor most (drop n bytes) in
     cond (eqb n 0) [] lines
 
 -- No record is empty, so there are no more of them than bytes.

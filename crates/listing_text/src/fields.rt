@@ -1,7 +1,7 @@
 // A record's numbers, for its line.
 ghost use Rattle.std.specs.Prelude.{◌≡◌, length, ◌≤◌};
-ghost use Rattle.token.specs.code.Form.{held_at};
-ghost use Rattle.listing_text.specs.Fields.{lengthHere, valueCount, firstValue, line_of};
+ghost use Rattle.token.specs.code.Form.{heldAt};
+ghost use Rattle.listing_text.specs.Fields.{lengthHere, valueCount, firstValue, lineOf};
 
 use token::form::read_record;
 use token::kinds::TokenKind;
@@ -68,9 +68,9 @@ pub struct Line {
 }
 
 // The line of the record at the start.
-#[tactic(auto, unfolding(crate::specs::Fields::line_of))]
+#[tactic(auto, unfolding(crate::specs::Fields::lineOf))]
 pub fn line_of(bytes: &[u8]) -> Line
-    ensures { result ≡ line_of (held_at bytes.now 0) }
+    ensures { result ≡ lineOf (heldAt bytes.now 0) }
 {
     let held = read_record(bytes, 0);
     Line {

@@ -1,6 +1,6 @@
 -- Those written and those to come are all cases.
 use Rattle.std.proofs.Common.{◌≡◌, ◌≤◌, ◌+◌, ◌-◌, length}
-use Rattle.listing_cases.specs.Cases.{casePlace, count_for, case_count}
+use Rattle.listing_cases.specs.Cases.{casePlace, countFor, caseCount}
 use Rattle.listing_cases.proofs.write_cases.Given as goal
 
 abbrev pub invariant-loop-at : goal.invariant-loop-at
@@ -9,7 +9,7 @@ invariant-loop-at g l =
       within : l.at ≤ length l.list;
       fewer : l.written ≤ l.at;
       place : l.at ≡ casePlace l.list l.written;
-      counted : l.written + count_for (length l.list - l.at) l.list l.at ≡ case_count l.list;
+      counted : l.written + countFor (length l.list - l.at) l.list l.at ≡ caseCount l.list;
     }
 
 abbrev pub decreases-loop-at : goal.decreases-loop-at
