@@ -67,6 +67,7 @@ fn listed_bytes(list: &[u8], at: usize) -> usize
 }
 
 // Whether the tokenizer answers a script as the list says: the block stands at a place of it, and these are the records. The lent bytes are untouched.
+#[tactic(auto, using(crate::proofs::Laws::seen_lent), unfolding(crate::specs::Cases::listed_of))]
 fn agrees(lent: &mut [u8], list: &[u8], at: usize, script: &[u8], records: &[u8]) -> bool
     requires at_in_bounds { at + 16 ≤ length list.now }
     requires lent_len_bound { length lent.old ≤ mostRoom }

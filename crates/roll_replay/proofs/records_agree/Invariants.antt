@@ -6,7 +6,7 @@ use Rattle.roll_replay.proofs.records_agree.Given as goal
 abbrev pub invariant-loop-k : goal.invariant-loop-k
 invariant-loop-k l = record {
   within : l.k ≤ l.count;
-  agree : RecordsAgree l.list l.roll l.from l.k
+  agree : RecordsAgree l.list l.roll l.from l.k;
 }
 
 abbrev pub decreases-loop-k : goal.decreases-loop-k
