@@ -3,10 +3,6 @@
 use Rattle.std.specs.Prelude.{ℕ, ◌+◌, ◌<◌, min, ◌≡◌, List, length, take, drop, replicate}
 use Rattle.words.specs.Words.{fourAt}
 
--- n bytes 0
-unfoldable pub zeros : ℕ → List ℕ
-zeros n = replicate n 0
-
 -- n bytes as they are before a call
 unfoldable pub untouched : ℕ → List ℕ
 untouched n = replicate n 0xA5

@@ -34,6 +34,7 @@ const ASKED_BYTES: usize = 20;
 const ROOM_NUMBERS: usize = 512;
 
 // Room for the lent numbers, which all hold the same.
+#[tactic(auto, unfolding(crate::specs::Cases::holding))]
 fn number_space(held: u32) -> [u32; ROOM_NUMBERS]
     ensures value { result ≡ holding held mostRoom }
     ensures most_room_value { mostRoom ≡ length result }
@@ -83,6 +84,7 @@ fn places_agree(list: &[u8], script: &[u8], index: &[u32], from: usize, count: u
 }
 
 // Builds the index in the lent numbers: whether number and block are those that the list has at a place.
+#[tactic(auto, unfolding(cases::specs::Cases::untouched, crate::specs::Cases::builtSeen))]
 fn block_agrees(lent: &mut [u32], list: &[u8], at: usize, script: &[u8]) -> bool
     requires { at + 16 ≤ length list.now }
     ensures variant { (result ≡ true) ↔ BlockAgrees list.now at (builtSeen script.now lent.old) }
@@ -125,6 +127,7 @@ impl Case for Places {
     ghost agrees = { CaseAgrees };
 
     // The case at a place. One that the end of the list cuts short, or that lends more than there is, does not agree.
+    #[tactic(auto, using(crate::proofs::Laws::part), unfolding(crate::specs::Cases::scriptAt, crate::specs::Cases::scriptEnd, crate::specs::Cases::caseEnd, crate::specs::Cases::next_at))]
     fn replay_case(list: &[u8], at: usize) -> Replayed {
         let start = at + HEAD_BYTES;
         let end = start + four(list, at) as usize;

@@ -1,50 +1,40 @@
 -- Laws of the definitions of specs/Cases.antt.
-use Prim.Native.Nat.{ℕ, ◌+◌, ◌-◌, ◌≤◌, ◌<◌}
-use mathlib.Core.Path.{◌≡◌, refl, sym, ◌∙◌, ap}
+use Prim.Native.Nat.{ℕ, ◌-◌, ◌≤◌}
+use mathlib.Core.Path.{◌≡◌, sym, ◌∙◌, ap}
 use mathlib.Core.Bool.{Bool, true, false, false≢true}
 use mathlib.Core.Logic.{◌↔◌}
 use mathlib.Core.List.{List, ◌++◌}
-use lib.ListN.{length, take, drop, replicate, length-append, length-drop, take-append-drop}
+use lib.ListN.{length, take, drop, replicate, length-drop, take-append-drop}
 use lib.Seq.{length-take-le, take_all, take-append_seam, drop-append_seam}
 use native.Mathlib.Omega.{arith}
-use borrow.Author.Tests.{eq-eqb, ne_eqb}
-use Rattle.words.specs.Words.{fourAt}
-use Rattle.entry.specs.paper.Host.{Seen, seen, numberSeen, bufferSeen}
 use Rattle.entry.specs.computed.Host.{hostOf}
-use Rattle.cases.specs.Cases.{untouched, Listed, nextIn}
-use Rattle.cases.proofs.Laws.{take-replicate, says-no, says}
-use Rattle.replay.specs.Cases.{recordsIn, mostRoom, scriptAt, scriptEnd, room_at, listedBytes, recordsAt, caseEnd, next_at, seenLent, listed_of, CaseAgrees}
+use Rattle.cases.specs.Cases.{untouched}
+use Rattle.std.proofs.lemmas.List.{take-replicate}
+use Rattle.replay.specs.Cases.{recordsIn, mostRoom, seenLent}
 
 -- ---- untouched bytes
 
-pub all-untouched : (n : ℕ) → replicate {A = ℕ} n 0xA5 ≡ untouched n
-unfolding untouched
-all-untouched n = refl
-
 pub take-untouched : (n m : ℕ) → n ≤ m → take n (untouched m) ≡ untouched n
 unfolding untouched
-take-untouched n m h = take-replicate 0xA5 n m h
+take-untouched n m h = take-replicate n m 0xA5 h
 
 -- the first of them
 module _ (room : ℕ) {space : List ℕ} (clean : space ≡ untouched mostRoom) (size : mostRoom ≡ length space) (most : room ≤ mostRoom) where
   pub part_length : length (take room space) ≡ room
   part_length = length-take-le room space (omega arith)
 
-  pub part-untouched : take room space ≡ untouched (length (take room space))
-  part-untouched = ap (take room) clean ∙ take-untouched room mostRoom most ∙ ap untouched (sym part_length)
+  pub part_untouched : take room space ≡ untouched (length (take room space))
+  part_untouched = ap (take room) clean ∙ take-untouched room mostRoom most ∙ ap untouched (sym part_length)
+
+pub ruleset part = (part_length, part_untouched)
 
 -- ---- records in lent bytes
 
 module _ (lent records : List ℕ) where
-  -- there are more of them than lent
-  pub holds-out : length lent < length records → (false ≡ true) ↔ (lent ≡ recordsIn records (length lent))
-  holds-out h = says-no (λ e. omega (arith, ap length e, length-append records (untouched (length lent - length records))))
-
   -- others stand there
-  pub holds-off : {yes : Bool} → (yes ≡ true) ↔ (take (length records) lent ≡ records) → yes ≡ false
-      → (false ≡ true) ↔ (lent ≡ recordsIn records (length lent))
-  holds-off is off =
-      says-no (λ e. false≢true (sym off ∙ is.1 (ap (take (length records)) e ∙ take-append_seam records (untouched (length lent - length records)))))
+  pub holds-off : (take (length records) lent ≡ records → ⊥) → (false ≡ true) ↔ (lent ≡ recordsIn records (length lent))
+  holds-off off =
+      (λ e. absurd (false≢true e), λ e. absurd (off (ap (take (length records)) e ∙ take-append_seam records (untouched (length lent - length records)))))
 
   -- these do, and the rest decides
   pub holds-is : {r : Bool} {fresh : List ℕ} → take (length records) lent ≡ records → fresh ≡ untouched mostRoom → length lent ≤ mostRoom
@@ -52,109 +42,14 @@ module _ (lent records : List ℕ) where
       → (r ≡ true) ↔ (lent ≡ recordsIn records (length lent))
   holds-is front clean most is =
       let rest = take_all (length lent - length records) (drop (length records) lent) (omega (arith, length-drop (length records) lent)) in
-      let over = ap (take (length lent - length records)) clean ∙ take-untouched (length lent - length records) mostRoom (omega arith) in
-      says
-      is
-      (λ e. sym (take-append-drop (length records) lent) ∙ ap (λ l. l ++ drop (length records) lent) front ∙ ap (λ l. records ++ l) (sym rest ∙ e ∙ over))
-      (λ e. rest ∙ ap (drop (length records)) e ∙ drop-append_seam records (untouched (length lent - length records)) ∙ sym over)
+      let over = ap (take (length lent - length records)) clean ∙ take-untouched (length lent - length records) mostRoom (omega arith) in (
+        λ y. sym (take-append-drop (length records) lent) ∙ ap (λ l. l ++ drop (length records) lent) front ∙ ap (λ l. records ++ l) (sym rest ∙ is.0 y ∙ over),
+        λ e. is.1 (rest ∙ ap (drop (length records)) e ∙ drop-append_seam records (untouched (length lent - length records)) ∙ sym over),
+      )
 
 -- ---- what a host sees
 
-blockSeen : Seen → List ℕ
-blockSeen (seen number buffer block) = block
-
-module _ (list : List ℕ) (at : ℕ) (script records : List ℕ) {lent : List ℕ} (clean : lent ≡ untouched (length lent)) {number : ℕ} {buffer block : List ℕ}
-    (is : seen number buffer block ≡ hostOf script lent (replicate 16 0xA5)) where
-  seen-is : seen number buffer block ≡ seenLent script (length lent)
-  unfolding seenLent untouched
-  seen-is = is ∙ ap (λ l. hostOf script l (replicate 16 0xA5)) clean
-
-  pub buffer-is : buffer ≡ bufferSeen (seenLent script (length lent))
-  buffer-is = ap bufferSeen seen-is
-
-  module _ (size : length block ≡ 16) {yes : Bool} (block-is : (yes ≡ true) ↔ Listed list at number block) where
-    -- number or block are others than listed
-    pub agrees-off : yes ≡ false → (false ≡ true) ↔ (seenLent script (length lent) ≡ listed_of list at records (length lent))
-    unfolding listed_of blockSeen
-    agrees-off off =
-        says-no
-        (λ e.
-        let all = seen-is ∙ e in
-        let has : Listed list at number block
-        = record { number_is = ap numberSeen all; block-is = ap (λ n. take n (drop at list)) size ∙ sym (ap blockSeen all) } in
-        false≢true (sym off ∙ block-is.1 has))
-
-    -- they are those, and the lent bytes decide
-    pub agrees-is : {r : Bool} → yes ≡ true → length buffer ≡ length lent → (r ≡ true) ↔ (buffer ≡ recordsIn records (length buffer))
-        → (r ≡ true) ↔ (seenLent script (length lent) ≡ listed_of list at records (length lent))
-    unfolding listed_of
-    agrees-is e same holds =
-        let has = block-is.0 e in
-        let block_Listed = sym has.block-is ∙ ap (λ n. take n (drop at list)) size in
-        says
-        holds
-        (λ h. sym seen-is ∙ rw (has.number_is, block_Listed, ← same) (ap (λ l. seen (fourAt list at) l (take 16 (drop at list))) h))
-        (λ h. ap bufferSeen (seen-is ∙ h) ∙ rw same refl)
-
--- ---- one case
-
-pub listed-none : (list : List ℕ) (at : ℕ) {n : ℕ} → n ≡ fourAt list (at + 8) → (n ≡ 0 → ⊥) → listedBytes list at ≡ 0
-unfolding listedBytes
-listed-none list at {n} e h = rw (← e) (simp (ne_eqb n 0 h))
-
-pub listed-some : (list : List ℕ) (at : ℕ) {n : ℕ} → n ≡ fourAt list (at + 8) → n ≡ 0 → listedBytes list at ≡ fourAt list (at + 20)
-unfolding listedBytes
-listed-some list at {n} e h = rw (← e) (simp (eq-eqb n 0 h))
-
--- by the numbers that it begins with
-module _ (list : List ℕ) (at : ℕ) {bytes size : ℕ} (first : bytes ≡ fourAt list at) (second : size ≡ listedBytes list at) where
-  script-end : at + 24 + bytes ≡ scriptEnd list at
-  unfolding scriptEnd
-  script-end = rw first
-
-  case-end : at + 24 + bytes + size ≡ caseEnd list at
-  unfolding caseEnd
-  case-end = rw (script-end, second)
-
-  script-at : take (at + 24 + bytes - (at + 24)) (drop (at + 24) list) ≡ scriptAt list at
-  unfolding scriptAt
-  script-at =
-      let e : at + 24 + bytes - (at + 24) ≡ bytes = omega arith in
-      rw (e, first)
-
-  records-at : take (at + 24 + bytes + size - (at + 24 + bytes)) (drop (at + 24 + bytes) list) ≡ recordsAt list at
-  unfolding recordsAt
-  records-at =
-      let e : at + 24 + bytes + size - (at + 24 + bytes) ≡ size = omega arith in
-      rw (e, script-end, second)
-
-  pub next-is : {next : ℕ} → next ≡ nextIn list (at + 24 + bytes + size) → next ≡ next_at list at
-  unfolding next_at
-  next-is e = e ∙ ap (nextIn list) case-end
-
-  -- the list's end cuts it short
-  pub case-cut : length list < at + 24 + bytes + size → (false ≡ true) ↔ CaseAgrees list at
-  case-cut short = says-no (λ a. omega (arith, a.whole, case-end))
-
-  module _ {room : ℕ} (third : room ≡ fourAt list (at + 4)) where
-    -- it lends too much
-    pub room-off : mostRoom < room → (false ≡ true) ↔ CaseAgrees list at
-    unfolding room_at
-    room-off h = says-no (λ a. omega (arith, a.lendable, third))
-
-    pub case-is : {r : Bool} {n : ℕ} → at + 24 + bytes + size ≤ length list → room ≤ mostRoom → n ≡ room
-        → (r ≡ true)
-        ↔ (seenLent (take (at + 24 + bytes - (at + 24)) (drop (at + 24) list)) n
-        ≡ listed_of list (at + 8) (take (at + 24 + bytes + size - (at + 24 + bytes)) (drop (at + 24 + bytes) list)) n)
-        → (r ≡ true) ↔ CaseAgrees list at
-    unfolding room_at
-    case-is fits most same is =
-        says
-        is
-        (λ e.
-        record {
-          whole = rw (← case-end) fits;
-          lendable = rw (← third) most;
-          as-listed = rw (← script-at, ← records-at, ← third, ← same) e;
-        })
-        (λ a. rw (script-at, records-at, same, third) a.as-listed)
+-- with untouched bytes lent
+pub seen_lent : (script lent : List ℕ) → lent ≡ untouched (length lent) → hostOf script lent (replicate 16 0xA5) ≡ seenLent script (length lent)
+unfolding seenLent untouched
+seen_lent script lent clean = ap (λ l. hostOf script l (replicate 16 0xA5)) clean

@@ -28,6 +28,7 @@ const HEAD_BYTES: usize = 24;
 // The most bytes that a case lends.
 const ROOM_BYTES: usize = 4096;
 
+#[tactic(auto, unfolding(cases::specs::Cases::untouched))]
 fn untouched_space() -> [u8; ROOM_BYTES]
     ensures value { result ≡ untouched mostRoom }
     ensures most_room_value { mostRoom ≡ length result }
@@ -53,6 +54,7 @@ fn holds_records(lent: &[u8], records: &[u8]) -> bool
 }
 
 // How many record bytes the case at a place lists.
+#[tactic(auto, unfolding(crate::specs::Cases::listedBytes))]
 fn listed_bytes(list: &[u8], at: usize) -> usize
     requires { at + 24 ≤ 18446744073709551615 }
     ensures value { result ≡ listedBytes list.now at }
@@ -65,6 +67,7 @@ fn listed_bytes(list: &[u8], at: usize) -> usize
 }
 
 // Whether the tokenizer answers a script as the list says: the block stands at a place of it, and these are the records. The lent bytes are untouched.
+#[tactic(auto, using(crate::proofs::Laws::seen_lent), unfolding(crate::specs::Cases::listed_of))]
 fn agrees(lent: &mut [u8], list: &[u8], at: usize, script: &[u8], records: &[u8]) -> bool
     requires at_in_bounds { at + 16 ≤ length list.now }
     requires lent_len_bound { length lent.old ≤ mostRoom }
@@ -89,6 +92,7 @@ impl Case for Scripts {
     ghost agrees = { CaseAgrees };
 
     // The case at a place. One that the end of the list cuts short, or that lends more than there is, does not agree.
+    #[tactic(auto, using(crate::proofs::Laws::part), unfolding(crate::specs::Cases::scriptAt, crate::specs::Cases::recordsAt, crate::specs::Cases::next_at, crate::specs::Cases::caseEnd, crate::specs::Cases::scriptEnd, crate::specs::Cases::room_at))]
     fn replay_case(list: &[u8], at: usize) -> Replayed {
         let start = at + HEAD_BYTES;
         let end = start + four(list, at) as usize;

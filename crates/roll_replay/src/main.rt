@@ -26,6 +26,7 @@ const HEAD_BYTES: usize = 24;
 
 const ASKED_BYTES: usize = 48;
 
+#[tactic(auto, unfolding(cases::specs::Cases::untouched))]
 fn roll_agrees(list: &[u8], at: usize, roll: &[u8]) -> bool
     requires { at + 16 ≤ length list.now }
     ensures { (result ≡ true) ↔ RollAgrees list.now at roll.now }
@@ -71,6 +72,7 @@ impl Case for Rolls {
     ghost agrees = { CaseAgrees };
 
     // The case at a place. One that the end of the list cuts short does not agree.
+    #[tactic(auto, unfolding(crate::specs::Cases::next_at, crate::specs::Cases::caseEnd, crate::specs::Cases::rollEnd, crate::specs::Cases::rollAt))]
     fn replay_case(list: &[u8], at: usize) -> Replayed {
         let start = at + HEAD_BYTES;
         let end = start + four(list, at) as usize;
