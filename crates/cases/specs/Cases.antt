@@ -9,7 +9,7 @@ untouched n = replicate n 0xA5
 
 -- the list has this answer block at a place, and first in it the number that was handed back
 pub record Listed (list : List ℕ) (at number : ℕ) (block : List ℕ) : Type 0 where
-  pub number_is : number ≡ fourAt list at
+  pub number-is : number ≡ fourAt list at
   pub block-is : take (length block) (drop at list) ≡ block
 
 -- where the next case starts, behind one that ends at a place: at the list's end, if that cuts it short

@@ -12,11 +12,11 @@ use Rattle.line_replay.specs.Cases.{mostRoom, holding}
 
 -- the first of them
 module _ (held room : ℕ) {space : List ℕ} (clean : space ≡ holding held mostRoom) (size : mostRoom ≡ length space) (most : room ≤ mostRoom) where
-  pub part_length : length (take room space) ≡ room
-  part_length = length-take-le room space (omega arith)
+  pub part-length : length (take room space) ≡ room
+  part-length = length-take-le room space (omega arith)
 
   pub part_holding : take room space ≡ holding held room
   unfolding holding
   part_holding = ap (take room) clean ∙ take-replicate room mostRoom held most
 
-pub ruleset part = (part_length, part_holding)
+pub ruleset part = (part-length, part_holding)

@@ -23,22 +23,22 @@ unfoldable pub scriptEnd : List ℕ → ℕ → ℕ
 scriptEnd list at = at + 32 + fourAt list at
 
 -- how many numbers are lent for the index, the numbers before, and how many places are asked for
-abbrev pub room_at : List ℕ → ℕ → ℕ
-room_at list at = fourAt list (at + 4)
+abbrev pub roomAt : List ℕ → ℕ → ℕ
+roomAt list at = fourAt list (at + 4)
 
-abbrev pub lent_at : List ℕ → ℕ → List ℕ
-lent_at list at = holding (fourAt list (at + 8)) (room_at list at)
+abbrev pub lentAt : List ℕ → ℕ → List ℕ
+lentAt list at = holding (fourAt list (at + 8)) (roomAt list at)
 
 abbrev pub askedAt : List ℕ → ℕ → ℕ
 askedAt list at = fourAt list (at + 12)
 
 -- where it ends, behind the numbers and the places asked for
 unfoldable pub caseEnd : List ℕ → ℕ → ℕ
-caseEnd list at = scriptEnd list at + 4 * room_at list at + 20 * askedAt list at
+caseEnd list at = scriptEnd list at + 4 * roomAt list at + 20 * askedAt list at
 
 -- where the next case starts
-unfoldable pub next_at : List ℕ → ℕ → ℕ
-next_at list at = nextIn list (caseEnd list at)
+unfoldable pub nextAt : List ℕ → ℕ → ℕ
+nextAt list at = nextIn list (caseEnd list at)
 
 -- ---- what it means that it agrees
 
@@ -79,6 +79,6 @@ pub record Agrees (list : List ℕ) (at : ℕ) (script : List ℕ) (from room co
 -- The case at a place agrees: the list holds all of it, it lends at most `mostRoom` numbers, and what it says of its script is seen and told.
 pub record CaseAgrees (list : List ℕ) (at : ℕ) : Type 0 where
   pub whole : caseEnd list at ≤ length list
-  pub lendable : room_at list at ≤ mostRoom
-  pub as-listed : Agrees list (at + 16) (scriptAt list at) (scriptEnd list at) (room_at list at) (askedAt list at)
-      (builtSeen (scriptAt list at) (lent_at list at))
+  pub lendable : roomAt list at ≤ mostRoom
+  pub as-listed : Agrees list (at + 16) (scriptAt list at) (scriptEnd list at) (roomAt list at) (askedAt list at)
+      (builtSeen (scriptAt list at) (lentAt list at))

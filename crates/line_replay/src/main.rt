@@ -19,7 +19,7 @@
 ghost use Rattle.std.specs.Prelude.{◌≡◌, true, ◌↔◌, ◌+◌, ◌*◌, ◌≤◌, ◌<◌, length};
 ghost use Rattle.entry.specs.paper.Host.{bufferSeen};
 ghost use Rattle.cases.specs.Cases.{Replays};
-ghost use Rattle.line_replay.specs.Cases.{mostRoom, holding, builtSeen, NumbersListed, BlockAgrees, PlaceAgrees, PlacesAgree, Agrees, CaseAgrees, next_at};
+ghost use Rattle.line_replay.specs.Cases.{mostRoom, holding, builtSeen, NumbersListed, BlockAgrees, PlaceAgrees, PlacesAgree, Agrees, CaseAgrees, nextAt};
 
 use cases::{Case, Replayed, UNTOUCHED, is_listed, replay};
 use std::io;
@@ -122,12 +122,12 @@ fn agrees(
 struct Places;
 
 impl Case for Places {
-    ghost next = { next_at };
+    ghost next = { nextAt };
 
     ghost agrees = { CaseAgrees };
 
     // The case at a place. One that the end of the list cuts short, or that lends more than there is, does not agree.
-    #[tactic(auto, using(crate::proofs::Laws::part), unfolding(crate::specs::Cases::scriptAt, crate::specs::Cases::scriptEnd, crate::specs::Cases::caseEnd, crate::specs::Cases::next_at))]
+    #[tactic(auto, using(crate::proofs::Laws::part), unfolding(crate::specs::Cases::scriptAt, crate::specs::Cases::scriptEnd, crate::specs::Cases::caseEnd, crate::specs::Cases::nextAt))]
     fn replay_case(list: &[u8], at: usize) -> Replayed {
         let start = at + HEAD_BYTES;
         let end = start + four(list, at) as usize;

@@ -20,13 +20,13 @@ take-untouched n m h = take-replicate n m 0xA5 h
 
 -- the first of them
 module _ (room : ℕ) {space : List ℕ} (clean : space ≡ untouched mostRoom) (size : mostRoom ≡ length space) (most : room ≤ mostRoom) where
-  pub part_length : length (take room space) ≡ room
-  part_length = length-take-le room space (omega arith)
+  pub part-length : length (take room space) ≡ room
+  part-length = length-take-le room space (omega arith)
 
   pub part_untouched : take room space ≡ untouched (length (take room space))
-  part_untouched = ap (take room) clean ∙ take-untouched room mostRoom most ∙ ap untouched (sym part_length)
+  part_untouched = ap (take room) clean ∙ take-untouched room mostRoom most ∙ ap untouched (sym part-length)
 
-pub ruleset part = (part_length, part_untouched)
+pub ruleset part = (part-length, part_untouched)
 
 -- ---- records in lent bytes
 

@@ -23,8 +23,8 @@ unfoldable pub scriptEnd : List ℕ → ℕ → ℕ
 scriptEnd list at = at + 24 + fourAt list at
 
 -- how many bytes are lent for the records
-unfoldable pub room_at : List ℕ → ℕ → ℕ
-room_at list at = fourAt list (at + 4)
+unfoldable pub roomAt : List ℕ → ℕ → ℕ
+roomAt list at = fourAt list (at + 4)
 
 -- how many record bytes it lists: where its number is 0, the fourth number of its block
 unfoldable pub listedBytes : List ℕ → ℕ → ℕ
@@ -38,8 +38,8 @@ unfoldable pub caseEnd : List ℕ → ℕ → ℕ
 caseEnd list at = scriptEnd list at + listedBytes list at
 
 -- where the next case starts
-unfoldable pub next_at : List ℕ → ℕ → ℕ
-next_at list at = nextIn list (caseEnd list at)
+unfoldable pub nextAt : List ℕ → ℕ → ℕ
+nextAt list at = nextIn list (caseEnd list at)
 
 -- ---- what it means that it agrees
 
@@ -48,12 +48,12 @@ unfoldable pub seenLent : List ℕ → ℕ → Seen
 seenLent script room = hostOf script (untouched room) (untouched 16)
 
 -- what the list says: number and block stand at a place, and these are the records
-unfoldable pub listed_of : List ℕ → ℕ → List ℕ → ℕ → Seen
-listed_of list at records room = seen (fourAt list at) (recordsIn records room) (take 16 (drop at list))
+unfoldable pub listedOf : List ℕ → ℕ → List ℕ → ℕ → Seen
+listedOf list at records room = seen (fourAt list at) (recordsIn records room) (take 16 (drop at list))
 
 -- The case at a place agrees: the list holds all of it, it lends at most `mostRoom` bytes, and a host sees what it lists: the number, the records and every
 -- other lent byte, and the block.
 pub record CaseAgrees (list : List ℕ) (at : ℕ) : Type 0 where
   pub whole : caseEnd list at ≤ length list
-  pub lendable : room_at list at ≤ mostRoom
-  pub as-listed : seenLent (scriptAt list at) (room_at list at) ≡ listed_of list (at + 8) (recordsAt list at) (room_at list at)
+  pub lendable : roomAt list at ≤ mostRoom
+  pub as-listed : seenLent (scriptAt list at) (roomAt list at) ≡ listedOf list (at + 8) (recordsAt list at) (roomAt list at)

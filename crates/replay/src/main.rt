@@ -16,7 +16,7 @@
 ghost use Rattle.std.specs.Prelude.{◌≡◌, true, ◌↔◌, ◌+◌, ◌≤◌, ◌<◌, length};
 ghost use Rattle.entry.specs.paper.Host.{bufferSeen};
 ghost use Rattle.cases.specs.Cases.{untouched, Replays};
-ghost use Rattle.replay.specs.Cases.{recordsIn, mostRoom, listedBytes, seenLent, listed_of, CaseAgrees, next_at};
+ghost use Rattle.replay.specs.Cases.{recordsIn, mostRoom, listedBytes, seenLent, listedOf, CaseAgrees, nextAt};
 
 use cases::{Case, Replayed, UNTOUCHED, is_listed, replay};
 use std::io;
@@ -67,12 +67,12 @@ fn listed_bytes(list: &[u8], at: usize) -> usize
 }
 
 // Whether the tokenizer answers a script as the list says: the block stands at a place of it, and these are the records. The lent bytes are untouched.
-#[tactic(auto, using(crate::proofs::Laws::seen_lent), unfolding(crate::specs::Cases::listed_of))]
+#[tactic(auto, using(crate::proofs::Laws::seen_lent), unfolding(crate::specs::Cases::listedOf))]
 fn agrees(lent: &mut [u8], list: &[u8], at: usize, script: &[u8], records: &[u8]) -> bool
     requires at_in_bounds { at + 16 ≤ length list.now }
     requires lent_len_bound { length lent.old ≤ mostRoom }
     requires lent_value { lent.old ≡ untouched (length lent.old) }
-    ensures variant { (result ≡ true) ↔ (seenLent script.now (length lent.old) ≡ listed_of list.now at records.now (length lent.old)) }
+    ensures variant { (result ≡ true) ↔ (seenLent script.now (length lent.old) ≡ listedOf list.now at records.now (length lent.old)) }
     ensures lent_after { lent.new ≡ bufferSeen (seenLent script.now (length lent.old)) }
 {
     let mut block = [UNTOUCHED; 16];
@@ -87,12 +87,12 @@ fn agrees(lent: &mut [u8], list: &[u8], at: usize, script: &[u8], records: &[u8]
 struct Scripts;
 
 impl Case for Scripts {
-    ghost next = { next_at };
+    ghost next = { nextAt };
 
     ghost agrees = { CaseAgrees };
 
     // The case at a place. One that the end of the list cuts short, or that lends more than there is, does not agree.
-    #[tactic(auto, using(crate::proofs::Laws::part), unfolding(crate::specs::Cases::scriptAt, crate::specs::Cases::recordsAt, crate::specs::Cases::next_at, crate::specs::Cases::caseEnd, crate::specs::Cases::scriptEnd, crate::specs::Cases::room_at))]
+    #[tactic(auto, using(crate::proofs::Laws::part), unfolding(crate::specs::Cases::scriptAt, crate::specs::Cases::recordsAt, crate::specs::Cases::nextAt, crate::specs::Cases::caseEnd, crate::specs::Cases::scriptEnd, crate::specs::Cases::roomAt))]
     fn replay_case(list: &[u8], at: usize) -> Replayed {
         let start = at + HEAD_BYTES;
         let end = start + four(list, at) as usize;

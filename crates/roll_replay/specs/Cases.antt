@@ -16,8 +16,8 @@ unfoldable pub caseEnd : List ℕ → ℕ → ℕ
 caseEnd list at = rollEnd list at + 48 * fourAt list (at + 4)
 
 -- where the next case starts
-unfoldable pub next_at : List ℕ → ℕ → ℕ
-next_at list at = nextIn list (caseEnd list at)
+unfoldable pub nextAt : List ℕ → ℕ → ℕ
+nextAt list at = nextIn list (caseEnd list at)
 
 -- what is told is what the list has at a place
 abbrev pub AsListed : List ℕ → ℕ → Told → Type 0

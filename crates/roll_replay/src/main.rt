@@ -15,7 +15,7 @@
 
 ghost use Rattle.std.specs.Prelude.{◌≡◌, true, ◌↔◌, ◌+◌, ◌*◌, ◌≤◌, ◌<◌, length};
 ghost use Rattle.cases.specs.Cases.{Replays};
-ghost use Rattle.roll_replay.specs.Cases.{RollAgrees, RecordAgrees, RecordsAgree, CaseAgrees, next_at};
+ghost use Rattle.roll_replay.specs.Cases.{RollAgrees, RecordAgrees, RecordsAgree, CaseAgrees, nextAt};
 
 use cases::{Case, Replayed, UNTOUCHED, is_listed, replay};
 use std::io;
@@ -67,12 +67,12 @@ fn records_agree(list: &[u8], roll: &[u8], from: usize, count: usize) -> bool
 struct Rolls;
 
 impl Case for Rolls {
-    ghost next = { next_at };
+    ghost next = { nextAt };
 
     ghost agrees = { CaseAgrees };
 
     // The case at a place. One that the end of the list cuts short does not agree.
-    #[tactic(auto, unfolding(crate::specs::Cases::next_at, crate::specs::Cases::caseEnd, crate::specs::Cases::rollEnd, crate::specs::Cases::rollAt))]
+    #[tactic(auto, unfolding(crate::specs::Cases::nextAt, crate::specs::Cases::caseEnd, crate::specs::Cases::rollEnd, crate::specs::Cases::rollAt))]
     fn replay_case(list: &[u8], at: usize) -> Replayed {
         let start = at + HEAD_BYTES;
         let end = start + four(list, at) as usize;
