@@ -118,8 +118,8 @@ pub fn is_printable_char(c: u32) -> bool
     c < 0xFFF0
 }
 
-// Whether c may start an identifier. A table is written to the stack where a function that lends it begins, so that ASCII and the Russian
-// letters are answered before such a function is called. The second clause: what the classes exclude of each other, and that the tables ascend.
+// Whether c may start an identifier. ASCII and the Russian letters are answered before a table is searched. The second clause: what the classes
+// exclude of each other, and that the tables ascend.
 #[tactic(auto, using(crate::proofs::classes::Laws::start_laws))]
 pub fn is_id_start(c: u32) -> bool
     ensures value { result ≡ isIdStart c }

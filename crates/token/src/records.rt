@@ -166,7 +166,7 @@ pub fn write(out: &mut [u8], s: &[u8], scratch: &[u8], bytes: usize)
     write_walk(out, s);
 }
 
-// The same by another walk. The table is lent here, so that it is not written to the stack where records are copied.
+// The same by another walk.
 fn write_walk(out: &mut [u8], s: &[u8])
     requires { (length s.now ≤ mostBytes) × Fits (answer s.now) (length out.old) }
     ensures { out.new ≡ sets out.old 0 (records (tokensIn (answer s.now))) }

@@ -2,9 +2,10 @@
 use Rattle.std.proofs.Common.{refl, ◌∙◌}
 use Rattle.chars.specs.paper.Quoted.{codes, oneOf}
 use Rattle.chars.specs.code.Classes.{bitIn}
-use Rattle.chars.proofs.Carry.{mask-set}
+use Rattle.chars.proofs.theorems.Promises.{code_laws}
 use Rattle.token.proofs.cursor.Bytes.{ascii-list}
 use Rattle.token.proofs.quoted.is_escape.Goals as goal
+open code_laws use {mask-set}
 
 pub returns : goal.returns
 unfolding bitIn
