@@ -45,8 +45,8 @@ pub trait Case {
     fn replay_case(list: &[u8], at: usize) -> Replayed
         requires { at < length list.now }
         ensures next_value { result.next ≡ next list.now at }
-        ensures at_lt_next { (at < result.next) × (result.next ≤ length list.now) }
-        ensures variant { (result.agrees ≡ true) ↔ agrees list.now at };
+        ensures onward { (at < result.next) × (result.next ≤ length list.now) }
+        ensures agreement { (result.agrees ≡ true) ↔ agrees list.now at };
 }
 
 // The cases of the list, from its start to its end.

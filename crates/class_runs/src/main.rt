@@ -7,6 +7,7 @@ ghost use Rattle.std.specs.Prelude.{◌≡◌, ◌-◌, length, IfOk};
 ghost use Rattle.class_runs.specs.Lines.{glyph, inClass, runText};
 
 use chars::classes::{is_id_char, is_id_start, is_op_char, is_printable_char};
+use std::alloc::AllocError;
 use std::io;
 
 // Whether c belongs to the class of number k.
@@ -50,9 +51,9 @@ fn run_text(first: u32, last: u32) -> [u8; 11]
     ]
 }
 
-// Writes the runs of class k among the characters from `from` up to `end`, not included, and counts those characters. The run at hand is
-// from start up to c.
-fn print_runs(rt: &impl Print, k: u32, name: &[u8], from: u32, end: u32) -> io::Result<u32>
+// Puts the lines of the runs of class k among the characters from `from` up to `end`, not included, behind a text, and counts those characters.
+// The run at hand is from start up to c.
+fn put_runs(text: &mut Vec<u8>, k: u32, name: &[u8], from: u32, end: u32) -> Result<u32, AllocError>
     ensures { IfOk result (λ walked. walked ≡ end - from) }
 {
     let mut walked: u32 = 0;
@@ -60,33 +61,35 @@ fn print_runs(rt: &impl Print, k: u32, name: &[u8], from: u32, end: u32) -> io::
     for c in from..end {
         if !belongs(k, c) {
             if start < c {
-                rt.write_all(name)?;
-                rt.write_all(&run_text(start, c - 1))?;
+                text.extend_from_slice(name)?;
+                text.extend_from_slice(&run_text(start, c - 1))?;
             }
             start = c + 1;
         }
         walked += 1;
     }
     if start < end {
-        rt.write_all(name)?;
-        rt.write_all(&run_text(start, end - 1))?;
+        text.extend_from_slice(name)?;
+        text.extend_from_slice(&run_text(start, end - 1))?;
     }
     Ok(walked)
 }
 
 // The same for all characters up to U+FFFF. The surrogates between the two parts are none.
-fn print_class(rt: &impl Print, k: u32, name: &[u8]) -> io::Result<u32>
+fn put_class(text: &mut Vec<u8>, k: u32, name: &[u8]) -> Result<u32, AllocError>
     ensures { IfOk result (λ walked. walked ≡ 63488) }
 {
-    let below = print_runs(rt, k, name, 0, 0xD800)?;
-    let above = print_runs(rt, k, name, 0xE000, 0x10000)?;
+    let below = put_runs(text, k, name, 0, 0xD800)?;
+    let above = put_runs(text, k, name, 0xE000, 0x10000)?;
     Ok(below + above)
 }
 
 fn main(rt: HostRuntime) -> io::Result<()> {
-    print_class(&rt, 0, b"id-start")?;
-    print_class(&rt, 1, b"id-char")?;
-    print_class(&rt, 2, b"op-char")?;
-    let walked = print_class(&rt, 3, b"printable")?;
+    let mut text = Vec::new(rt.alloc());
+    put_class(&mut text, 0, b"id-start")?;
+    put_class(&mut text, 1, b"id-char")?;
+    put_class(&mut text, 2, b"op-char")?;
+    let walked = put_class(&mut text, 3, b"printable")?;
+    rt.write_all(&text)?;
     println!(rt; "characters {walked}")
 }

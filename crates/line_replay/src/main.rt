@@ -21,7 +21,7 @@ ghost use Rattle.entry.specs.paper.Host.{bufferSeen};
 ghost use Rattle.cases.specs.Cases.{Replays};
 ghost use Rattle.line_replay.specs.Cases.{mostRoom, holding, builtSeen, NumbersListed, BlockAgrees, PlaceAgrees, PlacesAgree, Agrees, CaseAgrees, nextAt};
 
-use cases::{Case, Replayed, UNTOUCHED, is_listed, replay};
+use cases::{Case, Counts, Replayed, UNTOUCHED, is_listed};
 use std::io;
 use std::io::Read;
 use words::read::four;
@@ -87,7 +87,7 @@ fn places_agree(list: &[u8], script: &[u8], index: &[u32], from: usize, count: u
 #[tactic(auto, unfolding(cases::specs::Cases::untouched, crate::specs::Cases::builtSeen))]
 fn block_agrees(lent: &mut [u32], list: &[u8], at: usize, script: &[u8]) -> bool
     requires { at + 16 ≤ length list.now }
-    ensures variant { (result ≡ true) ↔ BlockAgrees list.now at (builtSeen script.now lent.old) }
+    ensures agreement { (result ≡ true) ↔ BlockAgrees list.now at (builtSeen script.now lent.old) }
     ensures lent_after { lent.new ≡ bufferSeen (builtSeen script.now lent.old) }
 {
     let mut block = [UNTOUCHED; 16];
@@ -106,7 +106,7 @@ fn agrees(
 ) -> bool
     requires at_in_bounds { at + 16 ≤ length list.now }
     requires count_in_bounds { from + 4 * length lent.old + 20 * count ≤ length list.now }
-    ensures variant { (result ≡ true) ↔ Agrees list.now at script.now from (length lent.old) count (builtSeen script.now lent.old) }
+    ensures agreement { (result ≡ true) ↔ Agrees list.now at script.now from (length lent.old) count (builtSeen script.now lent.old) }
     ensures lent_after { lent.new ≡ bufferSeen (builtSeen script.now lent.old) }
 {
     if !block_agrees(lent, list, at, script) {
@@ -161,11 +161,18 @@ impl Case for Places {
     }
 }
 
+// The cases of the list, from its start to its end.
+fn replay(list: &[u8]) -> Counts
+    ensures { Replays list.now (nextAt list.now) (CaseAgrees list.now) (length list.now) result.cases result.differ }
+{
+    cases::replay::<Places>(list)
+}
+
 // No ensures: no contract can speak of what was written to standard output.
 fn main(rt: HostRuntime) -> io::Result<()> {
     let mut list = Vec::new(rt.alloc());
     rt.reader().read_to_end(&mut list)?;
-    let counts = replay::<Places>(&list);
+    let counts = replay(&list);
     println!(rt;
         "{} scripts replayed, {} differ",
         counts.cases, counts.differ

@@ -3,9 +3,6 @@
 // `stdout`, the lines that document 01 gives.
 #![tactic(auto)]
 
-ghost use Rattle.std.specs.Prelude.{◌≡◌, ◌+◌, length};
-ghost use Rattle.listing_text.specs.Lines.{mostScript};
-
 use std::io;
 use std::io::Read;
 

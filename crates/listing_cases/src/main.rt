@@ -10,6 +10,7 @@ ghost use Rattle.std.proofs.lemmas.List.Edits.{sets};
 ghost use Rattle.io.specs.Counts.{IsPrefixLen};
 
 use listing_text::TEXT_BYTES;
+use std::alloc::AllocError;
 use std::io;
 use std::io::Read;
 
@@ -75,10 +76,9 @@ fn put_case(list: &[u8], at: usize, earlier: u64, out: &mut [u8; TEXT_BYTES]) ->
     listing_text::case_text(earlier + 1, &list[start..end], out)
 }
 
-// Writes the text of each case in turn, and hands back how many there are. What is written no contract can say: that of `write_all` has no record
-// of it.
+// Puts the text of each case in turn behind a text, and hands back how many there are.
 #[tactic(auto, using(crate::proofs::CaseLaws::cases))]
-fn write_cases(rt: &impl Print, list: &[u8]) -> io::Result<u64>
+fn put_cases(all: &mut Vec<u8>, list: &[u8]) -> Result<u64, AllocError>
     ensures { IfOk result (λ written. written ≡ caseCount list.now) }
 {
     let mut text = [0u8; TEXT_BYTES];
@@ -86,7 +86,7 @@ fn write_cases(rt: &impl Print, list: &[u8]) -> io::Result<u64>
     let mut written: u64 = 0;
     while list.len() - at >= HEAD_BYTES {
         let length = put_case(list, at, written, &mut text);
-        rt.write_all(&text[..length])?;
+        all.extend_from_slice(&text[..length])?;
         at = case_end(list, at);
         written += 1;
     }
@@ -97,6 +97,7 @@ fn write_cases(rt: &impl Print, list: &[u8]) -> io::Result<u64>
 fn main(rt: HostRuntime) -> io::Result<()> {
     let mut list = Vec::new(rt.alloc());
     rt.reader().read_to_end(&mut list)?;
-    write_cases(&rt, &list)?;
-    Ok(())
+    let mut all = Vec::new(rt.alloc());
+    put_cases(&mut all, &list)?;
+    rt.write_all(&all)
 }

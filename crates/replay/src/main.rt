@@ -18,7 +18,7 @@ ghost use Rattle.entry.specs.paper.Host.{bufferSeen};
 ghost use Rattle.cases.specs.Cases.{untouched, Replays};
 ghost use Rattle.replay.specs.Cases.{recordsIn, mostRoom, listedBytes, seenLent, listedOf, CaseAgrees, nextAt};
 
-use cases::{Case, Replayed, UNTOUCHED, is_listed, replay};
+use cases::{Case, Counts, Replayed, UNTOUCHED, is_listed};
 use std::io;
 use std::io::Read;
 use words::read::four;
@@ -72,7 +72,7 @@ fn agrees(lent: &mut [u8], list: &[u8], at: usize, script: &[u8], records: &[u8]
     requires at_in_bounds { at + 16 ≤ length list.now }
     requires lent_len_bound { length lent.old ≤ mostRoom }
     requires lent_value { lent.old ≡ untouched (length lent.old) }
-    ensures variant { (result ≡ true) ↔ (seenLent script.now (length lent.old) ≡ listedOf list.now at records.now (length lent.old)) }
+    ensures agreement { (result ≡ true) ↔ (seenLent script.now (length lent.old) ≡ listedOf list.now at records.now (length lent.old)) }
     ensures lent_after { lent.new ≡ bufferSeen (seenLent script.now (length lent.old)) }
 {
     let mut block = [UNTOUCHED; 16];
@@ -124,11 +124,18 @@ impl Case for Scripts {
     }
 }
 
+// The cases of the list, from its start to its end.
+fn replay(list: &[u8]) -> Counts
+    ensures { Replays list.now (nextAt list.now) (CaseAgrees list.now) (length list.now) result.cases result.differ }
+{
+    cases::replay::<Scripts>(list)
+}
+
 // No ensures: no contract can speak of what was written to standard output.
 fn main(rt: HostRuntime) -> io::Result<()> {
     let mut list = Vec::new(rt.alloc());
     rt.reader().read_to_end(&mut list)?;
-    let counts = replay::<Scripts>(&list);
+    let counts = replay(&list);
     println!(rt;
         "{} scripts replayed, {} differ",
         counts.cases, counts.differ

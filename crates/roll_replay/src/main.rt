@@ -17,7 +17,7 @@ ghost use Rattle.std.specs.Prelude.{◌≡◌, true, ◌↔◌, ◌+◌, ◌*◌
 ghost use Rattle.cases.specs.Cases.{Replays};
 ghost use Rattle.roll_replay.specs.Cases.{RollAgrees, RecordAgrees, RecordsAgree, CaseAgrees, nextAt};
 
-use cases::{Case, Replayed, UNTOUCHED, is_listed, replay};
+use cases::{Case, Counts, Replayed, UNTOUCHED, is_listed};
 use std::io;
 use std::io::Read;
 use words::read::four;
@@ -97,10 +97,17 @@ impl Case for Rolls {
     }
 }
 
+// The cases of the list, from its start to its end.
+fn replay(list: &[u8]) -> Counts
+    ensures { Replays list.now (nextAt list.now) (CaseAgrees list.now) (length list.now) result.cases result.differ }
+{
+    cases::replay::<Rolls>(list)
+}
+
 // No ensures: no contract can speak of what was written to standard output.
 fn main(rt: HostRuntime) -> io::Result<()> {
     let mut list = Vec::new(rt.alloc());
     rt.reader().read_to_end(&mut list)?;
-    let counts = replay::<Rolls>(&list);
+    let counts = replay(&list);
     println!(rt; "{} rolls replayed, {} differ", counts.cases, counts.differ)
 }

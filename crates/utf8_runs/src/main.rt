@@ -7,6 +7,7 @@
 ghost use Rattle.std.specs.Prelude.{◌≡◌, ◌≤◌, length, IfOk};
 ghost use Rattle.utf8_runs.specs.Sequences.{bytesOf, rows, tallied, walked};
 
+use std::alloc::{AllocError, Global};
 use std::io;
 
 const EDGES: [u8; 4] = [0x7F, 0x80, 0xBF, 0xC0];
@@ -55,22 +56,23 @@ fn walk(n: usize, a: u8, tails: u32, counts: &mut [u32; 5], all: &mut [u32; 5])
     }
 }
 
-// Writes the counts, and ends the line. Hands back how many numbers it wrote.
-fn print_counts(rt: &impl Print, counts: &[u32; 5]) -> io::Result<usize>
+// Puts the counts behind a text, and ends the line. Hands back how many numbers these are.
+fn put_counts(text: &mut String, alloc: Global, counts: &[u32; 5]) -> Result<usize, AllocError>
     ensures { IfOk result (λ written. written ≡ 5) }
 {
     let mut written: usize = 0;
     for count in counts {
-        print!(rt; " {count}")?;
+        let number = format!(in alloc; " {count}")?;
+        text.push_str(number.as_str())?;
         written += 1;
     }
-    println!(rt)?;
+    text.push_str("\n")?;
     Ok(written)
 }
 
-// Writes the lines of length n, and hands back the counts of the last, for all first bytes. For each first byte there are as many sequences
-// as `tails` says.
-fn print_rows(rt: &impl Print, n: usize, tails: u32) -> io::Result<[u32; 5]>
+// Puts the lines of length n behind a text, and hands back the counts of the last, for all first bytes. For each first byte there are as many
+// sequences as `tails` says.
+fn put_rows(text: &mut String, alloc: Global, n: usize, tails: u32) -> Result<[u32; 5], AllocError>
     requires { n ≤ 4 }
     ensures { IfOk result (λ all. all ≡ rows n tails 256) }
 {
@@ -78,18 +80,21 @@ fn print_rows(rt: &impl Print, n: usize, tails: u32) -> io::Result<[u32; 5]>
     for a in 0u32..256 {
         let mut counts = [0u32; 5];
         walk(n, a as u8, tails, &mut counts, &mut all);
-        print!(rt; "{n} {a:02x}")?;
-        print_counts(rt, &counts)?;
+        let head = format!(in alloc; "{n} {a:02x}")?;
+        text.push_str(head.as_str())?;
+        put_counts(text, alloc, &counts)?;
     }
-    print!(rt; "{n} all")?;
-    print_counts(rt, &all)?;
+    let head = format!(in alloc; "{n} all")?;
+    text.push_str(head.as_str())?;
+    put_counts(text, alloc, &all)?;
     Ok(all)
 }
 
 fn main(rt: HostRuntime) -> io::Result<()> {
-    print_rows(&rt, 1, 1)?;
-    print_rows(&rt, 2, 256)?;
-    print_rows(&rt, 3, 65536)?;
-    print_rows(&rt, 4, 4096)?;
-    Ok(())
+    let mut text = String::new(rt.alloc());
+    put_rows(&mut text, rt.alloc(), 1, 1)?;
+    put_rows(&mut text, rt.alloc(), 2, 256)?;
+    put_rows(&mut text, rt.alloc(), 3, 65536)?;
+    put_rows(&mut text, rt.alloc(), 4, 4096)?;
+    print!(rt; "{text}")
 }

@@ -11,7 +11,7 @@ pub loop-at-preserved-then-not-one : goal.loop-at-preserved-then-not-one
 loop-at-preserved-then-not-one g c =
     let one = c.replay_case-one.ensures in
     record {
-      counted = replays-differ c.loop-at.invariant.counted c.loop-at-test.true one.next_value one.variant (not-true _ c.if-not-one.true);
+      counted = replays-differ c.loop-at.invariant.counted c.loop-at-test.true one.next_value one.agreement (not-true _ c.if-not-one.true);
       few = (omega arith, omega arith);
       within = omega arith;
     }
@@ -20,7 +20,7 @@ pub loop-at-preserved : goal.loop-at-preserved
 loop-at-preserved g c =
     let one = c.replay_case-one.ensures in
     record {
-      counted = replays-agree c.loop-at.invariant.counted c.loop-at-test.true one.next_value one.variant (not-false _ c.if-not-one.false);
+      counted = replays-agree c.loop-at.invariant.counted c.loop-at-test.true one.next_value one.agreement (not-false _ c.if-not-one.false);
       few = (omega arith, omega arith);
       within = omega arith;
     }

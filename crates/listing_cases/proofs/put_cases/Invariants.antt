@@ -1,10 +1,10 @@
 -- Those written and those to come are all cases.
 use Rattle.std.proofs.Common.{◌≡◌, ◌≤◌, ◌+◌, ◌-◌, length}
 use Rattle.listing_cases.specs.Cases.{casePlace, countFor, caseCount}
-use Rattle.listing_cases.proofs.write_cases.Given as goal
+use Rattle.listing_cases.proofs.put_cases.Given as goal
 
 abbrev pub invariant-loop-at : goal.invariant-loop-at
-invariant-loop-at g l =
+invariant-loop-at l =
     record {
       within : l.at ≤ length l.list;
       fewer : l.written ≤ l.at;
@@ -13,4 +13,4 @@ invariant-loop-at g l =
     }
 
 abbrev pub decreases-loop-at : goal.decreases-loop-at
-decreases-loop-at g l = length l.list - l.at
+decreases-loop-at l = length l.list - l.at
