@@ -13,7 +13,6 @@ const SCRIPT_BYTES: u64 = listing_text::MOST_BYTES as u64 + 1;
 fn main(rt: HostRuntime) -> io::Result<()> {
     let mut script = Vec::new(rt.alloc());
     let n = rt.reader().take(SCRIPT_BYTES).read_to_end(&mut script)?;
-    let mut text = [0u8; listing_text::TEXT_BYTES];
-    let length = listing_text::listing(&script[..n], &mut text);
-    rt.write_all(&text[..length])
+    let text = listing_text::listing(rt.alloc(), &script[..n])?;
+    rt.write_all(&text)
 }

@@ -6,11 +6,8 @@
 
 ghost use Rattle.std.specs.Prelude.{◌≡◌, length, ◌+◌, ◌<◌, ◌≤◌, IfOk};
 ghost use Rattle.listing_cases.specs.Cases.{digit as digitOf, scriptLength, caseEnd, casePlace, caseOf, caseCount};
-ghost use Rattle.std.proofs.lemmas.List.Edits.{sets};
-ghost use Rattle.io.specs.Counts.{IsPrefixLen};
 
-use listing_text::TEXT_BYTES;
-use std::alloc::AllocError;
+use std::alloc::{AllocError, Global};
 use std::io;
 use std::io::Read;
 
@@ -63,30 +60,27 @@ fn case_end(list: &[u8], at: usize) -> usize
     list.len()
 }
 
-// The text of the case that starts at a place, after `earlier` others, at the start of out. The answer is the text's length.
+// The text of the case that starts at a place, after `earlier` others.
 #[tactic(auto, unfolding(crate::specs::Cases::caseOf, crate::specs::Cases::caseScript))]
-fn put_case(list: &[u8], at: usize, earlier: u64, out: &mut [u8; TEXT_BYTES]) -> usize
+fn text_of(alloc: Global, list: &[u8], at: usize, earlier: u64) -> Result<Vec<u8>, AllocError>
     requires { (at + 5 ≤ length list.now) × (at ≡ casePlace list.now earlier) × (earlier ≤ at) }
-    ensures value { result ≡ length (caseOf list.now earlier) }
-    ensures out_after { out.new ≡ sets out.old 0 (caseOf list.now earlier) }
-    ensures prefix_len { IsPrefixLen result out.new }
+    ensures { IfOk result (λ text. text.items ≡ caseOf list.now earlier) }
 {
     let start = at + HEAD_BYTES;
     let end = case_end(list, at);
-    listing_text::case_text(earlier + 1, &list[start..end], out)
+    listing_text::case_text(alloc, earlier + 1, &list[start..end])
 }
 
 // Puts the text of each case in turn behind a text, and hands back how many there are.
 #[tactic(auto, using(crate::proofs::CaseLaws::cases))]
-fn put_cases(all: &mut Vec<u8>, list: &[u8]) -> Result<u64, AllocError>
+fn put_cases(all: &mut Vec<u8>, alloc: Global, list: &[u8]) -> Result<u64, AllocError>
     ensures { IfOk result (λ written. written ≡ caseCount list.now) }
 {
-    let mut text = [0u8; TEXT_BYTES];
     let mut at: usize = 0;
     let mut written: u64 = 0;
     while list.len() - at >= HEAD_BYTES {
-        let length = put_case(list, at, written, &mut text);
-        all.extend_from_slice(&text[..length])?;
+        let text = text_of(alloc, list, at, written)?;
+        all.extend_from_slice(&text)?;
         at = case_end(list, at);
         written += 1;
     }
@@ -98,6 +92,6 @@ fn main(rt: HostRuntime) -> io::Result<()> {
     let mut list = Vec::new(rt.alloc());
     rt.reader().read_to_end(&mut list)?;
     let mut all = Vec::new(rt.alloc());
-    put_cases(&mut all, &list)?;
+    put_cases(&mut all, rt.alloc(), &list)?;
     rt.write_all(&all)
 }

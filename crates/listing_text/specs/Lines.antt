@@ -1,6 +1,5 @@
 -- Document 01, "Host entry and text", the listing program: the text that it prints, as bytes.
-use Rattle.std.specs.Prelude.{ℕ, zero, suc, ◌+◌, ◌*◌, ◌≡◌, cond, List, [], ◌∷◌, ◌++◌, length, take, drop, replicate, eqb, leb}
-use Rattle.std.proofs.lemmas.List.Edits.{sets}
+use Rattle.std.specs.Prelude.{ℕ, zero, suc, cond, List, [], ◌∷◌, ◌++◌, length, take, drop, replicate, eqb, leb}
 use Rattle.words.specs.Words.{fourAt}
 use Rattle.chars.specs.paper.Quoted.{codes}
 use Rattle.token.specs.paper.Records.{mostNeed}
@@ -10,11 +9,6 @@ use Rattle.entry.specs.paper.Host.{Seen, seen}
 use Rattle.entry.specs.computed.Listing.{listingOf}
 use Rattle.listing_text.specs.Fields.{lengthHere, lineOf}
 use Rattle.listing_text.specs.declared.fields.Line.{Line}
-
--- The text stands at the place `at` of what was `old`, and the rest is as it was; `next` is the place behind it.
-pub record Puts (old : List ℕ) (at : ℕ) (text new : List ℕ) (next : ℕ) : Type 0 where
-  pub stored : new ≡ sets old at text
-  pub behind : next ≡ at + length text
 
 -- "prints kind, start, end, cut": numbers in base ten, single spaces between them
 unfoldable pub headText : Line → List ℕ
@@ -57,10 +51,6 @@ mostScript = 3000
 -- what is lent for their records
 abbrev pub recordsRoom : ℕ
 recordsRoom = mostNeed mostScript
-
--- and for their lines: a line has at most 126 bytes, and a record at least 13
-abbrev pub linesRoom : ℕ
-linesRoom = 10 * recordsRoom
 
 -- "The listing program takes up to 3,000 bytes on standard input (more prints `long`) and prints kind, start, end, cut and values, or
 -- `refused N at P`": over the script's tokens.

@@ -6,4 +6,4 @@ mod lines;
 mod puts;
 mod text;
 
-pub use text::{MOST_BYTES, TEXT_BYTES, case_text, listing};
+pub use text::{MOST_BYTES, case_text, listing};
