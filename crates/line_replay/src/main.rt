@@ -47,12 +47,10 @@ fn numbers_listed(list: &[u8], at: usize, numbers: &[u32]) -> bool
     requires { at + 4 * length numbers.now ≤ length list.now }
     ensures { (result ≡ true) ↔ NumbersListed list.now at (length numbers.now) numbers.now }
 {
-    let mut k = 0;
-    while k < numbers.len() {
+    for k in 0..numbers.len() {
         if numbers[k] as u64 != four(list, at + 4 * k) {
             return false;
         }
-        k += 1;
     }
     true
 }
@@ -73,12 +71,10 @@ fn places_agree(list: &[u8], script: &[u8], index: &[u32], from: usize, count: u
     requires { from + 20 * count ≤ length list.now }
     ensures { (result ≡ true) ↔ PlacesAgree list.now script.now index.now from count }
 {
-    let mut k: usize = 0;
-    while k < count {
+    for k in 0..count {
         if !place_agrees(list, script, index, from + ASKED_BYTES * k) {
             return false;
         }
-        k += 1;
     }
     true
 }

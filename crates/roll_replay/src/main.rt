@@ -53,12 +53,10 @@ fn records_agree(list: &[u8], roll: &[u8], from: usize, count: usize) -> bool
     requires { from + 48 * count ≤ length list.now }
     ensures { (result ≡ true) ↔ RecordsAgree list.now roll.now from count }
 {
-    let mut k: usize = 0;
-    while k < count {
+    for k in 0..count {
         if !record_agrees(list, roll, from + ASKED_BYTES * k) {
             return false;
         }
-        k += 1;
     }
     true
 }

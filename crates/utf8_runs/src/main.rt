@@ -46,13 +46,11 @@ fn walk(n: usize, a: u8, tails: u32, counts: &mut [u32; 5], all: &mut [u32; 5])
     requires { n ≤ 4 }
     ensures { (counts.new ≡ walked n a tails counts.old) × (all.new ≡ walked n a tails all.old) }
 {
-    let mut k: u32 = 0;
-    while k < tails {
+    for k in 0..tails {
         let bytes = bytes_of(n, a, k);
         let answer = chars::utf8::valid_prefix(&bytes[..n]);
         tally(counts, answer);
         tally(all, answer);
-        k += 1;
     }
 }
 

@@ -1,5 +1,5 @@
 -- The numbers passed are listed.
-use Rattle.std.proofs.Common.{◌≤◌, ◌-◌, length}
+use Rattle.std.proofs.Common.{◌≤◌, length}
 use Rattle.line_replay.specs.Cases.{NumbersListed}
 use Rattle.line_replay.proofs.numbers_listed.Given as goal
 
@@ -8,6 +8,3 @@ invariant-loop-k l = record {
   within : l.k ≤ length l.numbers;
   listed : NumbersListed l.list l.at l.k l.numbers;
 }
-
-abbrev pub decreases-loop-k : goal.decreases-loop-k
-decreases-loop-k l = length l.numbers - l.k

@@ -1,5 +1,5 @@
 -- The places passed agree.
-use Rattle.std.proofs.Common.{◌≤◌, ◌-◌}
+use Rattle.std.proofs.Common.{◌≤◌}
 use Rattle.line_replay.specs.Cases.{PlacesAgree}
 use Rattle.line_replay.proofs.places_agree.Given as goal
 
@@ -8,6 +8,3 @@ invariant-loop-k l = record {
   within : l.k ≤ l.count;
   agree : PlacesAgree l.list l.script l.index l.from l.k;
 }
-
-abbrev pub decreases-loop-k : goal.decreases-loop-k
-decreases-loop-k l = l.count - l.k

@@ -1,5 +1,5 @@
 -- The records passed agree.
-use Rattle.std.proofs.Common.{◌≤◌, ◌-◌}
+use Rattle.std.proofs.Common.{◌≤◌}
 use Rattle.roll_replay.specs.Cases.{RecordsAgree}
 use Rattle.roll_replay.proofs.records_agree.Given as goal
 
@@ -8,6 +8,3 @@ invariant-loop-k l = record {
   within : l.k ≤ l.count;
   agree : RecordsAgree l.list l.roll l.from l.k;
 }
-
-abbrev pub decreases-loop-k : goal.decreases-loop-k
-decreases-loop-k l = l.count - l.k
