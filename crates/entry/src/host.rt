@@ -1,14 +1,13 @@
 // The host's entry. Document 01, "Host entry and text".
-ghost use Rattle.std.specs.Prelude.{◌≡◌, length};
+ghost use Rattle.std.specs.Prelude.{◌≡◌, ◌≤◌, length};
 ghost use Rattle.entry.specs.paper.Host.{seen};
 ghost use Rattle.entry.specs.computed.Host.{hostOf, verdict};
 ghost use Rattle.entry.specs.code.Host.{judgedOf, scratchOf};
 ghost use Rattle.entry.specs.Theorems.{HostTheorems};
 
+use crate::check::MOST_BYTES;
 use token::records::{Measured, measure, write};
 use words::write::put_block;
-
-pub const MOST_BYTES: usize = 16777216;
 
 // Bytes on the stack for records that are stored before the script is known to be accepted, by the script's length: those of most scripts of at
 // most 128 and 512 bytes fit into the first two, some 600 tokens into the last.
@@ -81,34 +80,19 @@ fn tokenize_by(scratch: &mut [u8], script: &[u8], records: &mut [u8], answer: &m
     }
 }
 
-// The same with a buffer on the stack, which is cleared in each call: a short script has a small one.
-fn tokenize_brief(script: &[u8], records: &mut [u8], answer: &mut [u8]) -> u32
-    requires { length answer.old ≡ 16 }
+// The same with a buffer of so many bytes on the stack, which is cleared in each call: a short script has a small one.
+fn tokenize_with<const BYTES: usize>(script: &[u8], records: &mut [u8], answer: &mut [u8]) -> u32
+    requires sixteen { length answer.old ≡ 16 }
+    requires on_stack { BYTES ≤ 8192 }
     ensures { seen result records.new answer.new ≡ hostOf script.now records.old answer.old }
 {
-    let mut scratch = [0u8; BRIEF_SCRATCH];
+    let mut scratch = [0u8; BYTES];
     tokenize_by(&mut scratch, script, records, answer)
 }
 
-fn tokenize_short(script: &[u8], records: &mut [u8], answer: &mut [u8]) -> u32
-    requires { length answer.old ≡ 16 }
-    ensures { seen result records.new answer.new ≡ hostOf script.now records.old answer.old }
-{
-    let mut scratch = [0u8; SHORT_SCRATCH];
-    tokenize_by(&mut scratch, script, records, answer)
-}
-
-fn tokenize_long(script: &[u8], records: &mut [u8], answer: &mut [u8]) -> u32
-    requires { length answer.old ≡ 16 }
-    ensures { seen result records.new answer.new ≡ hostOf script.now records.old answer.old }
-{
-    let mut scratch = [0u8; LONG_SCRATCH];
-    tokenize_by(&mut scratch, script, records, answer)
-}
-
-// The number is 0 where the script is accepted: then the records stand at the buffer's start. Every refusal leaves the buffer as it was.
-// The first clause gives the number and every lent byte for all lengths; the second says what follows: the three demands, and
-// document 01's examples.
+/// The number is 0 where the script is accepted: then the records stand at the buffer's start. Every refusal leaves the buffer as it was.
+/// The first clause gives the number and every lent byte for all lengths; the second says what follows: the three demands, and
+/// document 01's examples.
 pub fn tokenize(script: &[u8], records: &mut [u8], answer: &mut [u8]) -> u32
     ensures answer_after { seen result records.new answer.new ≡ hostOf script.now records.old answer.old }
     ensures host_theorems { HostTheorems script.now records.old answer.old }
@@ -117,10 +101,10 @@ pub fn tokenize(script: &[u8], records: &mut [u8], answer: &mut [u8]) -> u32
         return 20;
     }
     if script.len() <= BRIEF_SCRIPT {
-        return tokenize_brief(script, records, answer);
+        return tokenize_with::<BRIEF_SCRATCH>(script, records, answer);
     }
     if script.len() <= SHORT_SCRIPT {
-        return tokenize_short(script, records, answer);
+        return tokenize_with::<SHORT_SCRATCH>(script, records, answer);
     }
-    tokenize_long(script, records, answer)
+    tokenize_with::<LONG_SCRATCH>(script, records, answer)
 }
