@@ -8,7 +8,8 @@ use crate::count::count_in;
 // at `low` one half goes with each turn, whatever the numbers are, so that the search ends for any.
 #[tactic(auto, using(crate::proofs::find::Laws::halves), unfolding(crate::specs::computed::Lines::searchOf))]
 pub fn find_line(index: &[u32], lines: usize, place: usize) -> usize
-    requires { (1 ≤ lines) × (lines ≤ length index.now) }
+    requires some { 1 ≤ lines }
+    requires within { lines ≤ length index.now }
     ensures value { result ≡ searchOf index.now lines place }
     ensures upper_bound { result < lines }
 {
@@ -36,5 +37,5 @@ pub fn find_column(script: &[u8], start: usize, place: usize) -> usize
     if place <= start {
         return 1;
     }
-    place - start - count_in(script, start, place, 0x80, 0xBF) + 1
+    place - start - count_in(&script[start..place], 0x80, 0xBF) + 1
 }

@@ -5,7 +5,7 @@ ghost use Rattle.token.specs.paper.Records.{mostBytes};
 ghost use Rattle.lines.specs.computed.Lines.{part, startsIn, startsOf, lineCount};
 ghost use Rattle.lines.specs.code.Index.{noLf};
 
-pub const LF: u8 = 0x0A;
+pub const LF: u8 = b'\n';
 
 #[tactic(auto, using(crate::proofs::index::Laws::no_lf))]
 fn two_free(s: &[u8], at: usize) -> bool
@@ -35,18 +35,19 @@ fn eight_free(s: &[u8], at: usize) -> bool
 // The starts behind the LFs from `from` to `to`, stored from the number `first` on: how many numbers are stored then.
 #[tactic(auto, using(crate::proofs::index::Laws::each_byte))]
 fn put_each(index: &mut [u32], first: usize, s: &[u8], from: usize, to: usize) -> usize
-    requires { (from ≤ to) × (to ≤ length s.now) × (length s.now ≤ mostBytes) × (first + length (startsIn from (part s.now from to)) ≤ length index.old) }
+    requires ordered { from ≤ to }
+    requires within { to ≤ length s.now }
+    requires in_limit { length s.now ≤ mostBytes }
+    requires room { first + length (startsIn from (part s.now from to)) ≤ length index.old }
     ensures value { result ≡ first + length (startsIn from (part s.now from to)) }
     ensures index_after { index.new ≡ sets index.old first (startsIn from (part s.now from to)) }
 {
     let mut k = first;
-    let mut i = from;
-    while i < to {
+    for i in from..to {
         if s[i] == LF {
             index[k] = (i + 1) as u32;
             k += 1;
         }
-        i += 1;
     }
     k
 }
@@ -54,7 +55,8 @@ fn put_each(index: &mut [u32], first: usize, s: &[u8], from: usize, to: usize) -
 // All starts, from the first number on. Eight bytes without an LF are passed at once.
 #[tactic(auto, using(crate::proofs::index::Laws::each_eight))]
 pub fn put_starts(index: &mut [u32], s: &[u8])
-    requires { (length s.now ≤ mostBytes) × (lineCount s.now ≤ length index.old) }
+    requires in_limit { length s.now ≤ mostBytes }
+    requires room { lineCount s.now ≤ length index.old }
     ensures { index.new ≡ startsOf s.now ++ drop (lineCount s.now) index.old }
 {
     index[0] = 0;
