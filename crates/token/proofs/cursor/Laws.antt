@@ -14,11 +14,10 @@ use Rattle.chars.specs.code.Runs.{Each}
 use Rattle.chars.specs.declared.text.Step.{Step}
 use Rattle.chars.specs.declared.text.Step.TheVariants as step
 use Rattle.chars.proofs.theorems.Promises.{text-laws}
-use Rattle.token.specs.code.Cursor.{cursorAt, peekedOf, peekAt}
+use Rattle.token.specs.code.Cursor.{cursorAt, peekedOf, peekAt, peekedTo}
 use Rattle.token.specs.declared.cursor.Cursor.{Cursor}
-use Rattle.token.specs.declared.cursor.Peeked.{Peeked}
-use Rattle.token.specs.declared.cursor.Peeked.TheVariants as peeked
-use Rattle.token.proofs.Base.{zero-one}
+use Rattle.token.proofs.Base.{zero-one, some-parts}
+use Rattle.std.specs.Prelude.{None, Option}
 open text-laws use {at-char, at-end, place-from, next-on, step-text, step-none}
 
 -- the character at i, as the code has it
@@ -40,20 +39,20 @@ here s i code next e =
     }
 
 -- a peek, by the step that the code makes
-abbrev pub peekStep : Step → Peeked
-peekStep (step.Char code next) = peeked.Char code (cursorAt next)
-peekStep step.End = peeked.End
+abbrev pub peekStep : Step → Option (ℕ × Cursor)
+peekStep (step.Char code next) = peekedTo code (cursorAt next)
+peekStep step.End = None
 
 pub peek_step : (s : List ℕ) (i : ℕ) → peekAt s i ≡ peekStep (stepAt s i)
 unfolding peekAt
 peek_step s i = go (stepAt s i) refl
   where
     go : (x : Step) → x ≡ stepAt s i → peekAt s i ≡ peekStep x
-    go (step.Char code next) e = let h = here s i code next e in ap (peekedOf (length s)) h.text ∙ ap (λ j. peeked.Char code (cursorAt j)) (place-from s next h.within)
+    go (step.Char code next) e = let h = here s i code next e in ap (peekedOf (length s)) h.text ∙ ap (λ j. peekedTo code (cursorAt j)) (place-from s next h.within)
     go step.End e = ap (peekedOf (length s)) (at-end s i (step-none s i e))
 
 -- what a peek says
-pub peeked-char : (s : List ℕ) (i code : ℕ) (next : ℕ) → peeked.Char code (cursorAt next) ≡ peekAt s i → Here s i code next
+pub peeked-char : (s : List ℕ) (i code : ℕ) (next : ℕ) → peekedTo code (cursorAt next) ≡ peekAt s i → Here s i code next
 unfolding peekAt
 peeked-char s i code next e = go (ltb i (length s)) refl
   where
@@ -63,23 +62,24 @@ peeked-char s i code next e = go (ltb i (length s)) refl
         let t = at-char s i h in
         let n = next-on s i h in
         let p = place-from s (charEnd s i) n.1 in
-        let f : peeked.Char code (cursorAt next) ≡ peeked.Char (codeAt s i) (cursorAt (place (length s) (from s (charEnd s i)))) = e ∙ ap (peekedOf (length s)) t in
-        let a : code ≡ codeAt s i = cc in
-        let b : cursorAt next ≡ cursorAt (place (length s) (from s (charEnd s i))) = cc in
+        let f : peekedTo code (cursorAt next) ≡ peekedTo (codeAt s i) (cursorAt (place (length s) (from s (charEnd s i)))) = e ∙ ap (peekedOf (length s)) t in
+        let g = some-parts f in
+        let a = g.0 in
+        let b = g.1 in
         let d : next ≡ charEnd s i = ap (λ (c : Cursor). c.at) b ∙ p in
         record { text = t ∙ ap (λ c. record { code = c; at = i } ∷ from s (charEnd s i)) (sym a) ∙ ap (λ j. record { code = code; at = i } ∷ from s j) (sym d); in-script = h; on = omega arith; within = omega arith }
     go false q =
-        let f : peeked.Char code (cursorAt next) ≡ peeked.End = e ∙ ap (peekedOf (length s)) (at-end s i (ltb-false i (length s) q)) in
+        let f : peekedTo code (cursorAt next) ≡ None = e ∙ ap (peekedOf (length s)) (at-end s i (ltb-false i (length s) q)) in
         zero-one (cc)
 
-pub peeked-end : (s : List ℕ) (i : ℕ) → peeked.End ≡ peekAt s i → length s ≤ i
+pub peeked-end : (s : List ℕ) (i : ℕ) → None ≡ peekAt s i → length s ≤ i
 unfolding peekAt
 peeked-end s i e = go (ltb i (length s)) refl
   where
     go : (b : Bool) → ltb i (length s) ≡ b → length s ≤ i
     go false q = ltb-false i (length s) q
     go true q =
-        let f : peeked.End ≡ peeked.Char (codeAt s i) (cursorAt (place (length s) (from s (charEnd s i)))) = e ∙ ap (peekedOf (length s)) (at-char s i (ltb-true i (length s) q)) in
+        let f : None ≡ peekedTo (codeAt s i) (cursorAt (place (length s) (from s (charEnd s i)))) = e ∙ ap (peekedOf (length s)) (at-char s i (ltb-true i (length s) q)) in
         zero-one (cc)
 
 -- ---- a run of bytes
