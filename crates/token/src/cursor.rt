@@ -6,8 +6,6 @@ ghost use Rattle.chars.specs.computed.Runs.{afterRun};
 ghost use Rattle.token.specs.paper.Tests.{isAny};
 ghost use Rattle.token.specs.code.Cursor.{peekAt};
 
-use chars::text::Step;
-
 /// A byte offset in a script, which goes in by value and comes back advanced.
 #[derive(Clone, Copy, Debug, PartialEq, Eq)]
 pub struct Cursor {
@@ -41,26 +39,30 @@ impl Cursor {
     }
 
     /// The character at the cursor with the cursor after it; nothing at the end of script.
-    #[tactic(auto, using(crate::proofs::cursor::Laws::peek_step))]
+    #[tactic(auto, using(crate::proofs::cursor::Laws::peek_step, crate::proofs::cursor::Laws::step_within))]
     pub fn peek(self, s: &[u8]) -> Option<(u32, Cursor)>
         ensures { result ≡ peekAt s.now self.at }
     {
-        let here = chars::text::char_at(s, self.at);
-        match here {
-            Step::Char { code, next } => Some((code, Cursor { at: next })),
-            Step::End => None,
-        }
+        let here = chars::text::char_at(s, self.at)?;
+        Some((
+            here.code,
+            Cursor {
+                at: self.at + here.width,
+            },
+        ))
     }
 
     /// Past one character, if one stands there.
+    #[tactic(auto, using(crate::proofs::cursor::Laws::step_within))]
     pub fn step(self, s: &[u8]) -> Cursor
         requires { self.at ≤ length s.now }
         ensures { (result.at ≤ length s.now) × (from s.now result.at ≡ drop 1 (from s.now self.at)) }
     {
-        let here = chars::text::char_at(s, self.at);
-        match here {
-            Step::Char { code: _, next } => Cursor { at: next },
-            Step::End => self,
+        match chars::text::char_at(s, self.at) {
+            Some(here) => Cursor {
+                at: self.at + here.width,
+            },
+            None => self,
         }
     }
 

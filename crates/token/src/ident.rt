@@ -14,7 +14,6 @@ use crate::kinds::{TokenKind, keyword_of};
 use crate::piece::Piece;
 use crate::refusal::{Refusal, Refused};
 use crate::string::lex_prefixed_string;
-use chars::text::Step;
 
 // Where the operator sign at a place ends; the place itself, if none stands there. Past ASCII the one sign is U+21D2.
 fn sign_end(s: &[u8], at: usize) -> usize
@@ -31,15 +30,15 @@ fn sign_end(s: &[u8], at: usize) -> usize
 }
 
 // The same by the character that stands there.
+#[tactic(auto, using(crate::proofs::cursor::Laws::step_within))]
 fn wide_sign_end(s: &[u8], at: usize) -> usize
     ensures { result ≡ cond (opSign (from s.now at)) (charEnd s.now at) at }
 {
-    let here = chars::text::char_at(s, at);
-    let Step::Char { code, next } = here else {
+    let Some(here) = chars::text::char_at(s, at) else {
         return at;
     };
-    if chars::classes::is_op_char(code) {
-        return next;
+    if chars::classes::is_op_char(here.code) {
+        return at + here.width;
     }
     at
 }
