@@ -37,7 +37,7 @@ loop-start-preserved c =
     let l = c.loop-start in
     let d = c.digit_of-d.ensures ∙ ap digitOf c.byte_at.ensures in
     let k = digit-inside b c.requires.2 s l.i _ d c.if-base-d.false in
-    let f = fitted c.in-Of.w (l.v * b + c.digit_of-d.result) c.in-Of.ensures in
+    let f = fitted c.in-Some.w (l.v * b + c.digit_of-d.result) c.in-Some.ensures in
     record {
       since = omega arith;
       within = omega arith;

@@ -3,8 +3,10 @@ use Rattle.std.proofs.Common.{length, arith, refl, sym, ap, ◌∙◌}
 use Rattle.token.specs.code.Piece.{pieceOf}
 use Rattle.token.proofs.ident.Laws.{refused-at, tick-inside, tick-empty, tick-open, tick-closed, tick-on, tick-off, tick-end}
 use Rattle.token.proofs.ident.lex_backtick.Goals as goal
+use Rattle.token.specs.code.Refusal.{refusalBy}
 
 pub returns-then-byte_at-eq96 : goal.returns-then-byte_at-eq96
+unfolding refusalBy
 returns-then-byte_at-eq96 c =
     let s = c.args.s.now in
     let i = c.args.c.at in
@@ -27,6 +29,7 @@ loop-i-preserved c =
     (omega arith, omega arith, q ∙ c.loop-i.invariant.2)
 
 pub returns : goal.returns
+unfolding refusalBy
 returns c =
     let s = c.args.s.now in
     let i = c.args.c.at in
