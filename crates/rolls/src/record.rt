@@ -1,11 +1,11 @@
 // One record of a roll: its token and the cursor behind it, or a refusal. Document 02, request 1.
 ghost use Rattle.std.specs.Prelude.{◌≡◌, IfOk};
 ghost use Rattle.rolls.specs.computed.Roll.{badValues, isWrong, stepHeld, readAt, eofFollowed};
-ghost use Rattle.rolls.specs.code.Record.{lengthIf, keywordIf, kindIf, kindOf, stepOf};
+ghost use Rattle.rolls.specs.code.Record.{lengthIf, kindIf, kindOf, stepOf};
 
 use crate::refusal::{Refusal, Refused};
 use token::form::Held;
-use token::kinds::{Kw, TokenKind};
+use token::kinds::{Kw, TokenKind, keyword_of};
 
 /// A place in a roll: the offset of a record, and where the token before it ends in the script.
 #[derive(Clone, Copy, Debug, PartialEq, Eq)]
@@ -15,7 +15,7 @@ pub struct RollCursor {
 }
 
 /// A token by its kind with the values, its start, end and cut, and the cursor behind its record.
-#[derive(Clone, Copy)]
+#[derive(Clone, Copy, Debug, PartialEq, Eq)]
 pub struct Yielded {
     pub kind: TokenKind,
     pub start: usize,
@@ -39,32 +39,8 @@ fn length_for(number: u16) -> Option<u16>
     }
 }
 
-// A keyword by its number.
-#[tactic(auto, unfolding(crate::specs::code::Record::keywordIf, crate::specs::computed::Roll::keywordFor))]
-fn keyword_for(number: u16) -> Option<Kw>
-    ensures { result ≡ keywordIf number }
-{
-    match number {
-        Kw::CASE => Some(Kw::Case),
-        Kw::ELSE => Some(Kw::Else),
-        Kw::FALSE => Some(Kw::False),
-        Kw::FUNCTION => Some(Kw::Function),
-        Kw::IF => Some(Kw::If),
-        Kw::MATCH => Some(Kw::Match),
-        Kw::RETURN => Some(Kw::Return),
-        Kw::THEN => Some(Kw::Then),
-        Kw::TRUE => Some(Kw::True),
-        Kw::COLON => Some(Kw::Colon),
-        Kw::FAT_ARROW => Some(Kw::FatArrow),
-        Kw::ASSIGN => Some(Kw::Assign),
-        Kw::HASH => Some(Kw::Hash),
-        Kw::AT => Some(Kw::At),
-        _ => None,
-    }
-}
-
 // A kind by its number, with the values as one number.
-#[tactic(auto, unfolding(crate::specs::code::Record::kindIf, crate::specs::code::Record::keywordIf, crate::specs::computed::Roll::kindFor, crate::specs::computed::Roll::lengthFor))]
+#[tactic(auto, unfolding(crate::specs::code::Record::kindIf, token::specs::code::Keyword::keywordBy, token::specs::code::Keyword::keywordAmong, crate::specs::computed::Roll::keywordFor, crate::specs::computed::Roll::kindFor, crate::specs::computed::Roll::lengthFor))]
 fn kind_for(number: u16, values: u64) -> Option<TokenKind>
     ensures { result ≡ kindIf number values }
 {
@@ -90,7 +66,7 @@ fn kind_for(number: u16, values: u64) -> Option<TokenKind>
         TokenKind::DOT => TokenKind::Dot,
         TokenKind::NEWLINE => TokenKind::Newline(values == 1),
         TokenKind::EOF => TokenKind::Eof,
-        _ => TokenKind::Kw(keyword_for(number)?),
+        _ => TokenKind::Kw(keyword_of(number)?),
     };
     Some(kind)
 }

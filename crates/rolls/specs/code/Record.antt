@@ -1,22 +1,17 @@
 -- One record as the code answers it.
-use Rattle.std.specs.Prelude.{ℕ, ◌&&◌, ◌==◌, nat_le, if◌then◌else◌, Option, Some, None, Result, Ok, Err}
+use Rattle.std.specs.Prelude.{ℕ, ◌==◌, if◌then◌else◌, Option, Some, None, Result, Ok, Err}
 use Rattle.token.specs.paper.Kinds.{Token}
-use Rattle.token.specs.declared.kinds.Kw.{Kw}
 use Rattle.token.specs.declared.kinds.TokenKind.{TokenKind}
 use Rattle.token.specs.declared.form.Held.{Held}
 use Rattle.rolls.specs.paper.Refusals.{refusalNumber}
 use Rattle.rolls.specs.paper.Roll.{Stepped, yielded, stopped}
-use Rattle.rolls.specs.computed.Roll.{lengthFor, isKind, keywordFor, kindFor}
+use Rattle.rolls.specs.computed.Roll.{lengthFor, isKind, kindFor}
 use Rattle.rolls.specs.declared.record.Yielded.{Yielded}
 use Rattle.rolls.specs.declared.refusal.Refused.{Refused}
 
 -- the length of a kind's record, where there is a kind of the number
 unfoldable pub lengthIf : ℕ → Option ℕ
 lengthIf n = if lengthFor n == 0 then None else Some (lengthFor n)
-
--- the keyword of the number, where there is one
-unfoldable pub keywordIf : ℕ → Option Kw
-keywordIf n = if nat_le 32 n && nat_le n 45 then Some (keywordFor n) else None
 
 -- the kind of the number with the values, where there is one
 unfoldable pub kindIf : ℕ → ℕ → Option TokenKind
