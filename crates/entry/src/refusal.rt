@@ -1,6 +1,7 @@
-// The refusals of a script that an entry meets: 17 and 18.
+// The refusals of a script that are met before its records are lent a buffer: 17 and 18 of every script, 1 to 16 of one that is read.
 ghost use Rattle.std.specs.Prelude.{◌≡◌};
 ghost use Rattle.entry.specs.paper.Refusals.{refusalNumber};
+ghost use Rattle.entry.specs.code.Refusal.{pieceRefused};
 
 /// Why a script is refused.
 #[derive(Clone, Copy, Debug, PartialEq, Eq)]
@@ -9,6 +10,8 @@ pub enum Refusal {
     TooLong,
     /// It is not UTF-8.
     NotUtf8,
+    /// A piece of it is refused: 1 to 16.
+    Piece(token::refusal::Refusal),
 }
 
 impl Refusal {
@@ -19,6 +22,7 @@ impl Refusal {
         match self {
             Refusal::TooLong => 17,
             Refusal::NotUtf8 => 18,
+            Refusal::Piece(refusal) => refusal.number(),
         }
     }
 
@@ -35,4 +39,12 @@ impl Refusal {
 pub struct Refused {
     pub what: Refusal,
     pub place: usize,
+}
+
+impl From<token::refusal::Refused> for Refused {
+    ghost from_gives = { λ piece refused. refused ≡ pieceRefused piece };
+
+    fn from(piece: token::refusal::Refused) -> Refused {
+        Refusal::Piece(piece.what).at(piece.place)
+    }
 }
