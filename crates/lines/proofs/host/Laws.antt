@@ -16,20 +16,14 @@ use Rattle.std.specs.Prelude.{Result, Ok, Err}
 use Rattle.entry.specs.paper.Refusals.{refusalNumber}
 use Rattle.entry.specs.paper.Host.{seen}
 use Rattle.entry.specs.computed.Check.{checkOf}
-use Rattle.entry.specs.declared.refusal.Refusal.TheVariants as refusal
 use Rattle.entry.specs.declared.refusal.Refused.{Refused}
+use Rattle.entry.proofs.host.Checks.{tooLong, notUtf8}
 use Rattle.entry.specs.paper.TokenText.{insideCharacter, hasText}
 use Rattle.lines.specs.paper.Lines.{GoodPlace}
 use Rattle.lines.specs.computed.Lines.{startsOf, lineCount, searchOf, columnSince}
 use Rattle.lines.specs.computed.Host.{checkedOf, builtBy, indexSeen, foundIn, answeredBy, positionTold}
 
 -- ---- 17, 18, the number of lines
-
-abbrev pub tooLong : Refused
-tooLong = record { what = refusal.TooLong; place = 0 }
-
-abbrev pub notUtf8 : ℕ → Refused
-notUtf8 v = record { what = refusal.NotUtf8; place = v }
 
 module _ (s : List ℕ) where
   pub checked-long : mostBytes < length s → Err tooLong ≡ checkedOf s

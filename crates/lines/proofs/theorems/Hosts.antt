@@ -25,7 +25,8 @@ use Rattle.entry.specs.declared.refusal.Refused.{Refused}
 use Rattle.lines.proofs.index.Laws.{lines-length, some_line}
 use Rattle.lines.proofs.find.Laws.{column-between, search-within}
 use Rattle.std.specs.Prelude.{Result, Ok}
-use Rattle.lines.proofs.host.Laws.{tooLong, notUtf8, CheckedAs, long, invalid, good, checked-as, checked-long, checked-invalid, checked-good, good-place, place-good, index-none, index-refused, index-short, index-built, position-none, position-refused, position-off, position-short, position-found}
+use Rattle.entry.proofs.host.Checks.{tooLong, notUtf8}
+use Rattle.lines.proofs.host.Laws.{CheckedAs, long, invalid, good, checked-as, checked-long, checked-invalid, checked-good, good-place, place-good, index-none, index-refused, index-short, index-built, position-none, position-refused, position-off, position-short, position-found}
 use Rattle.lines.proofs.theorems.Starts.{starts-are}
 use Rattle.lines.proofs.theorems.Counting.{counted-is}
 use Rattle.lines.proofs.theorems.Finding.{finds-line, finds-column}
