@@ -7,29 +7,20 @@ ghost use Rattle.lines.specs.code.Index.{noLf};
 
 pub const LF: u8 = b'\n';
 
-#[tactic(auto, using(crate::proofs::index::Laws::no_lf))]
-fn two_free(s: &[u8], at: usize) -> bool
-    requires { at + 2 ≤ length s.now }
-    ensures { result ≡ noLf s.now at 2 }
-{
-    (s[at] != LF) & (s[at + 1] != LF)
-}
-
-#[tactic(auto, using(crate::proofs::index::Laws::no_lf))]
-fn four_free(s: &[u8], at: usize) -> bool
-    requires { at + 4 ≤ length s.now }
-    ensures { result ≡ noLf s.now at 4 }
-{
-    two_free(s, at) & two_free(s, at + 2)
-}
-
-// Whether no LF is among the eight bytes from a place on. `&` looks at all of them, without a branch.
+// Whether no LF is among the eight bytes from a place on. `&` looks at all of them, without a branch; a loop over them would take more instructions.
 #[tactic(auto, using(crate::proofs::index::Laws::no_lf))]
 fn eight_free(s: &[u8], at: usize) -> bool
     requires { at + 8 ≤ length s.now }
     ensures { result ≡ noLf s.now at 8 }
 {
-    four_free(s, at) & four_free(s, at + 4)
+    (s[at] != LF)
+        & (s[at + 1] != LF)
+        & (s[at + 2] != LF)
+        & (s[at + 3] != LF)
+        & (s[at + 4] != LF)
+        & (s[at + 5] != LF)
+        & (s[at + 6] != LF)
+        & (s[at + 7] != LF)
 }
 
 // The starts behind the LFs from `from` to `to`, stored from the number `first` on: how many numbers are stored then.
