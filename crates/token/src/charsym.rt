@@ -16,7 +16,8 @@ use crate::string::consume_escape;
 
 /// A character or a symbol, from its `'` on.
 pub fn lex_char_sym(s: &[u8], c: Cursor) -> Piece
-    requires { (c.at ≤ length s.now) × (apostrophe (from s.now c.at) ≡ true) }
+    requires within { c.at ≤ length s.now }
+    requires opens { apostrophe (from s.now c.at) ≡ true }
     ensures { result ≡ pieceOf (length s.now) (scanCharSym (from s.now c.at)) }
 {
     let name = Cursor { at: c.at + 1 };

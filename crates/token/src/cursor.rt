@@ -56,7 +56,8 @@ impl Cursor {
     #[tactic(auto, using(crate::proofs::cursor::Laws::step_within))]
     pub fn step(self, s: &[u8]) -> Cursor
         requires { self.at ≤ length s.now }
-        ensures { (result.at ≤ length s.now) × (from s.now result.at ≡ drop 1 (from s.now self.at)) }
+        ensures within { result.at ≤ length s.now }
+        ensures past { from s.now result.at ≡ drop 1 (from s.now self.at) }
     {
         match chars::text::char_at(s, self.at) {
             Some(here) => Cursor {

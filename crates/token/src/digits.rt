@@ -52,7 +52,9 @@ pub fn digit_of(b: u8) -> u64
 // Past the digits of this base that stand there, at most so many.
 pub fn consume_digits(s: &[u8], c: Cursor, base: u64, most: usize) -> Cursor
     requires { c.at ≤ length s.now }
-    ensures { (result.at ≤ length s.now) × (c.at ≤ result.at) × (from s.now result.at ≡ afterUpTo (digitIn base) most (from s.now c.at)) }
+    ensures within { result.at ≤ length s.now }
+    ensures onward { c.at ≤ result.at }
+    ensures rest { from s.now result.at ≡ afterUpTo (digitIn base) most (from s.now c.at) }
 {
     let mut i = c.at;
     let mut left = most;
@@ -69,7 +71,8 @@ pub fn consume_digits(s: &[u8], c: Cursor, base: u64, most: usize) -> Cursor
 // A value with one more digit, if it is at most LONG_MOST. Most values are far from the limit, and only the others need a division.
 #[tactic(auto, unfolding(crate::specs::code::Digits::valueOf))]
 fn push_digit(v: u64, d: u64, base: u64) -> Option<u64>
-    requires { (d < 16) × ((base ≡ 10) ⊎ (base ≡ 16)) }
+    requires digit { d < 16 }
+    requires base_in { (base ≡ 10) ⊎ (base ≡ 16) }
     ensures { result ≡ valueOf (v * base + d) }
 {
     if v <= Value::SAFE_MOST {
@@ -92,7 +95,9 @@ pub fn hex_ahead(s: &[u8], c: Cursor) -> bool
 
 // The number from its digits on; start is where it begins. One walk finds the digits' end and their value.
 fn number_from(s: &[u8], start: usize, c: Cursor, base: u64) -> Piece
-    requires { (start ≤ c.at) × (c.at ≤ length s.now) × ((base ≡ 10) ⊎ (base ≡ 16)) }
+    requires order { start ≤ c.at }
+    requires within { c.at ≤ length s.now }
+    requires base_in { (base ≡ 10) ⊎ (base ≡ 16) }
     ensures { result ≡ pieceOf (length s.now) (numberOf (from s.now start) (readDigits (digitIn base) base 0 (from s.now c.at))) }
 {
     let mut v: u64 = 0;
@@ -116,7 +121,9 @@ fn number_from(s: &[u8], start: usize, c: Cursor, base: u64) -> Piece
 
 // The number of this value whose digits end at a place: `L` or `l` makes it a LongLit.
 fn number_end(s: &[u8], start: usize, v: u64, end: usize) -> Piece
-    requires { (start ≤ end) × (end ≤ length s.now) × (v ≤ 9223372036854775807) }
+    requires order { start ≤ end }
+    requires within { end ≤ length s.now }
+    requires fits { v ≤ 9223372036854775807 }
     ensures { result ≡ pieceOf (length s.now) (numberOf (from s.now start) (numeral v (from s.now end))) }
 {
     match byte_at(s, end) {

@@ -142,7 +142,9 @@ fn pass_openings(s: &[u8], at: usize) -> Nest
 // comments have no other mark inside.
 #[tactic(auto, using(crate::proofs::gap::Laws::block_turns))]
 fn close_block(s: &[u8], at: usize, inner: usize) -> Option<Cursor>
-    requires { (1 ≤ length s.now) × (at ≤ length s.now) × (inner ≤ at) }
+    requires some { 1 ≤ length s.now }
+    requires within { at ≤ length s.now }
+    requires inner_in { inner ≤ at }
     ensures { result ≡ closedOf (length s.now) (close inner 0 (from s.now at)) }
 {
     let mut i = chars::runs::skip_except_two(s, at, 0x2A, 0x2F);
@@ -185,7 +187,8 @@ impl Cursor {
 
     /// Past the block comment that begins there; nothing, where it is open at the end of script. Nested ones are counted, so that any depth takes one pass and no stack.
     pub fn consume_block_comment(self, s: &[u8]) -> Option<Cursor>
-        requires { (self.at ≤ length s.now) × (opensBlock (from s.now self.at) ≡ true) }
+        requires within { self.at ≤ length s.now }
+        requires opens { opensBlock (from s.now self.at) ≡ true }
         ensures { result ≡ closedOf (length s.now) (close 0 0 (drop 2 (from s.now self.at))) }
     {
         let nest = pass_openings(s, self.at + 2);
@@ -212,7 +215,8 @@ pub fn line_end_at(s: &[u8], at: usize) -> usize
 /// Past the block comment that begins there; the place itself, where it is open at the end of script.
 #[tactic(auto, using(crate::proofs::gap::Scans::end_closed))]
 pub fn block_end(s: &[u8], at: usize) -> usize
-    requires { (at ≤ length s.now) × (opensBlock (from s.now at) ≡ true) }
+    requires within { at ≤ length s.now }
+    requires opens { opensBlock (from s.now at) ≡ true }
     ensures { result ≡ blockEnd s.now at }
 {
     let closed = Cursor { at }.consume_block_comment(s);

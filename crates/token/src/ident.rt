@@ -46,7 +46,8 @@ fn wide_sign_end(s: &[u8], at: usize) -> usize
 // Past the operator signs that stand there; `//` stops none.
 fn consume_signs(s: &[u8], c: Cursor) -> Cursor
     requires { c.at ≤ length s.now }
-    ensures { (result.at ≤ length s.now) × (from s.now result.at ≡ afterRun opSign (from s.now c.at)) }
+    ensures within { result.at ≤ length s.now }
+    ensures rest { from s.now result.at ≡ afterRun opSign (from s.now c.at) }
 {
     let mut i = c.at;
     loop {
@@ -61,7 +62,8 @@ fn consume_signs(s: &[u8], c: Cursor) -> Cursor
 /// Past an identifier's rest. Most have no underscore: then one run of id characters is all of it, and no chunks are counted.
 pub fn skip_id_rest(s: &[u8], c: Cursor) -> Cursor
     requires { c.at ≤ length s.now }
-    ensures { (result.at ≤ length s.now) × (from s.now result.at ≡ afterIdent false (from s.now c.at)) }
+    ensures within { result.at ≤ length s.now }
+    ensures rest { from s.now result.at ≡ afterIdent false (from s.now c.at) }
 {
     let end = chars::classes::id_run_end(s, c.at);
     if byte_at(s, end) == b'_' {
@@ -101,7 +103,8 @@ fn consume_id_rest(s: &[u8], c: Cursor) -> Cursor
 /// Past the operator run that stands there; a comment's opening ends it.
 pub fn consume_op_run(s: &[u8], c: Cursor) -> Cursor
     requires { c.at ≤ length s.now }
-    ensures { (result.at ≤ length s.now) × (from s.now result.at ≡ afterRun freeSign (from s.now c.at)) }
+    ensures within { result.at ≤ length s.now }
+    ensures rest { from s.now result.at ≡ afterRun freeSign (from s.now c.at) }
 {
     let mut d = c;
     loop {
@@ -127,7 +130,8 @@ pub fn opens_comment(s: &[u8], c: Cursor) -> bool
 
 // An identifier or a backtick from `start` to c, or the string that it prefixes.
 fn or_prefixed(s: &[u8], kind: TokenKind, start: usize, c: Cursor) -> Piece
-    requires { (start ≤ c.at) × (c.at ≤ length s.now) }
+    requires order { start ≤ c.at }
+    requires within { c.at ≤ length s.now }
     ensures { result ≡ pieceOf (length s.now) (orPrefixed (length s.now) kind (from s.now start) (from s.now c.at)) }
 {
     if byte_at(s, c.at) == b'"' {
@@ -138,7 +142,10 @@ fn or_prefixed(s: &[u8], kind: TokenKind, start: usize, c: Cursor) -> Piece
 
 /// An identifier, a keyword, or the string that an identifier prefixes. Its first character ends at `rest`.
 pub fn lex_ident(s: &[u8], c: Cursor, rest: Cursor) -> Piece
-    requires { (c.at ≤ length s.now) × (headIs isIdStart (from s.now c.at) ≡ true) × (rest.at ≤ length s.now) × (from s.now rest.at ≡ drop 1 (from s.now c.at)) }
+    requires within { c.at ≤ length s.now }
+    requires starts { headIs isIdStart (from s.now c.at) ≡ true }
+    requires rest_within { rest.at ≤ length s.now }
+    requires rest_is { from s.now rest.at ≡ drop 1 (from s.now c.at) }
     ensures { result ≡ pieceOf (length s.now) (scanIdent (length s.now) (from s.now c.at)) }
 {
     let end = skip_id_rest(s, rest);
@@ -169,7 +176,8 @@ pub fn lex_op_run(s: &[u8], c: Cursor) -> Piece
 
 /// A backtick or the string that it prefixes. A character past ASCII has no byte of a backtick, so bytes are enough.
 pub fn lex_backtick(s: &[u8], c: Cursor) -> Piece
-    requires { (c.at ≤ length s.now) × (isAny "`" (from s.now c.at) ≡ true) }
+    requires within { c.at ≤ length s.now }
+    requires opens { isAny "`" (from s.now c.at) ≡ true }
     ensures { result ≡ pieceOf (length s.now) (scanBacktick (length s.now) (from s.now c.at)) }
 {
     let start = c.at;

@@ -36,7 +36,9 @@ pub enum Next {
 // recognised from its byte.
 #[tactic(auto, using(crate::proofs::lexer::Starts::words))]
 fn lex_word(s: &[u8], c: Cursor) -> Piece
-    requires { (c.at < length s.now) × (isAny wordless (from s.now c.at) ≡ false) × (opensComment (from s.now c.at) ≡ false) }
+    requires within { c.at < length s.now }
+    requires no_other { isAny wordless (from s.now c.at) ≡ false }
+    requires no_comment { opensComment (from s.now c.at) ≡ false }
     ensures { result ≡ pieceOf (length s.now) (scan (length s.now) (from s.now c.at)) }
 {
     let b = s[c.at];
@@ -58,7 +60,9 @@ fn lex_word(s: &[u8], c: Cursor) -> Piece
 // The same by the character that stands there. A Russian letter is recognised from its bytes; an operator sign needs no table.
 #[tactic(auto, using(crate::proofs::lexer::Starts::wide_words))]
 fn lex_wide_word(s: &[u8], c: Cursor) -> Piece
-    requires { (c.at < length s.now) × (isAny wordless (from s.now c.at) ≡ false) × (opensComment (from s.now c.at) ≡ false) }
+    requires within { c.at < length s.now }
+    requires no_other { isAny wordless (from s.now c.at) ≡ false }
+    requires no_comment { opensComment (from s.now c.at) ≡ false }
     ensures { result ≡ pieceOf (length s.now) (scan (length s.now) (from s.now c.at)) }
 {
     if chars::classes::is_cyrillic_at(s, c.at) {
@@ -86,7 +90,9 @@ fn lex_wide_word(s: &[u8], c: Cursor) -> Piece
 /// One token, where no blank, line end or comment stands.
 #[tactic(auto, using(crate::proofs::lexer::Starts::firsts))]
 pub fn lex_token(s: &[u8], c: Cursor) -> Piece
-    requires { (c.at < length s.now) × (isAny " \t\n\r" (from s.now c.at) ≡ false) × (opensComment (from s.now c.at) ≡ false) }
+    requires within { c.at < length s.now }
+    requires no_gap { isAny " \t\n\r" (from s.now c.at) ≡ false }
+    requires no_comment { opensComment (from s.now c.at) ≡ false }
     ensures { result ≡ pieceOf (length s.now) (scan (length s.now) (from s.now c.at)) }
 {
     let at = c.at;
@@ -113,7 +119,9 @@ pub fn lex_token(s: &[u8], c: Cursor) -> Piece
 // The token that ends the gap.
 #[tactic(auto, using(crate::proofs::lexer::Laws::next_piece))]
 fn token_at(s: &[u8], c: Cursor, g: Gap) -> Result<Next, Refused>
-    requires { (c.at < length s.now) × (isAny " \t\n\r" (from s.now c.at) ≡ false) × (opensComment (from s.now c.at) ≡ false) }
+    requires within { c.at < length s.now }
+    requires no_gap { isAny " \t\n\r" (from s.now c.at) ≡ false }
+    requires no_comment { opensComment (from s.now c.at) ≡ false }
     ensures { result ≡ nextOf (length s.now) (seek (length s.now) 0 g (from s.now c.at)) }
 {
     let piece = lex_token(s, c);
@@ -131,7 +139,9 @@ fn token_at(s: &[u8], c: Cursor, g: Gap) -> Result<Next, Refused>
 // What stands at c, where neither a blank nor a comment does.
 #[tactic(auto, using(crate::proofs::lexer::Laws::stops))]
 fn stop_at(s: &[u8], c: Cursor, g: Gap) -> Result<Next, Refused>
-    requires { (c.at < length s.now) × (isAny " \t" (from s.now c.at) ≡ false) × (opensComment (from s.now c.at) ≡ false) }
+    requires within { c.at < length s.now }
+    requires no_blank { isAny " \t" (from s.now c.at) ≡ false }
+    requires no_comment { opensComment (from s.now c.at) ≡ false }
     ensures { result ≡ nextOf (length s.now) (seek (length s.now) 0 g (from s.now c.at)) }
 {
     match s[c.at] {
@@ -149,7 +159,8 @@ fn stop_at(s: &[u8], c: Cursor, g: Gap) -> Result<Next, Refused>
 // A CR: a line end before an LF, else refused.
 #[tactic(auto, using(crate::proofs::lexer::Laws::next_return))]
 fn return_at(s: &[u8], c: Cursor, g: Gap) -> Result<Next, Refused>
-    requires { (c.at < length s.now) × (isAny "\r" (from s.now c.at) ≡ true) }
+    requires within { c.at < length s.now }
+    requires is_cr { isAny "\r" (from s.now c.at) ≡ true }
     ensures { result ≡ nextOf (length s.now) (seek (length s.now) 0 g (from s.now c.at)) }
 {
     if two_at(s, c.at, b'\r', b'\n') {
@@ -169,7 +180,8 @@ fn return_at(s: &[u8], c: Cursor, g: Gap) -> Result<Next, Refused>
 // Past the comment that begins there, with the gap so far; nothing, where it is open at the end of script.
 #[tactic(auto, using(crate::proofs::lexer::Laws::passes))]
 fn pass_comment(s: &[u8], c: Cursor, g: Gap) -> Option<(Cursor, Gap)>
-    requires { (c.at < length s.now) × (opensComment (from s.now c.at) ≡ true) }
+    requires within { c.at < length s.now }
+    requires opens { opensComment (from s.now c.at) ≡ true }
     ensures { result ≡ passedOf (length s.now) g (scan (length s.now) (from s.now c.at)) }
 {
     if two_at(s, c.at, b'/', b'/') {

@@ -100,7 +100,8 @@ fn skip_ordinary(s: &[u8], c: Cursor) -> Cursor
 // Past a `$` in a prefixed string, unless `{` follows.
 #[tactic(auto, using(crate::proofs::string::Laws::dollars))]
 fn consume_interp_dollar(s: &[u8], c: Cursor) -> Result<Cursor, Refused>
-    requires { (c.at < length s.now) × (isAny "$" (from s.now c.at) ≡ true) }
+    requires within { c.at < length s.now }
+    requires dollar { isAny "$" (from s.now c.at) ≡ true }
     ensures { result ≡ dollarOf (length s.now) (from s.now c.at) }
 {
     let next = c.at + 1;
@@ -134,7 +135,8 @@ fn single_item(s: &[u8], c: Cursor, prefixed: bool) -> Result<Cursor, Refused>
 // A single string from its quote on, up to the next quote outside an escape.
 #[tactic(auto, using(crate::proofs::string::Laws::single_walk))]
 fn lex_single_string(s: &[u8], c: Cursor, prefixed: bool) -> Result<Cursor, Refused>
-    requires { (c.at ≤ length s.now) × (quote (from s.now c.at) ≡ true) }
+    requires within { c.at ≤ length s.now }
+    requires opens { quote (from s.now c.at) ≡ true }
     ensures { result ≡ endedOf (length s.now) (closeSingle prefixed (drop 1 (from s.now c.at))) }
 {
     let mut d = skip_ordinary(s, Cursor { at: c.at + 1 });
@@ -196,7 +198,8 @@ fn triple_item(s: &[u8], c: Cursor, prefixed: bool) -> Result<Cursor, Refused>
 // A triple string from its three quotes on, with all quotes directly after the first three that close it.
 #[tactic(auto, using(crate::proofs::string::Laws::triple_walk))]
 fn lex_triple_string(s: &[u8], c: Cursor, prefixed: bool) -> Result<Cursor, Refused>
-    requires { (c.at ≤ length s.now) × (threeQuotes (from s.now c.at) ≡ true) }
+    requires within { c.at ≤ length s.now }
+    requires opens { threeQuotes (from s.now c.at) ≡ true }
     ensures { result ≡ endedOf (length s.now) (closeTriple prefixed (drop 3 (from s.now c.at))) }
 {
     let mut d = skip_ordinary(s, Cursor { at: c.at + 3 });
@@ -216,7 +219,8 @@ fn lex_triple_string(s: &[u8], c: Cursor, prefixed: bool) -> Result<Cursor, Refu
 // A string from its opening on.
 #[tactic(auto, unfolding(crate::specs::computed::Answer::closeString, crate::specs::code::String::closeSingle))]
 fn lex_string(s: &[u8], c: Cursor, prefixed: bool) -> Result<Cursor, Refused>
-    requires { (c.at ≤ length s.now) × (quote (from s.now c.at) ≡ true) }
+    requires within { c.at ≤ length s.now }
+    requires opens { quote (from s.now c.at) ≡ true }
     ensures { result ≡ endedOf (length s.now) (closeString prefixed (from s.now c.at)) }
 {
     if three_quotes(s, c.at) {
@@ -243,7 +247,8 @@ fn last_off(s: &[u8], start: usize, end: usize) -> usize
 // Are the first eight bytes and the last eight of the text from `start` to `end` quotes, sixteen in all?
 #[tactic(auto, unfolding(crate::specs::code::String::eightsOff))]
 fn eights_off(s: &[u8], start: usize, end: usize) -> bool
-    requires { (start ≤ end) × (end ≤ length s.now) }
+    requires order { start ≤ end }
+    requires within { end ≤ length s.now }
     ensures { result ≡ eightsOff s.now start end }
 {
     if end - start < 16 {
@@ -273,7 +278,9 @@ fn strip_eights(s: &[u8], start: usize, end: usize) -> Span
 // The content of the text from `start` to `end`.
 #[tactic(auto, using(crate::proofs::string::Strips::strip_turns))]
 fn strip_many(s: &[u8], start: usize, end: usize) -> Span
-    requires { (start ≤ end) × (end ≤ length s.now) × Suffix (from s.now end) (from s.now start) }
+    requires order { start ≤ end }
+    requires within { end ≤ length s.now }
+    requires suffix { Suffix (from s.now end) (from s.now start) }
     ensures { spanKind result ≡ plainContent (length s.now) (from s.now start) (from s.now end) }
 {
     let left = strip_eights(s, start, end);
@@ -291,7 +298,10 @@ fn strip_many(s: &[u8], start: usize, end: usize) -> Span
 
 // The content of the plain string that stands from `start` to `end`. Most begin with one quote only.
 fn strip_quotes(s: &[u8], start: usize, end: usize) -> Span
-    requires { (start ≤ end) × (end ≤ length s.now) × (quote (from s.now start) ≡ true) × (closeString false (from s.now start) ≡ closed (from s.now end)) }
+    requires order { start ≤ end }
+    requires within { end ≤ length s.now }
+    requires opens { quote (from s.now start) ≡ true }
+    requires closes { closeString false (from s.now start) ≡ closed (from s.now end) }
     ensures { spanKind result ≡ plainContent (length s.now) (from s.now start) (from s.now end) }
 {
     let next = start + 1;
@@ -306,7 +316,8 @@ fn strip_quotes(s: &[u8], start: usize, end: usize) -> Span
 
 /// A plain string.
 pub fn lex_plain_string(s: &[u8], c: Cursor) -> Piece
-    requires { (c.at ≤ length s.now) × (quote (from s.now c.at) ≡ true) }
+    requires within { c.at ≤ length s.now }
+    requires opens { quote (from s.now c.at) ≡ true }
     ensures { result ≡ pieceOf (length s.now) (scanString (length s.now) (from s.now c.at)) }
 {
     let end = lex_string(s, c, false)?;
@@ -323,7 +334,9 @@ pub fn lex_plain_string(s: &[u8], c: Cursor) -> Piece
 /// A string whose prefix stands from `start` to c.
 #[tactic(auto, using(crate::proofs::string::Laws::prefixed_string))]
 pub fn lex_prefixed_string(s: &[u8], start: usize, c: Cursor) -> Piece
-    requires { (start ≤ c.at) × (c.at ≤ length s.now) × (quote (from s.now c.at) ≡ true) }
+    requires order { start ≤ c.at }
+    requires within { c.at ≤ length s.now }
+    requires opens { quote (from s.now c.at) ≡ true }
     ensures { result ≡ pieceOf (length s.now) (prefixedOf (length s.now) (from s.now start) (closeString true (from s.now c.at))) }
 {
     let end = lex_string(s, c, true)?;

@@ -14,7 +14,7 @@ unfolding refusalBy
 returns-in_default c =
     let s = c.args.s.now in
     let at = c.args.c.at in
-    let t = past-tick s at (sym (tick-byte s at) ∙ c.requires.1) in
+    let t = past-tick s at (sym (tick-byte s at) ∙ c.requires.opens) in
     sym-stuck s 16 (at + 1) _ t.0 (end-is _ _ t.1 (at-end s (at + 1) (peeked-end s (at + 1) c.in_default.ensures)))
 
 pub lex_escaped_char-requires : goal.lex_escaped_char-requires
@@ -24,7 +24,7 @@ pub returns-then-code-eq92 : goal.returns-then-code-eq92
 returns-then-code-eq92 c =
     let s = c.args.s.now in
     let at = c.args.c.at in
-    let t = past-tick s at (sym (tick-byte s at) ∙ c.requires.1) in
+    let t = past-tick s at (sym (tick-byte s at) ∙ c.requires.opens) in
     let h = peeked-char s (at + 1) _ _ c.in-Some.ensures in
     c.lex_escaped_char.ensures ∙ ap (pieceOf (length s)) (sym (escape-is _ _ _ _ h (from s at) t.1 (eq-eqb _ 0x5C c.if-code-eq92.true)))
 
@@ -32,7 +32,7 @@ pub returns-then-closes_char : goal.returns-then-closes_char
 returns-then-closes_char c =
     let s = c.args.s.now in
     let at = c.args.c.at in
-    let t = past-tick s at (sym (tick-byte s at) ∙ c.requires.1) in
+    let t = past-tick s at (sym (tick-byte s at) ∙ c.requires.opens) in
     let h = peeked-char s (at + 1) _ _ c.in-Some.ensures in
     char-piece _ _ _ _ h (from s at) t.1 (ne_eqb _ 0x5C c.if-code-eq92.false) (sym c.if-closes_char.ensures)
 
@@ -40,12 +40,12 @@ pub lex_symbol-requires : goal.lex_symbol-requires
 lex_symbol-requires c =
     let s = c.args.s.now in
     let at = c.args.c.at in
-    (past-tick s at (sym (tick-byte s at) ∙ c.requires.1)).0
+    (past-tick s at (sym (tick-byte s at) ∙ c.requires.opens)).0
 
 pub returns : goal.returns
 returns c =
     let s = c.args.s.now in
     let at = c.args.c.at in
-    let t = past-tick s at (sym (tick-byte s at) ∙ c.requires.1) in
+    let t = past-tick s at (sym (tick-byte s at) ∙ c.requires.opens) in
     let h = peeked-char s (at + 1) _ _ c.in-Some.ensures in
     c.lex_symbol.ensures ∙ ap (pieceOf (length s)) (sym (symbol-is _ _ _ _ h (from s at) t.1 (ne_eqb _ 0x5C c.if-code-eq92.false) (sym c.if-closes_char.ensures)))

@@ -30,7 +30,7 @@ returns-then-is_op_char c =
     let h = peeked-char s c.args.c.at _ _ c.in-Some.ensures in
     let e = sym c.if-is_op_char.ensures in
     let r = c.consume_op_run.ensures in
-    sym-token s c.consume_op_run.result.at _ _ r.0 r.1 (run-is _ _ _ _ h (sign-no-start _ e) e (sym c.if-opens_comment.ensures))
+    sym-token s c.consume_op_run.result.at _ _ r.within r.rest (run-is _ _ _ _ h (sign-no-start _ e) e (sym c.if-opens_comment.ensures))
 
 pub skip_id_rest-requires : goal.skip_id_rest-requires
 skip_id_rest-requires c = (peeked-char c.args.s.now c.args.c.at _ _ c.in-Some.ensures).within
@@ -40,7 +40,7 @@ returns-then-is_id_start c =
     let s = c.args.s.now in
     let h = peeked-char s c.args.c.at _ _ c.in-Some.ensures in
     let r = c.skip_id_rest.ensures in
-    sym-token s c.skip_id_rest.result.at _ _ r.0 r.1 (word-is _ _ _ _ h (sym c.if-is_id_start.ensures.value))
+    sym-token s c.skip_id_rest.result.at _ _ r.within r.rest (word-is _ _ _ _ h (sym c.if-is_id_start.ensures.value))
 
 pub returns-then-code-ne59 : goal.returns-then-code-ne59
 unfolding refusalBy

@@ -6,4 +6,4 @@ use Rattle.token.proofs.cursor.Cursor.step.Goals as goal
 pub returns-in-Some : goal.returns-in-Some
 returns-in-Some c =
     let h = here c.args.s.now c.args.self.at _ _ c.in-Some.ensures.value in
-    (h.within, sym (ap (drop 1) h.text))
+    record { within = h.within; past = sym (ap (drop 1) h.text) }
