@@ -37,6 +37,8 @@ fn judge(scratch: &mut [u8], script: &[u8]) -> Result<Need, Refused>
     Ok(measure(scratch, script)?)
 }
 
+// 19 and 20 are told where they are met, as the host's own: in an enum they would be taken apart again at once.
+
 // The answer, with a buffer for records that are stored before the script is known to be accepted. A script whose records fit in there is walked
 // once.
 fn tokenize_by(scratch: &mut [u8], script: &[u8], records: &mut [u8], answer: &mut [u8]) -> u32

@@ -13,6 +13,8 @@ use crate::roll::read_roll;
 use token::kinds::bit_of;
 use words::write::{put_block, put_numbers, put8};
 
+// 20 is told where it is met, with no block: in an enum it would be taken apart again at once.
+
 /// 16 bytes: refusal, place, token count, bytes of the roll; unused ones 0. The last clause says what holds of every roll.
 #[tactic(auto, using(crate::proofs::host::Laws::answers))]
 pub fn answer_roll(roll: &[u8], answer: &mut [u8]) -> u32
