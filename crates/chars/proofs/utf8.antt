@@ -1,4 +1,5 @@
 pub mod Rows
+pub mod Stands
 pub mod Codes
 pub mod Valid
 pub mod Widths

@@ -13,7 +13,7 @@ ghost use Rattle.chars.specs.promises.Codes.{CodeLaws};
 ghost use Rattle.chars.specs.promises.Classes.{ClassLaws};
 
 use crate::tables::{ALPHA_NOT_LETTER, ALPHABETIC, LOWERCASE, ND, UPPERCASE};
-use crate::text::{Step, char_at};
+use crate::text::char_at;
 use crate::utf8::pair_in;
 
 // The last code that the tables speak of.
@@ -300,15 +300,11 @@ fn wide_run_end(s: &[u8], at: usize, alphabetic: &[u16], marks: &[u16], digits: 
     ensures { result ≡ place (length s.now) (afterRun idChar (from s.now at)) }
 {
     let mut i = at;
-    while i < s.len() {
-        let here = char_at(s, i);
-        let Step::Char { code, next } = here else {
-            return i;
-        };
-        if !is_lent_id_char(code, alphabetic, marks, digits) {
+    while let Some(here) = char_at(s, i) {
+        if !is_lent_id_char(here.code, alphabetic, marks, digits) {
             return i;
         }
-        i = next;
+        i += here.width;
     }
     s.len()
 }

@@ -1,98 +1,67 @@
 // UTF-8 by the Unicode Standard, Table 3-7.
-ghost use Rattle.std.specs.Prelude.{◌≡◌, cond, [], ◌∷◌, ◌+◌, ◌<◌, ◌≤◌, ◌%◌, drop, get_or, length};
+ghost use Rattle.std.specs.Prelude.{◌≡◌, [], ◌∷◌, ◌+◌, ◌<◌, ◌≤◌, ◌%◌, drop, get_or, length};
 ghost use Rattle.chars.specs.paper.Ranges.{◌to◌};
-ghost use Rattle.chars.specs.paper.Utf8.{fits, width, codeOf, LongestValid};
-ghost use Rattle.chars.specs.code.Utf8.{decodeAt, rowsOver};
+ghost use Rattle.chars.specs.paper.Utf8.{fits, codeOf, LongestValid};
+ghost use Rattle.chars.specs.code.Utf8.{widthAt, decodeAt, rowsOver};
 ghost use Rattle.chars.specs.computed.Valid.{validPrefix};
 ghost use Rattle.chars.specs.promises.Utf8.{Decoding, ValidLaws, EncodingLaws};
 
 use crate::runs::{skip_eights, skip_long};
 
-// The character that stands at a byte offset, or that none does.
-#[derive(Clone, Copy)]
-pub enum Decoded {
-    Char { code: u32, width: usize },
-    Nothing,
+/// A character: its code, and how many bytes it has.
+#[derive(Clone, Copy, Debug, PartialEq, Eq)]
+pub struct Decoded {
+    pub code: u32,
+    pub width: usize,
 }
 
 // Whether a byte from low to high stands at `at`.
 fn byte_in(s: &[u8], at: usize, low: u8, high: u8) -> bool
     ensures { result ≡ fits (low to high ∷ []) (drop at s.now) }
 {
-    if s.len() <= at {
-        return false;
-    }
-    let b = s[at];
-    if b < low {
-        return false;
-    }
-    b <= high
+    at < s.len() && low <= s[at] && s[at] <= high
 }
 
 // Whether a byte from low to high stands at `at` and one from low2 to high2 after it.
 pub fn pair_in(s: &[u8], at: usize, low: u8, high: u8, low2: u8, high2: u8) -> bool
     ensures { result ≡ fits (low to high ∷ low2 to high2 ∷ []) (drop at s.now) }
 {
-    if !byte_in(s, at, low, high) {
-        return false;
-    }
-    byte_in(s, at + 1, low2, high2)
+    byte_in(s, at, low, high) && byte_in(s, at + 1, low2, high2)
 }
 
-// 2 where a byte from low to high stands at `at`, else 0.
-fn width_two(s: &[u8], at: usize, low: u8, high: u8) -> usize
-    ensures { result ≡ cond (fits (low to high ∷ []) (drop at s.now)) 2 0 }
-{
-    if byte_in(s, at, low, high) { 2 } else { 0 }
-}
-
-// 3 where such a byte and one from 80 to BF stand at `at`, else 0.
-fn width_three(s: &[u8], at: usize, low: u8, high: u8) -> usize
+// Whether a byte from low to high stands at `at` and two from 80 to BF after it.
+fn triple_in(s: &[u8], at: usize, low: u8, high: u8) -> bool
     requires { at ≤ length s.now }
-    ensures { result ≡ cond (fits (low to high ∷ 0x80 to 0xBF ∷ []) (drop at s.now)) 3 0 }
+    ensures { result ≡ fits (low to high ∷ 0x80 to 0xBF ∷ 0x80 to 0xBF ∷ []) (drop at s.now) }
 {
-    if !byte_in(s, at, low, high) {
-        return 0;
-    }
-    if byte_in(s, at + 1, 0x80, 0xBF) { 3 } else { 0 }
+    pair_in(s, at, low, high, 0x80, 0xBF) && byte_in(s, at + 2, 0x80, 0xBF)
 }
 
-// 4 where such a byte and two from 80 to BF stand at `at`, else 0.
-fn width_four(s: &[u8], at: usize, low: u8, high: u8) -> usize
-    requires { at ≤ length s.now }
-    ensures { result ≡ cond (fits (low to high ∷ 0x80 to 0xBF ∷ 0x80 to 0xBF ∷ []) (drop at s.now)) 4 0 }
-{
-    if width_three(s, at, low, high) == 0 {
-        return 0;
-    }
-    if byte_in(s, at + 2, 0x80, 0xBF) { 4 } else { 0 }
-}
-
-// How many bytes the well-formed character has that stands at `at`; 0 where none does. The arms are the table's rows.
-fn width_at(s: &[u8], at: usize) -> usize
-    ensures { result ≡ width (drop at s.now) }
+// How many bytes the well-formed character has that stands at `at`. The arms are the table's rows.
+fn width_at(s: &[u8], at: usize) -> Option<usize>
+    ensures { result ≡ widthAt s.now at }
 {
     if s.len() <= at {
-        return 0;
+        return None;
     }
-    let a = s[at];
-    match a {
-        0x00..=0x7F => 1,
-        0xC2..=0xDF => width_two(s, at + 1, 0x80, 0xBF),
-        0xE0 => width_three(s, at + 1, 0xA0, 0xBF),
-        0xE1..=0xEC => width_three(s, at + 1, 0x80, 0xBF),
-        0xED => width_three(s, at + 1, 0x80, 0x9F),
-        0xEE..=0xEF => width_three(s, at + 1, 0x80, 0xBF),
-        0xF0 => width_four(s, at + 1, 0x90, 0xBF),
-        0xF1..=0xF3 => width_four(s, at + 1, 0x80, 0xBF),
-        0xF4 => width_four(s, at + 1, 0x80, 0x8F),
-        _ => 0,
+    match s[at] {
+        0x00..=0x7F => Some(1),
+        0xC2..=0xDF => byte_in(s, at + 1, 0x80, 0xBF).then_some(2),
+        0xE0 => pair_in(s, at + 1, 0xA0, 0xBF, 0x80, 0xBF).then_some(3),
+        0xE1..=0xEC => pair_in(s, at + 1, 0x80, 0xBF, 0x80, 0xBF).then_some(3),
+        0xED => pair_in(s, at + 1, 0x80, 0x9F, 0x80, 0xBF).then_some(3),
+        0xEE..=0xEF => pair_in(s, at + 1, 0x80, 0xBF, 0x80, 0xBF).then_some(3),
+        0xF0 => triple_in(s, at + 1, 0x90, 0xBF).then_some(4),
+        0xF1..=0xF3 => triple_in(s, at + 1, 0x80, 0xBF).then_some(4),
+        0xF4 => triple_in(s, at + 1, 0x80, 0x8F).then_some(4),
+        _ => None,
     }
 }
 
 // The low six bits of the byte at `at`.
 fn six_bits(s: &[u8], at: usize) -> u32
-    ensures { (result ≡ get_or s.now at 0 % 64) × (result < 64) }
+    ensures value { result ≡ get_or s.now at 0 % 64 }
+    ensures upper_bound { result < 64 }
 {
     if at < s.len() {
         return (s[at] % 64) as u32;
@@ -118,21 +87,19 @@ fn code_at(s: &[u8], at: usize, w: usize) -> u32
     a % 8 * 262144 + six_bits(s, at + 1) * 4096 + six_bits(s, at + 2) * 64 + six_bits(s, at + 3)
 }
 
-// The character that stands at a byte offset. Past the end none does. The second clause says what follows of it, the
-// third what is decoded from the bytes that are written for a code.
-pub fn decode(s: &[u8], at: usize) -> Decoded
+/// The character that stands at a byte offset. Past the end none does.
+#[tactic(auto, using(crate::proofs::utf8::Stands::decode_none, crate::proofs::utf8::Stands::decode_some))]
+// The second clause says what follows of it, the third what is decoded from the bytes that are written for a code.
+pub fn decode(s: &[u8], at: usize) -> Option<Decoded>
     ensures value { result ≡ decodeAt s.now at }
     ensures decoding { Decoding s.now at }
     ensures encoding_laws { EncodingLaws }
 {
-    let w = width_at(s, at);
-    if w == 0 {
-        return Decoded::Nothing;
-    }
-    Decoded::Char {
-        code: code_at(s, at, w),
-        width: w,
-    }
+    let width = width_at(s, at)?;
+    Some(Decoded {
+        code: code_at(s, at, width),
+        width,
+    })
 }
 
 // The place past the ASCII bytes that stand from `at` on. Where one stands, thirty-twos and eights go first: at most seven are left then.
@@ -190,10 +157,9 @@ pub fn valid_prefix(s: &[u8]) -> usize
         } else if pair_in(s, i, 0xC2, 0xDF, 0x80, 0xBF) {
             i += 2;
         } else {
-            let w = width_at(s, i);
-            if w == 0 {
+            let Some(w) = width_at(s, i) else {
                 return i;
-            }
+            };
             if w == 3 {
                 i = skip_threes(s, i + w);
             } else {

@@ -1,14 +1,13 @@
 -- How the exports pack an answer into one number.
-use Rattle.std.specs.Prelude.{ℕ, ◌+◌, ◌*◌, cond}
+use Rattle.std.specs.Prelude.{ℕ, ◌+◌, ◌*◌, Option, Some, None, cond}
 use Rattle.chars.specs.paper.Classes.{isIdStart, isIdChar, isOpSign, isPrintable}
 use Rattle.chars.specs.declared.utf8.Decoded.{Decoded}
-use Rattle.chars.specs.declared.utf8.Decoded.TheVariants.{Char, Nothing}
 
 -- the four classes of a character, a bit for each
 unfoldable pub bits : ℕ → ℕ
 bits c = cond (isIdStart c) 1 0 + cond (isIdChar c) 2 0 + cond (isOpSign c) 4 0 + cond (isPrintable c) 8 0
 
 -- the width times 2^32 and the code; 0 where no character stands
-abbrev pub packed : Decoded → ℕ
-packed (Char c w) = w * 0x100000000 + c
-packed Nothing = 0
+abbrev pub packed : Option Decoded → ℕ
+packed (Some d) = d.width * 0x100000000 + d.code
+packed None = 0

@@ -2,7 +2,7 @@
 // crate's folder, makes the library, out/libchars_host.a. A slice is passed as a pointer and a length.
 #![tactic(auto)]
 
-ghost use Rattle.std.specs.Prelude.{◌≡◌, cond, ◌≤◌};
+ghost use Rattle.std.specs.Prelude.{◌≡◌, if◌then◌else◌, ◌≤◌};
 ghost use Rattle.chars.specs.computed.Valid.{validPrefix};
 ghost use Rattle.chars.specs.code.Utf8.{decodeAt};
 ghost use Rattle.chars_host.specs.Packing.{bits, packed};
@@ -23,16 +23,16 @@ pub extern "C" fn chars_valid_prefix(s: &[u8]) -> usize
 pub extern "C" fn chars_decode(s: &[u8], at: usize) -> u64
     ensures { result ≡ packed (decodeAt s.now at) }
 {
-    let here = chars::utf8::decode(s, at);
-    match here {
-        Decoded::Char { code, width } => width as u64 * 0x1_0000_0000 + code as u64,
-        Decoded::Nothing => 0,
+    match chars::utf8::decode(s, at) {
+        Some(Decoded { code, width }) => width as u64 * 0x1_0000_0000 + code as u64,
+        None => 0,
     }
 }
 
 // The weight where the bit is set, else 0.
 fn bit(set: bool, weight: u32) -> u32
-    ensures { (result ≡ cond set weight 0) × (result ≤ weight) }
+    ensures value { result ≡ (if set then weight else 0) }
+    ensures upper_bound { result ≤ weight }
 {
     if set { weight } else { 0 }
 }

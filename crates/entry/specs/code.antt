@@ -1,2 +1,3 @@
 -- What the code's own functions answer.
+pub mod Refusal
 pub mod Host

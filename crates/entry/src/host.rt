@@ -1,14 +1,17 @@
 // The host's entry. Document 01, "Host entry and text".
-ghost use Rattle.std.specs.Prelude.{◌≡◌, length};
+ghost use Rattle.std.specs.Prelude.{◌≡◌, ℕ, ◌≤◌, length, IfOk, IfErr};
+ghost use Rattle.token.specs.computed.Answer.{answer};
+ghost use Rattle.token.specs.code.Records.{Held};
+ghost use Rattle.entry.specs.paper.Refusals.{refusalNumber};
 ghost use Rattle.entry.specs.paper.Host.{seen};
-ghost use Rattle.entry.specs.computed.Host.{hostOf, verdict};
-ghost use Rattle.entry.specs.code.Host.{judgedOf, scratchOf};
+ghost use Rattle.entry.specs.computed.Host.{hostOf, rejected, verdict};
+ghost use Rattle.entry.specs.code.Host.{judgedOf, Judged, scratchOf};
 ghost use Rattle.entry.specs.Theorems.{HostTheorems};
 
-use token::records::{Measured, measure, write};
+use crate::check::check_text;
+use crate::refusal::Refused;
+use token::records::{Need, measure, write};
 use words::write::put_block;
-
-pub const MOST_BYTES: usize = 16777216;
 
 // Bytes on the stack for records that are stored before the script is known to be accepted, by the script's length: those of most scripts of at
 // most 128 and 512 bytes fit into the first two, some 600 tokens into the last.
@@ -22,39 +25,19 @@ pub const SHORT_SCRATCH: usize = 2048;
 
 pub const LONG_SCRATCH: usize = 8192;
 
-// A refusal's number and place; or token count and record bytes, which are more than is lent, or are not.
-#[derive(Clone, Copy)]
-pub enum Judged {
-    Refused(u32, usize),
-    Short(usize, usize),
-    Fits(usize, usize),
-}
-
-// The refusals but 20, in their order: 17, 18, 1 to 16, 19. `scratch` has the records that fit into it, where the script is read.
-fn judge(scratch: &mut [u8], script: &[u8], room: usize) -> Judged
-    ensures value { result ≡ judgedOf (verdict script.now room) }
+// What the records need, or the refusals 17, 18, 1 to 16 in their order. `scratch` has the records that fit into it, where the script is read.
+fn judge(scratch: &mut [u8], script: &[u8]) -> Result<Need, Refused>
+    ensures value { (room : ℕ) → result ≡ judgedOf (verdict script.now room) }
+    ensures refusal { IfErr result (λ e. (room : ℕ) → verdict script.now room ≡ rejected (refusalNumber e.what) e.place) }
+    ensures judged { IfOk result (λ need. Judged script.now need) }
+    ensures held { IfOk result (λ need. Held (answer script.now) need scratch.new) }
     ensures scratch_after { scratch.new ≡ scratchOf script.now scratch.old }
 {
-    if MOST_BYTES < script.len() {
-        return Judged::Refused(17, 0);
-    }
-    let valid = chars::utf8::valid_prefix(script);
-    if valid < script.len() {
-        return Judged::Refused(18, valid);
-    }
-    let found = measure(scratch, script);
-    match found {
-        Measured::Refused(number, place) => {
-            return Judged::Refused(number, place);
-        }
-        Measured::Total(count, bytes) => {
-            if room < bytes {
-                return Judged::Short(count, bytes);
-            }
-            return Judged::Fits(count, bytes);
-        }
-    }
+    check_text(script)?;
+    Ok(measure(scratch, script)?)
 }
+
+// 19 and 20 are told where they are met, as the host's own: in an enum they would be taken apart again at once.
 
 // The answer, with a buffer for records that are stored before the script is known to be accepted. A script whose records fit in there is walked
 // once.
@@ -63,52 +46,37 @@ fn tokenize_by(scratch: &mut [u8], script: &[u8], records: &mut [u8], answer: &m
     ensures answer_after { seen result records.new answer.new ≡ hostOf script.now records.old answer.old }
     ensures scratch_after { scratch.new ≡ scratchOf script.now scratch.old }
 {
-    let judged = judge(scratch, script, records.len());
-    match judged {
-        Judged::Refused(number, place) => {
-            put_block(answer, number as usize, place, 0, 0);
-            return number;
+    match judge(scratch, script) {
+        Err(refused) => {
+            let number = refused.what.number();
+            put_block(answer, number as usize, refused.place, 0, 0);
+            number
         }
-        Judged::Short(count, bytes) => {
-            put_block(answer, 19, 0, count, bytes);
-            return 19;
+        Ok(need) if records.len() < need.bytes => {
+            put_block(answer, 19, 0, need.tokens, need.bytes);
+            19
         }
-        Judged::Fits(count, bytes) => {
-            write(records, script, scratch, bytes);
-            put_block(answer, 0, 0, count, bytes);
-            return 0;
+        Ok(need) => {
+            write(records, script, scratch, need);
+            put_block(answer, 0, 0, need.tokens, need.bytes);
+            0
         }
     }
 }
 
-// The same with a buffer on the stack, which is cleared in each call: a short script has a small one.
-fn tokenize_brief(script: &[u8], records: &mut [u8], answer: &mut [u8]) -> u32
-    requires { length answer.old ≡ 16 }
+// The same with a buffer of so many bytes on the stack, which is cleared in each call: a short script has a small one.
+fn tokenize_with<const BYTES: usize>(script: &[u8], records: &mut [u8], answer: &mut [u8]) -> u32
+    requires sixteen { length answer.old ≡ 16 }
+    requires on_stack { BYTES ≤ 8192 }
     ensures { seen result records.new answer.new ≡ hostOf script.now records.old answer.old }
 {
-    let mut scratch = [0u8; BRIEF_SCRATCH];
+    let mut scratch = [0u8; BYTES];
     tokenize_by(&mut scratch, script, records, answer)
 }
 
-fn tokenize_short(script: &[u8], records: &mut [u8], answer: &mut [u8]) -> u32
-    requires { length answer.old ≡ 16 }
-    ensures { seen result records.new answer.new ≡ hostOf script.now records.old answer.old }
-{
-    let mut scratch = [0u8; SHORT_SCRATCH];
-    tokenize_by(&mut scratch, script, records, answer)
-}
-
-fn tokenize_long(script: &[u8], records: &mut [u8], answer: &mut [u8]) -> u32
-    requires { length answer.old ≡ 16 }
-    ensures { seen result records.new answer.new ≡ hostOf script.now records.old answer.old }
-{
-    let mut scratch = [0u8; LONG_SCRATCH];
-    tokenize_by(&mut scratch, script, records, answer)
-}
-
-// The number is 0 where the script is accepted: then the records stand at the buffer's start. Every refusal leaves the buffer as it was.
-// The first clause gives the number and every lent byte for all lengths; the second says what follows: the three demands, and
-// document 01's examples.
+/// The number is 0 where the script is accepted: then the records stand at the buffer's start. Every refusal leaves the buffer as it was.
+/// The first clause gives the number and every lent byte for all lengths; the second says what follows: the three demands, and
+/// document 01's examples.
 pub fn tokenize(script: &[u8], records: &mut [u8], answer: &mut [u8]) -> u32
     ensures answer_after { seen result records.new answer.new ≡ hostOf script.now records.old answer.old }
     ensures host_theorems { HostTheorems script.now records.old answer.old }
@@ -117,10 +85,10 @@ pub fn tokenize(script: &[u8], records: &mut [u8], answer: &mut [u8]) -> u32
         return 20;
     }
     if script.len() <= BRIEF_SCRIPT {
-        return tokenize_brief(script, records, answer);
+        return tokenize_with::<BRIEF_SCRATCH>(script, records, answer);
     }
     if script.len() <= SHORT_SCRIPT {
-        return tokenize_short(script, records, answer);
+        return tokenize_with::<SHORT_SCRATCH>(script, records, answer);
     }
-    tokenize_long(script, records, answer)
+    tokenize_with::<LONG_SCRATCH>(script, records, answer)
 }

@@ -2,5 +2,7 @@
 // exports these functions.
 #![tactic(auto)]
 
+pub mod refusal; // 17 and 18
+pub mod check; // these two tests
 pub mod host; // a script in, its records and the answer block out
 pub mod text; // token text

@@ -6,34 +6,18 @@ ghost use Rattle.entry.specs.paper.TokenText.{insideCharacter, hasText, tokenTex
 fn is_inside(script: &[u8], at: usize) -> bool
     ensures { result ≡ insideCharacter script.now at }
 {
-    if script.len() <= at {
-        return false;
-    }
-    let b = script[at];
-    if b < 0x80 {
-        return false;
-    }
-    b <= 0xBF
+    at < script.len() && matches!(script[at], 0x80..=0xBF)
 }
 
-// Whether start to end is a part of the script between characters: no is refusal 21.
+/// Whether start to end is a part of the script between characters: no is refusal 21.
 #[tactic(auto, unfolding(crate::specs::paper::TokenText::hasText))]
 pub fn has_text(script: &[u8], start: usize, end: usize) -> bool
     ensures { result ≡ hasText script.now start end }
 {
-    if end < start {
-        return false;
-    }
-    if script.len() < end {
-        return false;
-    }
-    if is_inside(script, start) {
-        return false;
-    }
-    !is_inside(script, end)
+    start <= end && end <= script.len() && !is_inside(script, start) && !is_inside(script, end)
 }
 
-// The part itself; where 21 is met the empty part at 0. The first clause is of the bytes, the second also of where they are.
+/// The part itself; where 21 is met the empty part at 0. The first clause is of the bytes, the second also of where they are.
 #[tactic(auto, using(crate::proofs::text::Laws::text_within), unfolding(crate::specs::paper::TokenText::tokenText))]
 pub fn token_text(script: &[u8], start: usize, end: usize) -> &[u8]
     ensures result_value { result.now ≡ tokenText script.now start end }
@@ -45,12 +29,13 @@ pub fn token_text(script: &[u8], start: usize, end: usize) -> &[u8]
     &script[..0]
 }
 
-// The same as a number, for hosts, who have the bytes: 0, or 21.
+/// The same as a number, for hosts, who have the bytes: 0, or 21.
 pub fn text_number(script: &[u8], start: u32, end: u32) -> u32
     ensures { result ≡ textNumber script.now start end }
 {
     if has_text(script, start as usize, end as usize) {
-        return 0;
+        0
+    } else {
+        21
     }
-    21
 }

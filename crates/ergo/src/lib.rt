@@ -64,3 +64,6 @@ pub extern "C" fn ergo_line_column(
 {
     lines::host::line_column(script, index, place, answer)
 }
+
+#[cfg(test)]
+mod tests;

@@ -5,10 +5,12 @@ ghost use Rattle.lines.specs.computed.Lines.{searchOf, columnSince};
 use crate::count::count_in;
 
 // Which of the first `lines` numbers is the start of the line in which the place lies, counted from 0. By halves: of a part of the index that begins
-// at `low` one half goes with each turn, whatever the numbers are, so that the search ends for any.
+// at `low` one half goes with each turn, whatever the numbers are, so that the search ends for any; std's
+// searches tell nothing of numbers out of order.
 #[tactic(auto, using(crate::proofs::find::Laws::halves), unfolding(crate::specs::computed::Lines::searchOf))]
 pub fn find_line(index: &[u32], lines: usize, place: usize) -> usize
-    requires { (1 ≤ lines) × (lines ≤ length index.now) }
+    requires some { 1 ≤ lines }
+    requires within { lines ≤ length index.now }
     ensures value { result ≡ searchOf index.now lines place }
     ensures upper_bound { result < lines }
 {
@@ -36,5 +38,5 @@ pub fn find_column(script: &[u8], start: usize, place: usize) -> usize
     if place <= start {
         return 1;
     }
-    place - start - count_in(script, start, place, 0x80, 0xBF) + 1
+    place - start - count_in(&script[start..place], 0x80, 0xBF) + 1
 }

@@ -1,5 +1,6 @@
 // What hosts call: building the index, and asking for a place. Document 02, request 2.
-ghost use Rattle.std.specs.Prelude.{◌≡◌};
+ghost use Rattle.std.specs.Prelude.{◌≡◌, ◌≤◌, length, OnOk};
+ghost use Rattle.token.specs.paper.Records.{mostBytes};
 ghost use Rattle.words.specs.Words.{told};
 ghost use Rattle.entry.specs.paper.Host.{seen};
 ghost use Rattle.lines.specs.computed.Host.{checkedOf, indexSeen, positionTold};
@@ -8,33 +9,24 @@ ghost use Rattle.lines.specs.Theorems.{LineTheorems};
 use crate::count::count_in;
 use crate::find::{find_column, find_line};
 use crate::index::{LF, put_starts};
-use entry::host::MOST_BYTES;
+use entry::check::check_text;
+use entry::refusal::Refused;
 use entry::text::has_text;
 use words::write::put_block;
 
-// The number and place of a refusal, or the number of lines.
-#[derive(Clone, Copy)]
-pub enum Checked {
-    Refused(u32, usize),
-    Lines(usize),
-}
-
-// The refusals of both functions but 20, 25 and 26, in their order: 17, 18.
-#[tactic(auto, using(crate::proofs::count::Laws::whole), unfolding(crate::specs::computed::Host::checkedOf, crate::specs::computed::Lines::lineCount))]
-fn check_script(script: &[u8]) -> Checked
-    ensures { result ≡ checkedOf script.now }
+// How many lines a script has: 17, then 18 is met before it is counted.
+#[tactic(auto, using(crate::proofs::count::Laws::counting), unfolding(crate::specs::computed::Host::checkedOf, crate::specs::computed::Lines::lineCount))]
+fn check_script(script: &[u8]) -> Result<usize, Refused>
+    ensures value { result ≡ checkedOf script.now }
+    ensures in_limit { OnOk result (length script.now ≤ mostBytes) }
 {
-    if MOST_BYTES < script.len() {
-        return Checked::Refused(17, 0);
-    }
-    let valid = chars::utf8::valid_prefix(script);
-    if valid < script.len() {
-        return Checked::Refused(18, valid);
-    }
-    Checked::Lines(count_in(script, 0, script.len(), LF, LF) + 1)
+    check_text(script)?;
+    Ok(count_in(script, LF, LF) + 1)
 }
 
-// The block has 16 bytes: refusal, place, number of lines, 0. Every refusal leaves the index as it was; 26 tells the number of lines too.
+// 20, 25 and 26 are told where they are met, each with a block of its own: an enum would be taken apart again at once.
+
+/// The block has 16 bytes: refusal, place, number of lines, 0. Every refusal leaves the index as it was; 26 tells the number of lines too.
 #[tactic(auto, unfolding(crate::specs::computed::Host::indexSeen, crate::specs::computed::Host::builtBy, crate::specs::computed::Host::checkedOf))]
 pub fn index_lines(script: &[u8], index: &mut [u32], answer: &mut [u8]) -> u32
     ensures answer_after { seen result index.new answer.new ≡ indexSeen script.now index.old answer.old }
@@ -43,25 +35,25 @@ pub fn index_lines(script: &[u8], index: &mut [u32], answer: &mut [u8]) -> u32
     if answer.len() != 16 {
         return 20;
     }
-    let checked = check_script(script);
-    match checked {
-        Checked::Refused(number, place) => {
-            put_block(answer, number as usize, place, 0, 0);
-            return number;
+    match check_script(script) {
+        Err(refused) => {
+            let number = refused.what.number();
+            put_block(answer, number as usize, refused.place, 0, 0);
+            number
         }
-        Checked::Lines(lines) => {
-            if index.len() < lines {
-                put_block(answer, 26, 0, lines, 0);
-                return 26;
-            }
+        Ok(lines) if index.len() < lines => {
+            put_block(answer, 26, 0, lines, 0);
+            26
+        }
+        Ok(lines) => {
             put_starts(index, script);
             put_block(answer, 0, 0, lines, 0);
-            return 0;
+            0
         }
     }
 }
 
-// The block has 16 bytes: refusal, place, line, column. Only the first numbers of the index are looked at, as many as there are lines.
+/// The block has 16 bytes: refusal, place, line, column. Only the first numbers of the index are looked at, as many as there are lines.
 #[tactic(auto, using(crate::proofs::index::Laws::some_line), unfolding(crate::specs::computed::Host::positionTold, crate::specs::computed::Host::answeredBy, crate::specs::computed::Host::foundIn, crate::specs::computed::Host::checkedOf, entry::specs::paper::TokenText::hasText))]
 pub fn line_column(script: &[u8], index: &[u32], place: u32, answer: &mut [u8]) -> u32
     ensures answer_after { told result answer.new ≡ positionTold script.now index.now place answer.old }
@@ -70,26 +62,26 @@ pub fn line_column(script: &[u8], index: &[u32], place: u32, answer: &mut [u8]) 
     if answer.len() != 16 {
         return 20;
     }
-    let checked = check_script(script);
-    match checked {
-        Checked::Refused(number, stop) => {
-            put_block(answer, number as usize, stop, 0, 0);
-            return number;
+    let at = place as usize;
+    match check_script(script) {
+        Err(refused) => {
+            let number = refused.what.number();
+            put_block(answer, number as usize, refused.place, 0, 0);
+            number
         }
-        Checked::Lines(lines) => {
-            let at = place as usize;
-            if !has_text(script, at, at) {
-                put_block(answer, 25, 0, 0, 0);
-                return 25;
-            }
-            if index.len() < lines {
-                put_block(answer, 26, 0, 0, 0);
-                return 26;
-            }
+        Ok(_) if !has_text(script, at, at) => {
+            put_block(answer, 25, 0, 0, 0);
+            25
+        }
+        Ok(lines) if index.len() < lines => {
+            put_block(answer, 26, 0, 0, 0);
+            26
+        }
+        Ok(lines) => {
             let line = find_line(index, lines, at);
             let start = index[line] as usize;
             put_block(answer, 0, 0, line + 1, find_column(script, start, at));
-            return 0;
+            0
         }
     }
 }

@@ -1,16 +1,21 @@
 // What hosts call: a number and an answer block. Document 02, request 1.
 ghost use Rattle.std.specs.Prelude.{◌≡◌, length};
 ghost use Rattle.words.specs.Words.{told};
+ghost use Rattle.rolls.specs.paper.Refusals.{refusalNumber};
 ghost use Rattle.rolls.specs.paper.Host.{tokenBlock, stopBlock};
+ghost use Rattle.rolls.specs.code.Record.{tokenIn};
 ghost use Rattle.rolls.specs.computed.Host.{rollTold, recordTold};
 ghost use Rattle.rolls.specs.Theorems.{RollTheorems};
 
-use crate::record::{RollCursor, Yield, read_token};
-use crate::roll::{Counted, read_roll};
-use token::kinds::{TokenKind, bit_of};
+use crate::record::{RollCursor, Yielded, read_token};
+use crate::refusal::Refused;
+use crate::roll::read_roll;
+use token::kinds::bit_of;
 use words::write::{put_block, put_numbers, put8};
 
-// 16 bytes: refusal, place, token count, bytes of the roll; unused ones 0. The last clause says what holds of every roll.
+// 20 is told where it is met, with no block: in an enum it would be taken apart again at once.
+
+/// 16 bytes: refusal, place, token count, bytes of the roll; unused ones 0. The last clause says what holds of every roll.
 #[tactic(auto, using(crate::proofs::host::Laws::answers))]
 pub fn answer_roll(roll: &[u8], answer: &mut [u8]) -> u32
     ensures answer_after { told result answer.new ≡ rollTold roll.now answer.old }
@@ -19,43 +24,57 @@ pub fn answer_roll(roll: &[u8], answer: &mut [u8]) -> u32
     if answer.len() != 16 {
         return 20;
     }
-    let total = read_roll(roll);
-    match total {
-        Counted::Refused(number, place) => {
-            put_block(answer, number as usize, place, 0, 0);
-            return number;
-        }
-        Counted::Tokens(count) => {
+    match read_roll(roll) {
+        Ok(count) => {
             put_block(answer, 0, 0, count, roll.len());
-            return 0;
+            0
+        }
+        Err(refused) => {
+            let number = refused.what.number();
+            put_block(answer, number as usize, refused.place, 0, 0);
+            number
         }
     }
 }
 
 // The block of a token.
 #[tactic(auto, using(crate::proofs::host::Laws::put_token_block))]
-fn put_token(answer: &mut [u8], kind: TokenKind, start: usize, end: usize, cut: bool, next: usize)
+fn put_token(answer: &mut [u8], found: Yielded)
     requires { length answer.old ≡ 40 }
-    ensures { answer.new ≡ tokenBlock (record { kind = kind; start = start; end = end; cut = cut }) next }
+    ensures { answer.new ≡ tokenBlock (tokenIn found) found.next.at }
 {
-    let form = kind.form();
-    put_numbers(answer, 0, 0, 0, form.number as usize, start);
-    put_numbers(answer, 16, end, bit_of(cut) as usize, 0, next);
+    let form = found.kind.form();
+    put_numbers(answer, 0, 0, 0, form.number as usize, found.start);
+    put_numbers(
+        answer,
+        16,
+        found.end,
+        bit_of(found.cut) as usize,
+        0,
+        found.next.at,
+    );
     put8(answer, 32, form.values);
 }
 
 // The block of a refusal: all behind the place is 0.
 #[tactic(auto, using(crate::proofs::host::Laws::put_stop_block))]
-fn put_stop(answer: &mut [u8], number: usize, place: usize)
+fn put_stop(answer: &mut [u8], refused: Refused)
     requires { length answer.old ≡ 40 }
-    ensures { answer.new ≡ stopBlock number place }
+    ensures { answer.new ≡ stopBlock (refusalNumber refused.what) refused.place }
 {
-    put_numbers(answer, 0, number, place, 0, 0);
+    put_numbers(
+        answer,
+        0,
+        refused.what.number() as usize,
+        refused.place,
+        0,
+        0,
+    );
     put_numbers(answer, 16, 0, 0, 0, 0);
     put8(answer, 32, 0);
 }
 
-// 40 bytes: refusal, place, kind, start, end, cut, 0, offset of the next record, and the values in 8 bytes.
+/// 40 bytes: refusal, place, kind, start, end, cut, 0, offset of the next record, and the values in 8 bytes.
 #[tactic(auto, using(crate::proofs::host::Laws::answers))]
 pub fn answer_record(roll: &[u8], at: u32, previous: u32, answer: &mut [u8]) -> u32
     ensures answer_after { told result answer.new ≡ recordTold roll.now at previous answer.old }
@@ -64,21 +83,18 @@ pub fn answer_record(roll: &[u8], at: u32, previous: u32, answer: &mut [u8]) -> 
     if answer.len() != 40 {
         return 20;
     }
-    let found = read_token(
-        roll,
-        RollCursor {
-            at: at as usize,
-            previous: previous as usize,
-        },
-    );
-    match found {
-        Yield::Refused(number, place) => {
-            put_stop(answer, number as usize, place);
-            return number;
+    let cursor = RollCursor {
+        at: at as usize,
+        previous: previous as usize,
+    };
+    match read_token(roll, cursor) {
+        Ok(found) => {
+            put_token(answer, found);
+            0
         }
-        Yield::Token(kind, start, end, cut, next) => {
-            put_token(answer, kind, start, end, cut, next.at);
-            return 0;
+        Err(refused) => {
+            put_stop(answer, refused);
+            refused.what.number()
         }
     }
 }

@@ -1,3 +1,4 @@
 pub mod Measures
 pub mod Reach
 pub mod Turns
+pub mod Told

@@ -20,3 +20,4 @@ pub mod Walks
 pub mod Alone
 pub mod Bounded
 pub mod Theorems
+pub mod Told

@@ -1,5 +1,6 @@
 -- What the code's own functions answer, module by module. Nothing that states document 01 cites it.
 pub mod Loops
+pub mod Refusal
 pub mod Cursor
 pub mod Piece
 pub mod Gap

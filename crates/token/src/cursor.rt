@@ -6,22 +6,13 @@ ghost use Rattle.chars.specs.computed.Runs.{afterRun};
 ghost use Rattle.token.specs.paper.Tests.{isAny};
 ghost use Rattle.token.specs.code.Cursor.{peekAt};
 
-use chars::text::Step;
-
-// A byte offset that goes in by value and comes back advanced.
-#[derive(Clone, Copy)]
+/// A byte offset in a script, which goes in by value and comes back advanced.
+#[derive(Clone, Copy, Debug, PartialEq, Eq)]
 pub struct Cursor {
     pub at: usize,
 }
 
-// The character at a cursor with the cursor after it, or the end of script.
-#[derive(Clone, Copy)]
-pub enum Peeked {
-    Char(u32, Cursor),
-    End,
-}
-
-// The byte at a place; past the end 0, which belongs to no class that is tested on bytes.
+/// The byte at a place; past the end 0, which belongs to no class that is tested on bytes.
 pub fn byte_at(s: &[u8], at: usize) -> u8
     ensures { result ≡ get_or s.now at 0 }
 {
@@ -31,48 +22,52 @@ pub fn byte_at(s: &[u8], at: usize) -> u8
     0
 }
 
-// Do these two bytes stand at a place?
+/// Do these two bytes stand at a place?
 pub fn two_at(s: &[u8], at: usize, a: u8, b: u8) -> bool
     requires { at ≤ length s.now }
     ensures { result ≡ eqb (get_or s.now at 0) a && eqb (get_or s.now (at + 1) 0) b }
 {
-    if byte_at(s, at) == a {
-        return byte_at(s, at + 1) == b;
-    }
-    false
+    byte_at(s, at) == a && byte_at(s, at + 1) == b
 }
 
 impl Cursor {
+    /// The start of a script.
     pub fn new() -> Self
         ensures { result.at ≡ 0 }
     {
         Self { at: 0 }
     }
 
-    #[tactic(auto, using(crate::proofs::cursor::Laws::peek_step))]
-    pub fn peek(self, s: &[u8]) -> Peeked
+    /// The character at the cursor with the cursor after it; nothing at the end of script.
+    #[tactic(auto, using(crate::proofs::cursor::Laws::peek_step, crate::proofs::cursor::Laws::step_within))]
+    pub fn peek(self, s: &[u8]) -> Option<(u32, Cursor)>
         ensures { result ≡ peekAt s.now self.at }
     {
-        let here = chars::text::char_at(s, self.at);
-        match here {
-            Step::Char { code, next } => Peeked::Char(code, Cursor { at: next }),
-            Step::End => Peeked::End,
-        }
+        let here = chars::text::char_at(s, self.at)?;
+        Some((
+            here.code,
+            Cursor {
+                at: self.at + here.width,
+            },
+        ))
     }
 
-    // Past one character, if one stands there.
+    /// Past one character, if one stands there.
+    #[tactic(auto, using(crate::proofs::cursor::Laws::step_within))]
     pub fn step(self, s: &[u8]) -> Cursor
         requires { self.at ≤ length s.now }
-        ensures { (result.at ≤ length s.now) × (from s.now result.at ≡ drop 1 (from s.now self.at)) }
+        ensures within { result.at ≤ length s.now }
+        ensures past { from s.now result.at ≡ drop 1 (from s.now self.at) }
     {
-        let here = chars::text::char_at(s, self.at);
-        match here {
-            Step::Char { code: _, next } => Cursor { at: next },
-            Step::End => self,
+        match chars::text::char_at(s, self.at) {
+            Some(here) => Cursor {
+                at: self.at + here.width,
+            },
+            None => self,
         }
     }
 
-    // Past the spaces and tabs that stand there. Most stand alone: two bytes are looked at before any loop.
+    /// Past the spaces and tabs that stand there. Most stand alone: two bytes are looked at before any loop.
     #[tactic(auto, using(crate::proofs::cursor::Blanks::blanks))]
     pub fn skip_blanks(self, s: &[u8]) -> Cursor
         requires { self.at ≤ length s.now }
@@ -89,7 +84,7 @@ impl Cursor {
     }
 }
 
-// The same from a place on: spaces by eights, then byte by byte.
+/// The same from a place on: spaces by eights, then byte by byte.
 #[tactic(auto, using(crate::proofs::cursor::Blanks::blanks))]
 pub fn skip_more(s: &[u8], at: usize) -> Cursor
     requires { at ≤ length s.now }
@@ -108,8 +103,5 @@ pub fn skip_more(s: &[u8], at: usize) -> Cursor
 fn is_blank(b: u8) -> bool
     ensures { result ≡ oneOf " \t" b }
 {
-    match b {
-        0x09 | 0x20 => true,
-        _ => false,
-    }
+    matches!(b, b' ' | b'\t')
 }

@@ -6,16 +6,13 @@ ghost use Rattle.token.specs.computed.Answer.{numeral, readDigits, numberOf, sca
 ghost use Rattle.token.specs.code.Digits.{digitIn, digitOf, afterUpTo, valueOf, intOr};
 ghost use Rattle.token.specs.code.Piece.{pieceOf};
 
-use crate::cursor::{Cursor, byte_at};
+use crate::cursor::{Cursor, byte_at, two_at};
 use crate::kinds::TokenKind;
 use crate::piece::Piece;
+use crate::refusal::{Refusal, Refused};
 
-// A value of at most 9223372036854775807, or that it is larger.
-#[derive(Clone, Copy)]
-pub enum Value {
-    Of(u64),
-    Over,
-}
+/// The limits of numbers.
+pub struct Value;
 
 impl Value {
     pub const LONG_MOST: u64 = 9223372036854775807;
@@ -32,9 +29,9 @@ pub fn is_digit(b: u8, base: u64) -> bool
     ensures { result ≡ digitIn base b }
 {
     match b {
-        0x30..=0x39 => true,
-        0x41..=0x46 => base == 16,
-        0x61..=0x66 => base == 16,
+        b'0'..=b'9' => true,
+        b'A'..=b'F' => base == 16,
+        b'a'..=b'f' => base == 16,
         _ => false,
     }
 }
@@ -45,9 +42,9 @@ pub fn digit_of(b: u8) -> u64
     ensures { result ≡ digitOf b }
 {
     match b {
-        0x30..=0x39 => (b - 0x30) as u64,
-        0x41..=0x46 => (b - 0x37) as u64,
-        0x61..=0x66 => (b - 0x57) as u64,
+        b'0'..=b'9' => (b - b'0') as u64,
+        b'A'..=b'F' => (b - b'A' + 10) as u64,
+        b'a'..=b'f' => (b - b'a' + 10) as u64,
         _ => 16,
     }
 }
@@ -55,7 +52,9 @@ pub fn digit_of(b: u8) -> u64
 // Past the digits of this base that stand there, at most so many.
 pub fn consume_digits(s: &[u8], c: Cursor, base: u64, most: usize) -> Cursor
     requires { c.at ≤ length s.now }
-    ensures { (result.at ≤ length s.now) × (c.at ≤ result.at) × (from s.now result.at ≡ afterUpTo (digitIn base) most (from s.now c.at)) }
+    ensures within { result.at ≤ length s.now }
+    ensures onward { c.at ≤ result.at }
+    ensures rest { from s.now result.at ≡ afterUpTo (digitIn base) most (from s.now c.at) }
 {
     let mut i = c.at;
     let mut left = most;
@@ -69,19 +68,20 @@ pub fn consume_digits(s: &[u8], c: Cursor, base: u64, most: usize) -> Cursor
     Cursor { at: i }
 }
 
-// A value with one more digit. Most values are far from the limit, and only the others need a division.
+// A value with one more digit, if it is at most LONG_MOST. Most values are far from the limit, and only the others need a division.
 #[tactic(auto, unfolding(crate::specs::code::Digits::valueOf))]
-fn push_digit(v: u64, d: u64, base: u64) -> Value
-    requires { (d < 16) × ((base ≡ 10) ⊎ (base ≡ 16)) }
+fn push_digit(v: u64, d: u64, base: u64) -> Option<u64>
+    requires digit { d < 16 }
+    requires base_in { (base ≡ 10) ⊎ (base ≡ 16) }
     ensures { result ≡ valueOf (v * base + d) }
 {
     if v <= Value::SAFE_MOST {
-        return Value::Of(v * base + d);
+        return Some(v * base + d);
     }
     if (Value::LONG_MOST - d) / base < v {
-        return Value::Over;
+        return None;
     }
-    Value::Of(v * base + d)
+    Some(v * base + d)
 }
 
 // Do `0x` and a hex digit stand there?
@@ -90,18 +90,14 @@ pub fn hex_ahead(s: &[u8], c: Cursor) -> bool
     requires { c.at ≤ length s.now }
     ensures { result ≡ hexAhead (from s.now c.at) }
 {
-    if byte_at(s, c.at) != 0x30 {
-        return false;
-    }
-    if byte_at(s, c.at + 1) != 0x78 {
-        return false;
-    }
-    is_digit(byte_at(s, c.at + 2), 16)
+    two_at(s, c.at, b'0', b'x') && is_digit(byte_at(s, c.at + 2), 16)
 }
 
 // The number from its digits on; start is where it begins. One walk finds the digits' end and their value.
 fn number_from(s: &[u8], start: usize, c: Cursor, base: u64) -> Piece
-    requires { (start ≤ c.at) × (c.at ≤ length s.now) × ((base ≡ 10) ⊎ (base ≡ 16)) }
+    requires order { start ≤ c.at }
+    requires within { c.at ≤ length s.now }
+    requires base_in { (base ≡ 10) ⊎ (base ≡ 16) }
     ensures { result ≡ pieceOf (length s.now) (numberOf (from s.now start) (readDigits (digitIn base) base 0 (from s.now c.at))) }
 {
     let mut v: u64 = 0;
@@ -112,8 +108,11 @@ fn number_from(s: &[u8], start: usize, c: Cursor, base: u64) -> Piece
             return number_end(s, start, v, i);
         }
         let more = push_digit(v, d, base);
-        let Value::Of(w) = more else {
-            return Piece::Refused(6, start);
+        let Some(w) = more else {
+            return Err(Refused {
+                what: Refusal::LargeNumber,
+                place: start,
+            });
         };
         v = w;
         i += 1;
@@ -122,11 +121,13 @@ fn number_from(s: &[u8], start: usize, c: Cursor, base: u64) -> Piece
 
 // The number of this value whose digits end at a place: `L` or `l` makes it a LongLit.
 fn number_end(s: &[u8], start: usize, v: u64, end: usize) -> Piece
-    requires { (start ≤ end) × (end ≤ length s.now) × (v ≤ 9223372036854775807) }
+    requires order { start ≤ end }
+    requires within { end ≤ length s.now }
+    requires fits { v ≤ 9223372036854775807 }
     ensures { result ≡ pieceOf (length s.now) (numberOf (from s.now start) (numeral v (from s.now end))) }
 {
     match byte_at(s, end) {
-        0x4C | 0x6C => Piece::Token(TokenKind::LongLit(v), Cursor { at: end + 1 }),
+        b'L' | b'l' => Ok((TokenKind::LongLit(v), Cursor { at: end + 1 })),
         _ => int_literal(start, v, Cursor { at: end }),
     }
 }
@@ -137,9 +138,12 @@ fn int_literal(start: usize, v: u64, end: Cursor) -> Piece
     ensures { result ≡ intOr start v end }
 {
     if Value::INT_MOST < v {
-        return Piece::Refused(6, start);
+        return Err(Refused {
+            what: Refusal::LargeNumber,
+            place: start,
+        });
     }
-    Piece::Token(TokenKind::IntLit(v as u32), end)
+    Ok((TokenKind::IntLit(v as u32), end))
 }
 
 pub fn lex_number(s: &[u8], c: Cursor) -> Piece

@@ -9,7 +9,8 @@ ghost use Rattle.token.specs.code.Gap.{closedOf, fourOpen, openings, lineEndAfte
 
 use crate::cursor::{Cursor, byte_at, two_at};
 
-#[derive(Clone, Copy)]
+/// What is kept of a gap while its pieces pass by.
+#[derive(Clone, Copy, Debug, PartialEq, Eq)]
 pub struct Gap {
     pub newline: bool, // a line end of the gap came
     pub comment: bool, // a comment came since its last line end
@@ -17,13 +18,8 @@ pub struct Gap {
     pub cut: bool, // the cut is set
 }
 
-fn either(a: bool, b: bool) -> bool
-    ensures { result ≡ a || b }
-{
-    if a { true } else { b }
-}
-
 impl Gap {
+    /// The gap's start.
     pub fn new() -> Self
         ensures { result ≡ fresh }
     {
@@ -35,6 +31,7 @@ impl Gap {
         }
     }
 
+    /// After a line end more.
     pub fn line_end(self) -> Gap
         ensures { result ≡ push GapKind.lineEnd self }
     {
@@ -46,43 +43,36 @@ impl Gap {
         }
     }
 
+    /// After a line comment more.
     pub fn line_comment(self) -> Gap
         ensures { result ≡ push GapKind.lineComment self }
     {
-        let cut = either(self.cut, self.pending);
         Gap {
             newline: self.newline,
             comment: true,
             pending: false,
-            cut,
+            cut: self.cut || self.pending,
         }
     }
 
+    /// After a block comment more.
     pub fn block_comment(self) -> Gap
         ensures { result ≡ push GapKind.blockComment self }
     {
-        let cut = either(self.cut, self.pending);
         Gap {
             newline: self.newline,
             comment: true,
             pending: self.newline,
-            cut,
+            cut: self.cut || self.pending,
         }
     }
 
-    // The cut of the token that ends the gap.
+    /// The cut of the token that ends the gap.
     pub fn cut_of(self) -> bool
         ensures { result ≡ cutOf self }
     {
-        either(self.cut, self.pending)
+        self.cut || self.pending
     }
-}
-
-// Where a block comment ends, or that it is open at the end of script.
-#[derive(Clone, Copy)]
-pub enum Closed {
-    At(Cursor),
-    Open,
 }
 
 // Does an LF or a CR LF stand at a place? Most bytes are above both.
@@ -92,13 +82,13 @@ fn line_ends_at(s: &[u8], at: usize) -> bool
     ensures { result ≡ endsLine (from s.now at) }
 {
     let b = byte_at(s, at);
-    if 0x0D < b {
+    if b'\r' < b {
         return false;
     }
-    if b == 0x0A {
+    if b == b'\n' {
         return true;
     }
-    two_at(s, at, 0x0D, 0x0A)
+    two_at(s, at, b'\r', b'\n')
 }
 
 // Two bytes as one number, so that both are compared at once: `/*` is 0x2A2F.
@@ -109,8 +99,8 @@ fn pair_at(s: &[u8], at: usize) -> u32
     s[at] as u32 + 256 * (s[at + 1] as u32)
 }
 
-// A place inside nested comments, and how many are open there besides the outermost.
-#[derive(Clone, Copy)]
+/// A place inside nested comments, and how many are open there besides the outermost.
+#[derive(Clone, Copy, Debug, PartialEq, Eq)]
 pub struct Nest {
     pub at: usize,
     pub depth: usize,
@@ -151,8 +141,10 @@ fn pass_openings(s: &[u8], at: usize) -> Nest
 // From inside a comment, with so many more open: past the outermost's end. What is neither `*` nor `/` is passed by eights first, since most
 // comments have no other mark inside.
 #[tactic(auto, using(crate::proofs::gap::Laws::block_turns))]
-fn close_block(s: &[u8], at: usize, inner: usize) -> Closed
-    requires { (1 ≤ length s.now) × (at ≤ length s.now) × (inner ≤ at) }
+fn close_block(s: &[u8], at: usize, inner: usize) -> Option<Cursor>
+    requires some { 1 ≤ length s.now }
+    requires within { at ≤ length s.now }
+    requires inner_in { inner ≤ at }
     ensures { result ≡ closedOf (length s.now) (close inner 0 (from s.now at)) }
 {
     let mut i = chars::runs::skip_except_two(s, at, 0x2A, 0x2F);
@@ -166,18 +158,18 @@ fn close_block(s: &[u8], at: usize, inner: usize) -> Closed
         } else if pair == 0x2F2A {
             i += 2;
             if depth == 0 {
-                return Closed::At(Cursor { at: i });
+                return Some(Cursor { at: i });
             }
             depth -= 1;
         } else {
             i += 1;
         }
     }
-    Closed::Open
+    None
 }
 
 impl Cursor {
-    // Past the line comment that begins there, up to the line end or the end of script. What is above both line-end bytes is passed by eights.
+    /// Past the line comment that begins there, up to the line end or the end of script. What is above both line-end bytes is passed by eights.
     #[tactic(auto, using(crate::proofs::gap::Laws::line_runs))]
     pub fn consume_line_comment(self, s: &[u8]) -> Cursor
         requires { (self.at ≤ length s.now) × (opensLine (from s.now self.at) ≡ true) }
@@ -193,9 +185,10 @@ impl Cursor {
         Cursor { at: i }
     }
 
-    // Past the block comment that begins there. Nested ones are counted, so that any depth takes one pass and no stack.
-    pub fn consume_block_comment(self, s: &[u8]) -> Closed
-        requires { (self.at ≤ length s.now) × (opensBlock (from s.now self.at) ≡ true) }
+    /// Past the block comment that begins there; nothing, where it is open at the end of script. Nested ones are counted, so that any depth takes one pass and no stack.
+    pub fn consume_block_comment(self, s: &[u8]) -> Option<Cursor>
+        requires within { self.at ≤ length s.now }
+        requires opens { opensBlock (from s.now self.at) ≡ true }
         ensures { result ≡ closedOf (length s.now) (close 0 0 (drop 2 (from s.now self.at))) }
     {
         let nest = pass_openings(s, self.at + 2);
@@ -203,30 +196,31 @@ impl Cursor {
     }
 }
 
-// Past the LF or CR LF that stands there; the place itself, where none does.
+/// Past the LF or CR LF that stands there; the place itself, where none does.
 #[tactic(auto, using(crate::proofs::gap::Laws::line_ends), unfolding(crate::specs::code::Gap::lineEndAfter))]
 pub fn line_end_at(s: &[u8], at: usize) -> usize
     requires { at ≤ length s.now }
     ensures { result ≡ lineEndAfter s.now at }
 {
     let b = byte_at(s, at);
-    if b == 0x0A {
+    if b == b'\n' {
         return at + 1;
     }
-    if two_at(s, at, 0x0D, 0x0A) {
+    if two_at(s, at, b'\r', b'\n') {
         return at + 2;
     }
     at
 }
 
-// Past the block comment that begins there; the place itself, where it is open at the end of script.
+/// Past the block comment that begins there; the place itself, where it is open at the end of script.
 #[tactic(auto, using(crate::proofs::gap::Scans::end_closed))]
 pub fn block_end(s: &[u8], at: usize) -> usize
-    requires { (at ≤ length s.now) × (opensBlock (from s.now at) ≡ true) }
+    requires within { at ≤ length s.now }
+    requires opens { opensBlock (from s.now at) ≡ true }
     ensures { result ≡ blockEnd s.now at }
 {
     let closed = Cursor { at }.consume_block_comment(s);
-    let Closed::At(end) = closed else {
+    let Some(end) = closed else {
         return at;
     };
     end.at

@@ -10,10 +10,10 @@ ghost use Rattle.token.specs.code.Piece.{pieceOf};
 
 use crate::cursor::{Cursor, byte_at, two_at};
 use crate::keyword::{run_number, word_number};
-use crate::kinds::{Keyword, TokenKind, keyword_of};
+use crate::kinds::{TokenKind, keyword_of};
 use crate::piece::Piece;
+use crate::refusal::{Refusal, Refused};
 use crate::string::lex_prefixed_string;
-use chars::text::Step;
 
 // Where the operator sign at a place ends; the place itself, if none stands there. Past ASCII the one sign is U+21D2.
 fn sign_end(s: &[u8], at: usize) -> usize
@@ -30,15 +30,15 @@ fn sign_end(s: &[u8], at: usize) -> usize
 }
 
 // The same by the character that stands there.
+#[tactic(auto, using(crate::proofs::cursor::Laws::step_within))]
 fn wide_sign_end(s: &[u8], at: usize) -> usize
     ensures { result ≡ cond (opSign (from s.now at)) (charEnd s.now at) at }
 {
-    let here = chars::text::char_at(s, at);
-    let Step::Char { code, next } = here else {
+    let Some(here) = chars::text::char_at(s, at) else {
         return at;
     };
-    if chars::classes::is_op_char(code) {
-        return next;
+    if chars::classes::is_op_char(here.code) {
+        return at + here.width;
     }
     at
 }
@@ -46,7 +46,8 @@ fn wide_sign_end(s: &[u8], at: usize) -> usize
 // Past the operator signs that stand there; `//` stops none.
 fn consume_signs(s: &[u8], c: Cursor) -> Cursor
     requires { c.at ≤ length s.now }
-    ensures { (result.at ≤ length s.now) × (from s.now result.at ≡ afterRun opSign (from s.now c.at)) }
+    ensures within { result.at ≤ length s.now }
+    ensures rest { from s.now result.at ≡ afterRun opSign (from s.now c.at) }
 {
     let mut i = c.at;
     loop {
@@ -58,13 +59,14 @@ fn consume_signs(s: &[u8], c: Cursor) -> Cursor
     }
 }
 
-// Past an identifier's rest. Most have no underscore: then one run of id characters is all of it, and no chunks are counted.
+/// Past an identifier's rest. Most have no underscore: then one run of id characters is all of it, and no chunks are counted.
 pub fn skip_id_rest(s: &[u8], c: Cursor) -> Cursor
     requires { c.at ≤ length s.now }
-    ensures { (result.at ≤ length s.now) × (from s.now result.at ≡ afterIdent false (from s.now c.at)) }
+    ensures within { result.at ≤ length s.now }
+    ensures rest { from s.now result.at ≡ afterIdent false (from s.now c.at) }
 {
     let end = chars::classes::id_run_end(s, c.at);
-    if byte_at(s, end) == 0x5F {
+    if byte_at(s, end) == b'_' {
         return consume_id_rest(s, Cursor { at: end });
     }
     Cursor { at: end }
@@ -98,10 +100,11 @@ fn consume_id_rest(s: &[u8], c: Cursor) -> Cursor
     consume_signs(s, Cursor { at: i })
 }
 
-// Past the operator run that stands there; a comment's opening ends it.
+/// Past the operator run that stands there; a comment's opening ends it.
 pub fn consume_op_run(s: &[u8], c: Cursor) -> Cursor
     requires { c.at ≤ length s.now }
-    ensures { (result.at ≤ length s.now) × (from s.now result.at ≡ afterRun freeSign (from s.now c.at)) }
+    ensures within { result.at ≤ length s.now }
+    ensures rest { from s.now result.at ≡ afterRun freeSign (from s.now c.at) }
 {
     let mut d = c;
     loop {
@@ -116,43 +119,44 @@ pub fn consume_op_run(s: &[u8], c: Cursor) -> Cursor
     }
 }
 
-// Does `//` or `/*` stand there?
+/// Does `//` or `/*` stand there?
 #[tactic(auto, using(crate::proofs::ident::Laws::comment_bytes))]
 pub fn opens_comment(s: &[u8], c: Cursor) -> bool
     requires { c.at ≤ length s.now }
     ensures { result ≡ opensComment (from s.now c.at) }
 {
-    if two_at(s, c.at, 0x2F, 0x2F) {
-        return true;
-    }
-    two_at(s, c.at, 0x2F, 0x2A)
+    two_at(s, c.at, b'/', b'/') || two_at(s, c.at, b'/', b'*')
 }
 
 // An identifier or a backtick from `start` to c, or the string that it prefixes.
 fn or_prefixed(s: &[u8], kind: TokenKind, start: usize, c: Cursor) -> Piece
-    requires { (start ≤ c.at) × (c.at ≤ length s.now) }
+    requires order { start ≤ c.at }
+    requires within { c.at ≤ length s.now }
     ensures { result ≡ pieceOf (length s.now) (orPrefixed (length s.now) kind (from s.now start) (from s.now c.at)) }
 {
-    if byte_at(s, c.at) == 0x22 {
+    if byte_at(s, c.at) == b'"' {
         return lex_prefixed_string(s, start, c);
     }
-    Piece::Token(kind, c)
+    Ok((kind, c))
 }
 
-// An identifier, a keyword, or the string that an identifier prefixes. Its first character ends at `rest`.
+/// An identifier, a keyword, or the string that an identifier prefixes. Its first character ends at `rest`.
 pub fn lex_ident(s: &[u8], c: Cursor, rest: Cursor) -> Piece
-    requires { (c.at ≤ length s.now) × (headIs isIdStart (from s.now c.at) ≡ true) × (rest.at ≤ length s.now) × (from s.now rest.at ≡ drop 1 (from s.now c.at)) }
+    requires within { c.at ≤ length s.now }
+    requires starts { headIs isIdStart (from s.now c.at) ≡ true }
+    requires rest_within { rest.at ≤ length s.now }
+    requires rest_is { from s.now rest.at ≡ drop 1 (from s.now c.at) }
     ensures { result ≡ pieceOf (length s.now) (scanIdent (length s.now) (from s.now c.at)) }
 {
     let end = skip_id_rest(s, rest);
     let word = keyword_of(word_number(s, c.at, end.at));
     match word {
-        Keyword::Is(k) => Piece::Token(TokenKind::Kw(k), end),
-        Keyword::Not => or_prefixed(s, TokenKind::Ident, c.at, end),
+        Some(k) => Ok((TokenKind::Kw(k), end)),
+        None => or_prefixed(s, TokenKind::Ident, c.at, end),
     }
 }
 
-// An operator; a keyword's run is an operator where a comment follows directly.
+/// An operator; a keyword's run is an operator where a comment follows directly.
 pub fn lex_op_run(s: &[u8], c: Cursor) -> Piece
     requires { c.at ≤ length s.now }
     ensures { result ≡ pieceOf (length s.now) (scanOperator (from s.now c.at)) }
@@ -160,31 +164,38 @@ pub fn lex_op_run(s: &[u8], c: Cursor) -> Piece
     let end = consume_op_run(s, c);
     let run = keyword_of(run_number(s, c.at, end.at));
     match run {
-        Keyword::Is(k) => {
+        Some(k) => {
             if opens_comment(s, end) {
-                return Piece::Token(TokenKind::OpId, end);
+                return Ok((TokenKind::OpId, end));
             }
-            Piece::Token(TokenKind::Kw(k), end)
+            Ok((TokenKind::Kw(k), end))
         }
-        Keyword::Not => Piece::Token(TokenKind::OpId, end),
+        None => Ok((TokenKind::OpId, end)),
     }
 }
 
-// A backtick or the string that it prefixes. A character past ASCII has no byte of a backtick, so bytes are enough.
+/// A backtick or the string that it prefixes. A character past ASCII has no byte of a backtick, so bytes are enough.
 pub fn lex_backtick(s: &[u8], c: Cursor) -> Piece
-    requires { (c.at ≤ length s.now) × (isAny "`" (from s.now c.at) ≡ true) }
+    requires within { c.at ≤ length s.now }
+    requires opens { isAny "`" (from s.now c.at) ≡ true }
     ensures { result ≡ pieceOf (length s.now) (scanBacktick (length s.now) (from s.now c.at)) }
 {
     let start = c.at;
     let mut i = start + 1;
-    if byte_at(s, i) == 0x60 {
-        return Piece::Refused(5, start);
+    if byte_at(s, i) == b'`' {
+        return Err(Refused {
+            what: Refusal::EmptyBacktick,
+            place: start,
+        });
     }
     while i < s.len() {
-        if s[i] == 0x60 {
+        if s[i] == b'`' {
             return or_prefixed(s, TokenKind::BacktickId, start, Cursor { at: i + 1 });
         }
         i += 1;
     }
-    Piece::Refused(4, start)
+    Err(Refused {
+        what: Refusal::OpenBacktick,
+        place: start,
+    })
 }

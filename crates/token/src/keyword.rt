@@ -86,7 +86,9 @@ fn eight_number(s: &[u8], at: usize) -> u16
 // The kind's number of the identifier from `at` to `end`. Most differ from all nine words in their length.
 #[tactic(auto, using(crate::proofs::keyword::Laws::keywords))]
 pub fn word_number(s: &[u8], at: usize, end: usize) -> u16
-    requires { (at ≤ end) × (end ≤ length s.now) × Suffix (from s.now end) (from s.now at) }
+    requires order { at ≤ end }
+    requires within { end ≤ length s.now }
+    requires suffix { Suffix (from s.now end) (from s.now at) }
     ensures { result ≡ numberOr 1 (wordOf (codesTo (from s.now at) (from s.now end))) }
 {
     match end - at {
@@ -116,7 +118,9 @@ fn sign_number(b: u8) -> u16
 // The kind's number of the operator from `at` to `end`, if no comment stands behind it.
 #[tactic(auto, using(crate::proofs::keyword::Laws::keywords))]
 pub fn run_number(s: &[u8], at: usize, end: usize) -> u16
-    requires { (at ≤ end) × (end ≤ length s.now) × Suffix (from s.now end) (from s.now at) }
+    requires order { at ≤ end }
+    requires within { end ≤ length s.now }
+    requires suffix { Suffix (from s.now end) (from s.now at) }
     ensures { result ≡ numberOr 2 (runOf (codesTo (from s.now at) (from s.now end))) }
 {
     match end - at {

@@ -6,7 +6,7 @@ ghost use Rattle.token.specs.code.Form.{formOf, plainForm};
 ghost use Rattle.token.specs.code.Keyword.{keywordBy};
 ghost use Rattle.token.specs.declared.kinds.TokenKind.TheVariants as tk;
 
-#[derive(Clone, Copy)]
+#[derive(Clone, Copy, Debug, PartialEq, Eq)]
 pub enum Kw {
     Case,
     Else,
@@ -24,7 +24,7 @@ pub enum Kw {
     At,
 }
 
-#[derive(Clone, Copy)]
+#[derive(Clone, Copy, Debug, PartialEq, Eq)]
 pub enum TokenKind {
     Ident,
     OpId,
@@ -175,7 +175,7 @@ impl TokenKind {
 }
 
 // What a record has of its kind: the kind's number, the length of the whole record, and the values as one number, the first in the lowest bytes.
-#[derive(Clone, Copy)]
+#[derive(Clone, Copy, Debug, PartialEq, Eq)]
 pub struct Form {
     pub number: u16,
     pub length: u16,
@@ -246,33 +246,26 @@ pub fn bit_of(b: bool) -> u8
     if b { 1 } else { 0 }
 }
 
-// A keyword, or that a kind is none.
-#[derive(Clone, Copy)]
-pub enum Keyword {
-    Is(Kw),
-    Not,
-}
-
-// The keyword of a kind's number.
+/// The keyword of a kind's number; none, where the kind is no keyword.
 #[tactic(auto, unfolding(crate::specs::code::Keyword::keywordBy, crate::specs::code::Keyword::keywordAmong))]
-pub fn keyword_of(number: u16) -> Keyword
+pub fn keyword_of(number: u16) -> Option<Kw>
     ensures { result ≡ keywordBy number }
 {
     match number {
-        Kw::CASE => Keyword::Is(Kw::Case),
-        Kw::ELSE => Keyword::Is(Kw::Else),
-        Kw::FALSE => Keyword::Is(Kw::False),
-        Kw::FUNCTION => Keyword::Is(Kw::Function),
-        Kw::IF => Keyword::Is(Kw::If),
-        Kw::MATCH => Keyword::Is(Kw::Match),
-        Kw::RETURN => Keyword::Is(Kw::Return),
-        Kw::THEN => Keyword::Is(Kw::Then),
-        Kw::TRUE => Keyword::Is(Kw::True),
-        Kw::COLON => Keyword::Is(Kw::Colon),
-        Kw::FAT_ARROW => Keyword::Is(Kw::FatArrow),
-        Kw::ASSIGN => Keyword::Is(Kw::Assign),
-        Kw::HASH => Keyword::Is(Kw::Hash),
-        Kw::AT => Keyword::Is(Kw::At),
-        _ => Keyword::Not,
+        Kw::CASE => Some(Kw::Case),
+        Kw::ELSE => Some(Kw::Else),
+        Kw::FALSE => Some(Kw::False),
+        Kw::FUNCTION => Some(Kw::Function),
+        Kw::IF => Some(Kw::If),
+        Kw::MATCH => Some(Kw::Match),
+        Kw::RETURN => Some(Kw::Return),
+        Kw::THEN => Some(Kw::Then),
+        Kw::TRUE => Some(Kw::True),
+        Kw::COLON => Some(Kw::Colon),
+        Kw::FAT_ARROW => Some(Kw::FatArrow),
+        Kw::ASSIGN => Some(Kw::Assign),
+        Kw::HASH => Some(Kw::Hash),
+        Kw::AT => Some(Kw::At),
+        _ => None,
     }
 }

@@ -3,6 +3,7 @@
 
 pub mod kinds; // keywords and token kinds, their record numbers and lengths
 mod cursor; // a place in a script, and what stands there
+pub mod refusal; // what a script is refused for, and where
 mod piece; // what reading one piece answers
 mod gap; // blanks, comments and line ends
 mod digits; // digit runs and numbers

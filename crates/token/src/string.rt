@@ -11,45 +11,55 @@ ghost use Rattle.chars.specs.promises.Texts.{Suffix};
 use crate::cursor::{Cursor, byte_at, two_at};
 use crate::digits::consume_digits;
 use crate::kinds::TokenKind;
-use crate::piece::{Ended, Piece};
+use crate::piece::Piece;
+use crate::refusal::{Refusal, Refused};
 
-// A string's content: where it starts and ends.
-#[derive(Clone, Copy)]
+/// A string's content: where it starts and ends.
+#[derive(Clone, Copy, Debug, PartialEq, Eq)]
 pub struct Span {
     pub start: usize,
     pub end: usize,
 }
 
-// Past an escape, from behind its backslash.
+/// Past an escape, from behind its backslash.
 #[tactic(auto, using(crate::proofs::string::Escapes::escape_by), unfolding(crate::specs::paper::Tests::isDigit))]
-pub fn consume_escape(s: &[u8], c: Cursor) -> Ended
+pub fn consume_escape(s: &[u8], c: Cursor) -> Result<Cursor, Refused>
     requires { c.at ≤ length s.now }
     ensures { result ≡ escapeOf (length s.now) (from s.now c.at) }
 {
     if s.len() <= c.at {
-        return Ended::Refused(12, c.at);
+        return Err(Refused {
+            what: Refusal::OpenEscape,
+            place: c.at,
+        });
     }
     let code = s[c.at];
     let next = Cursor { at: c.at + 1 };
     match code {
-        0x62 | 0x74 | 0x6E | 0x66 | 0x72 | 0x27 | 0x22 | 0x5D => Ended::At(next),
-        0x30..=0x39 => Ended::At(consume_digits(s, next, 10, 2)),
-        0x75 => consume_hexes(s, next),
-        _ => Ended::Refused(14, c.at),
+        b'b' | b't' | b'n' | b'f' | b'r' | b'\'' | b'"' | b']' => Ok(next),
+        b'0'..=b'9' => Ok(consume_digits(s, next, 10, 2)),
+        b'u' => consume_hexes(s, next),
+        _ => Err(Refused {
+            what: Refusal::NoEscape,
+            place: c.at,
+        }),
     }
 }
 
 // Past the four hex digits of a `\u` escape.
 #[tactic(auto, using(crate::proofs::string::Escapes::four_hexes))]
-fn consume_hexes(s: &[u8], c: Cursor) -> Ended
+fn consume_hexes(s: &[u8], c: Cursor) -> Result<Cursor, Refused>
     requires { c.at ≤ length s.now }
     ensures { result ≡ hexesOf (length s.now) (from s.now c.at) }
 {
     let end = consume_digits(s, c, 16, 4);
     if end.at - c.at < 4 {
-        return Ended::Refused(13, end.at);
+        return Err(Refused {
+            what: Refusal::NoHexDigit,
+            place: end.at,
+        });
     }
-    Ended::At(end)
+    Ok(end)
 }
 
 // Does the byte stand for itself in every string? A quote, an LF, a backslash and a `$` don't. Small letters lie past all four.
@@ -57,11 +67,11 @@ fn consume_hexes(s: &[u8], c: Cursor) -> Ended
 fn is_ordinary(b: u8) -> bool
     ensures { result ≡ isOrdinary b }
 {
-    if 0x5C < b {
+    if b'\\' < b {
         return true;
     }
     match b {
-        0x0A | 0x22 | 0x24 | 0x5C => false,
+        b'\n' | b'"' | b'$' | b'\\' => false,
         _ => true,
     }
 }
@@ -89,65 +99,70 @@ fn skip_ordinary(s: &[u8], c: Cursor) -> Cursor
 
 // Past a `$` in a prefixed string, unless `{` follows.
 #[tactic(auto, using(crate::proofs::string::Laws::dollars))]
-fn consume_interp_dollar(s: &[u8], c: Cursor) -> Ended
-    requires { (c.at < length s.now) × (isAny "$" (from s.now c.at) ≡ true) }
+fn consume_interp_dollar(s: &[u8], c: Cursor) -> Result<Cursor, Refused>
+    requires within { c.at < length s.now }
+    requires dollar { isAny "$" (from s.now c.at) ≡ true }
     ensures { result ≡ dollarOf (length s.now) (from s.now c.at) }
 {
     let next = c.at + 1;
-    if byte_at(s, next) == 0x7B {
-        return Ended::Refused(11, c.at);
+    if byte_at(s, next) == b'{' {
+        return Err(Refused {
+            what: Refusal::DollarBrace,
+            place: c.at,
+        });
     }
-    Ended::At(Cursor { at: next })
+    Ok(Cursor { at: next })
 }
 
 // One step in a single string, where no quote closes it.
 #[tactic(auto, using(crate::proofs::string::Laws::dollar_in), unfolding(crate::specs::code::String::singleItem))]
-fn single_item(s: &[u8], c: Cursor, prefixed: bool) -> Ended
+fn single_item(s: &[u8], c: Cursor, prefixed: bool) -> Result<Cursor, Refused>
     requires { c.at < length s.now }
     ensures { result ≡ singleItem prefixed s.now c.at }
 {
     let next = Cursor { at: c.at + 1 };
     match s[c.at] {
-        0x0A => Ended::Refused(8, c.at),
-        0x24 if prefixed => consume_interp_dollar(s, c),
-        0x5C if !prefixed => consume_escape(s, next),
-        _ => Ended::At(next),
+        b'\n' => Err(Refused {
+            what: Refusal::LineFeed,
+            place: c.at,
+        }),
+        b'$' if prefixed => consume_interp_dollar(s, c),
+        b'\\' if !prefixed => consume_escape(s, next),
+        _ => Ok(next),
     }
 }
 
 // A single string from its quote on, up to the next quote outside an escape.
 #[tactic(auto, using(crate::proofs::string::Laws::single_walk))]
-fn lex_single_string(s: &[u8], c: Cursor, prefixed: bool) -> Ended
-    requires { (c.at ≤ length s.now) × (quote (from s.now c.at) ≡ true) }
+fn lex_single_string(s: &[u8], c: Cursor, prefixed: bool) -> Result<Cursor, Refused>
+    requires within { c.at ≤ length s.now }
+    requires opens { quote (from s.now c.at) ≡ true }
     ensures { result ≡ endedOf (length s.now) (closeSingle prefixed (drop 1 (from s.now c.at))) }
 {
     let mut d = skip_ordinary(s, Cursor { at: c.at + 1 });
     while d.at < s.len() {
-        if s[d.at] == 0x22 {
-            return Ended::At(Cursor { at: d.at + 1 });
+        if s[d.at] == b'"' {
+            return Ok(Cursor { at: d.at + 1 });
         }
-        let item = single_item(s, d, prefixed);
-        let Ended::At(next) = item else {
-            return item;
-        };
+        let next = single_item(s, d, prefixed)?;
         d = skip_ordinary(s, next);
     }
-    Ended::Refused(7, d.at)
+    Err(Refused {
+        what: Refusal::OpenString,
+        place: d.at,
+    })
 }
 
-// Do three quotes stand at a place?
+/// Do three quotes stand at a place?
 #[tactic(auto, using(crate::proofs::string::Laws::three_here))]
 pub fn three_quotes(s: &[u8], at: usize) -> bool
     requires { at ≤ length s.now }
     ensures { result ≡ threeQuotes (from s.now at) }
 {
-    if two_at(s, at, 0x22, 0x22) {
-        return byte_at(s, at + 2) == 0x22;
-    }
-    false
+    two_at(s, at, b'"', b'"') && byte_at(s, at + 2) == b'"'
 }
 
-// Past all quotes that stand there.
+/// Past all quotes that stand there.
 #[tactic(auto, using(crate::proofs::string::Laws::quote_run))]
 pub fn consume_quotes(s: &[u8], c: Cursor) -> Cursor
     requires { c.at ≤ length s.now }
@@ -165,42 +180,47 @@ pub fn consume_quotes(s: &[u8], c: Cursor) -> Cursor
 
 // One step in a triple string, where no three quotes close it.
 #[tactic(auto, using(crate::proofs::string::Laws::dollar_in), unfolding(crate::specs::code::String::tripleItem))]
-fn triple_item(s: &[u8], c: Cursor, prefixed: bool) -> Ended
+fn triple_item(s: &[u8], c: Cursor, prefixed: bool) -> Result<Cursor, Refused>
     requires { c.at < length s.now }
     ensures { result ≡ tripleItem prefixed s.now c.at }
 {
     let next = Cursor { at: c.at + 1 };
     match s[c.at] {
-        0x24 if prefixed => consume_interp_dollar(s, c),
-        0x5C => Ended::Refused(10, c.at),
-        _ => Ended::At(next),
+        b'$' if prefixed => consume_interp_dollar(s, c),
+        b'\\' => Err(Refused {
+            what: Refusal::BackslashInTriple,
+            place: c.at,
+        }),
+        _ => Ok(next),
     }
 }
 
 // A triple string from its three quotes on, with all quotes directly after the first three that close it.
 #[tactic(auto, using(crate::proofs::string::Laws::triple_walk))]
-fn lex_triple_string(s: &[u8], c: Cursor, prefixed: bool) -> Ended
-    requires { (c.at ≤ length s.now) × (threeQuotes (from s.now c.at) ≡ true) }
+fn lex_triple_string(s: &[u8], c: Cursor, prefixed: bool) -> Result<Cursor, Refused>
+    requires within { c.at ≤ length s.now }
+    requires opens { threeQuotes (from s.now c.at) ≡ true }
     ensures { result ≡ endedOf (length s.now) (closeTriple prefixed (drop 3 (from s.now c.at))) }
 {
     let mut d = skip_ordinary(s, Cursor { at: c.at + 3 });
     while d.at < s.len() {
         if three_quotes(s, d.at) {
-            return Ended::At(consume_quotes(s, d));
+            return Ok(consume_quotes(s, d));
         }
-        let item = triple_item(s, d, prefixed);
-        let Ended::At(next) = item else {
-            return item;
-        };
+        let next = triple_item(s, d, prefixed)?;
         d = skip_ordinary(s, next);
     }
-    Ended::Refused(9, d.at)
+    Err(Refused {
+        what: Refusal::OpenTriple,
+        place: d.at,
+    })
 }
 
 // A string from its opening on.
 #[tactic(auto, unfolding(crate::specs::computed::Answer::closeString, crate::specs::code::String::closeSingle))]
-fn lex_string(s: &[u8], c: Cursor, prefixed: bool) -> Ended
-    requires { (c.at ≤ length s.now) × (quote (from s.now c.at) ≡ true) }
+fn lex_string(s: &[u8], c: Cursor, prefixed: bool) -> Result<Cursor, Refused>
+    requires within { c.at ≤ length s.now }
+    requires opens { quote (from s.now c.at) ≡ true }
     ensures { result ≡ endedOf (length s.now) (closeString prefixed (from s.now c.at)) }
 {
     if three_quotes(s, c.at) {
@@ -218,7 +238,7 @@ fn last_off(s: &[u8], start: usize, end: usize) -> usize
     if end <= start {
         return end;
     }
-    if s[end - 1] == 0x22 {
+    if s[end - 1] == b'"' {
         return end - 1;
     }
     end
@@ -227,7 +247,8 @@ fn last_off(s: &[u8], start: usize, end: usize) -> usize
 // Are the first eight bytes and the last eight of the text from `start` to `end` quotes, sixteen in all?
 #[tactic(auto, unfolding(crate::specs::code::String::eightsOff))]
 fn eights_off(s: &[u8], start: usize, end: usize) -> bool
-    requires { (start ≤ end) × (end ≤ length s.now) }
+    requires order { start ≤ end }
+    requires within { end ≤ length s.now }
     ensures { result ≡ eightsOff s.now start end }
 {
     if end - start < 16 {
@@ -257,14 +278,16 @@ fn strip_eights(s: &[u8], start: usize, end: usize) -> Span
 // The content of the text from `start` to `end`.
 #[tactic(auto, using(crate::proofs::string::Strips::strip_turns))]
 fn strip_many(s: &[u8], start: usize, end: usize) -> Span
-    requires { (start ≤ end) × (end ≤ length s.now) × Suffix (from s.now end) (from s.now start) }
+    requires order { start ≤ end }
+    requires within { end ≤ length s.now }
+    requires suffix { Suffix (from s.now end) (from s.now start) }
     ensures { spanKind result ≡ plainContent (length s.now) (from s.now start) (from s.now end) }
 {
     let left = strip_eights(s, start, end);
     let mut a = left.start;
     let mut b = left.end;
     while a < b {
-        if s[a] != 0x22 {
+        if s[a] != b'"' {
             return Span { start: a, end: b };
         }
         a += 1;
@@ -275,11 +298,14 @@ fn strip_many(s: &[u8], start: usize, end: usize) -> Span
 
 // The content of the plain string that stands from `start` to `end`. Most begin with one quote only.
 fn strip_quotes(s: &[u8], start: usize, end: usize) -> Span
-    requires { (start ≤ end) × (end ≤ length s.now) × (quote (from s.now start) ≡ true) × (closeString false (from s.now start) ≡ closed (from s.now end)) }
+    requires order { start ≤ end }
+    requires within { end ≤ length s.now }
+    requires opens { quote (from s.now start) ≡ true }
+    requires closes { closeString false (from s.now start) ≡ closed (from s.now end) }
     ensures { spanKind result ≡ plainContent (length s.now) (from s.now start) (from s.now end) }
 {
     let next = start + 1;
-    if byte_at(s, next) != 0x22 {
+    if byte_at(s, next) != b'"' {
         return Span {
             start: next,
             end: last_off(s, next, end),
@@ -288,42 +314,37 @@ fn strip_quotes(s: &[u8], start: usize, end: usize) -> Span
     strip_many(s, start, end)
 }
 
-// A plain string.
+/// A plain string.
 pub fn lex_plain_string(s: &[u8], c: Cursor) -> Piece
-    requires { (c.at ≤ length s.now) × (quote (from s.now c.at) ≡ true) }
+    requires within { c.at ≤ length s.now }
+    requires opens { quote (from s.now c.at) ≡ true }
     ensures { result ≡ pieceOf (length s.now) (scanString (length s.now) (from s.now c.at)) }
 {
-    let ended = lex_string(s, c, false);
-    match ended {
-        Ended::Refused(number, place) => Piece::Refused(number, place),
-        Ended::At(end) => {
-            let content = strip_quotes(s, c.at, end.at);
-            Piece::Token(
-                TokenKind::Str {
-                    from: content.start,
-                    to: content.end,
-                },
-                end,
-            )
-        }
-    }
+    let end = lex_string(s, c, false)?;
+    let content = strip_quotes(s, c.at, end.at);
+    Ok((
+        TokenKind::Str {
+            from: content.start,
+            to: content.end,
+        },
+        end,
+    ))
 }
 
-// A string whose prefix stands from `start` to c.
+/// A string whose prefix stands from `start` to c.
 #[tactic(auto, using(crate::proofs::string::Laws::prefixed_string))]
 pub fn lex_prefixed_string(s: &[u8], start: usize, c: Cursor) -> Piece
-    requires { (start ≤ c.at) × (c.at ≤ length s.now) × (quote (from s.now c.at) ≡ true) }
+    requires order { start ≤ c.at }
+    requires within { c.at ≤ length s.now }
+    requires opens { quote (from s.now c.at) ≡ true }
     ensures { result ≡ pieceOf (length s.now) (prefixedOf (length s.now) (from s.now start) (closeString true (from s.now c.at))) }
 {
-    let ended = lex_string(s, c, true);
-    match ended {
-        Ended::Refused(number, place) => Piece::Refused(number, place),
-        Ended::At(end) => Piece::Token(
-            TokenKind::Str {
-                from: start,
-                to: end.at,
-            },
-            end,
-        ),
-    }
+    let end = lex_string(s, c, true)?;
+    Ok((
+        TokenKind::Str {
+            from: start,
+            to: end.at,
+        },
+        end,
+    ))
 }

@@ -15,8 +15,10 @@ use Rattle.chars.specs.paper.Text.{Text, charsAt, from, place, headIs}
 use Rattle.chars.specs.code.Text.{codeAt, charEnd, stepAt}
 use Rattle.chars.specs.promises.Texts.{AsciiClass, PastWide}
 use Rattle.chars.specs.computed.Runs.{afterRun}
-use Rattle.chars.specs.declared.text.Step.TheVariants as step
+use Rattle.std.specs.Prelude.{max, None}
+use Rattle.chars.specs.code.Utf8.{decoded}
 use Rattle.chars.proofs.utf8.Rows as rows
+use Rattle.chars.proofs.utf8.Stands.{same-code, same-width}
 use Rattle.chars.proofs.utf8.Codes.{code-one}
 use Rattle.chars.proofs.utf8.Valid.{first-char}
 use Rattle.chars.proofs.utf8.Widths.{width-within}
@@ -130,20 +132,26 @@ head-byte p a s i = go (ltb i (length s)) refl (ltb (get_or s i 0) 0x80) refl
 
 -- ---- one step
 
-pub step-text : (s : List ℕ) (i code next : ℕ) → step.Char code next ≡ stepAt s i → (i < length s) × (codeAt s i ≡ code) × (charEnd s i ≡ next)
-unfolding stepAt
-step-text s i code next e = go (ltb i (length s)) refl e
+pub step-text : (s : List ℕ) (i c w : ℕ) → decoded c w ≡ stepAt s i → (i < length s) × (codeAt s i ≡ c) × (charEnd s i ≡ i + w)
+unfolding stepAt charEnd
+step-text s i c w e = go (ltb i (length s)) refl e
   where
-    go : (b : Bool) → ltb i (length s) ≡ b → step.Char code next ≡ cond b (step.Char (codeAt s i) (charEnd s i)) step.End → (i < length s) × (codeAt s i ≡ code) × (charEnd s i ≡ next)
-    go true h e = (ltb-true i (length s) h, cc, cc)
-    go false h e = absurd (let z : ◌≡◌ {A = ℕ} 0 1 = cc in omega arith)
+    go : (b : Bool) → ltb i (length s) ≡ b
+        → decoded c w ≡ cond b (decoded (codeAt s i) (max 1 (width (drop i s)))) None
+        → (i < length s) × (codeAt s i ≡ c) × (suc i + (width (drop i s) - 1) ≡ i + w)
+    go true h e = (
+      ltb-true i (length s) h,
+      sym (same-code c w (codeAt s i) (max 1 (width (drop i s))) e),
+      let z = same-width c w (codeAt s i) (max 1 (width (drop i s))) e in omega arith,
+    )
+    go false h e = cc
 
-pub step-none : (s : List ℕ) (i : ℕ) → step.End ≡ stepAt s i → length s ≤ i
+pub step-none : (s : List ℕ) (i : ℕ) → None ≡ stepAt s i → length s ≤ i
 unfolding stepAt
 step-none s i e = go (ltb i (length s)) refl e
   where
-    go : (b : Bool) → ltb i (length s) ≡ b → step.End ≡ cond b (step.Char (codeAt s i) (charEnd s i)) step.End → length s ≤ i
-    go true h e = absurd (let z : ◌≡◌ {A = ℕ} 0 1 = cc in omega arith)
+    go : (b : Bool) → ltb i (length s) ≡ b → None ≡ cond b (decoded (codeAt s i) (max 1 (width (drop i s)))) None → length s ≤ i
+    go true h e = cc
     go false h e = ltb-false i (length s) h
 
 -- ---- runs

@@ -10,14 +10,14 @@ use mathlib.Core.Logic.{⊎_elim}
 use Rattle.chars.specs.paper.Ranges.{Range, Ascending}
 use Rattle.chars.specs.computed.Ascending.{ascendingFrom}
 use Rattle.chars.specs.paper.Utf8.{width, codeOf}
-use Rattle.chars.specs.code.Utf8.{decodeAt}
+use Rattle.chars.specs.code.Utf8.{decoded, decodeAt}
 use Rattle.chars.specs.code.Text.{charEnd}
 use Rattle.chars.specs.promises.Codes.{CodeLaws}
 use Rattle.chars.specs.promises.Utf8.{Decoding, ValidLaws}
 use Rattle.chars.specs.promises.Texts.{TextLaws}
 use Rattle.chars.specs.promises.Classes.{tables, ClassLaws}
 use Rattle.chars.specs.promises.Runs.{RunLaws}
-use Rattle.chars.specs.declared.utf8.Decoded.TheVariants as decoded
+use Rattle.std.specs.Prelude.{None}
 use Rattle.chars.proofs.utf8.Rows.{here, inside, row-00, none-low, none-high}
 use Rattle.chars.proofs.utf8.Codes.{code-one}
 use Rattle.chars.proofs.utf8.Widths.{width-most, width-within}
@@ -49,15 +49,15 @@ unfolding charEnd
 next-end s i c w h = let a = h.width-is in let b = h.least in omega arith
 
 module _ (s : List ℕ) (i : ℕ) where
-  nothing : width (drop i s) ≡ 0 → decodeAt s i ≡ decoded.Nothing
+  nothing : width (drop i s) ≡ 0 → decodeAt s i ≡ None
   unfolding decodeAt
   nothing e = rw e
 
-  one : width (drop i s) ≡ 1 → decodeAt s i ≡ decoded.Char (get_or s i 0) 1
+  one : width (drop i s) ≡ 1 → decodeAt s i ≡ decoded (get_or s i 0) 1
   unfolding decodeAt
   one e = rw (e, ← code-one s i 1 (omega arith))
 
-  ends : (c w : ℕ) → decoded.Char c w ≡ decodeAt s i → i < length s
+  ends : (c w : ℕ) → decoded c w ≡ decodeAt s i → i < length s
   ends c w e = let h = char-stands s i c w e in let a = h.width-is in let b = h.least in inside s i (λ z. omega arith)
 
   pub decoding : Decoding s i

@@ -1,8 +1,8 @@
 -- What `text::char_at` answers.
-use Rattle.std.specs.Prelude.{ℕ, suc, ◌+◌, ◌-◌, cond, List, ltb, length, drop}
+use Rattle.std.specs.Prelude.{ℕ, suc, ◌+◌, ◌-◌, max, Option, None, if◌then◌else◌, nat_lt, List, length, drop}
 use Rattle.chars.specs.paper.Utf8.{width, codeOf}
-use Rattle.chars.specs.declared.text.Step.{Step}
-use Rattle.chars.specs.declared.text.Step.TheVariants as step
+use Rattle.chars.specs.code.Utf8.{decoded}
+use Rattle.chars.specs.declared.utf8.Decoded.{Decoded}
 
 -- the code of the character at i
 abbrev pub codeAt : List ℕ → ℕ → ℕ
@@ -12,8 +12,8 @@ codeAt s i = codeOf (width (drop i s)) (drop i s)
 unfoldable pub charEnd : List ℕ → ℕ → ℕ
 charEnd s i = suc i + (width (drop i s) - 1)
 
--- the first character of the text from the place i on: its code, and where it ends
-unfoldable pub stepAt : List ℕ → ℕ → Step
+-- the first character of the text from the place i on: its code, and how many bytes it has, one where no well-formed character begins
+unfoldable pub stepAt : List ℕ → ℕ → Option Decoded
 stepAt s i =
     let t = drop i s in
-    cond (ltb i (length s)) (step.Char (codeOf (width t) t) (charEnd s i)) step.End
+    if nat_lt i (length s) then decoded (codeOf (width t) t) (max 1 (width t)) else None

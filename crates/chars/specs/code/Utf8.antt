@@ -1,16 +1,25 @@
 -- What `utf8` answers: one character decoded, and where characters of one row end.
-use Rattle.std.specs.Prelude.{ℕ, Bool, cond, List, length, drop, eqb}
+use Rattle.std.specs.Prelude.{ℕ, Bool, Option, Some, None, if◌then◌else◌, ◌==◌, List, length, drop}
 use Rattle.chars.specs.declared.utf8.Decoded.{Decoded}
-use Rattle.chars.specs.declared.utf8.Decoded.TheVariants as decoded
 use Rattle.chars.specs.paper.Ranges.{Range}
 use Rattle.chars.specs.paper.Utf8.{fits, width, codeOf}
 use Rattle.chars.specs.code.Runs.{stepsOver}
 
+-- a character of the code c that is w bytes wide
+abbrev pub decoded : ℕ → ℕ → Option Decoded
+decoded c w = Some (record { code = c; width = w })
+
+-- how many bytes the well-formed character has that stands at a byte offset, or that none does
+unfoldable pub widthAt : List ℕ → ℕ → Option ℕ
+widthAt s i =
+    let t = drop i s in
+    if width t == 0 then None else Some (width t)
+
 -- the character that stands at a byte offset, or that none does
-unfoldable pub decodeAt : List ℕ → ℕ → Decoded
+unfoldable pub decodeAt : List ℕ → ℕ → Option Decoded
 decodeAt s i =
     let t = drop i s in
-    cond (eqb (width t) 0) decoded.Nothing (decoded.Char (codeOf (width t) t) (width t))
+    if width t == 0 then None else decoded (codeOf (width t) t) (width t)
 
 -- do bytes of a row of Table 3-7 stand at the place i?
 abbrev pub rowAt : List Range → List ℕ → ℕ → Bool

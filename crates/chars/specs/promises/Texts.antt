@@ -1,9 +1,9 @@
 -- The text from a place on, the suffixes of a text, runs of characters.
-use Rattle.std.specs.Prelude.{ℕ, ◌+◌, ◌-◌, ◌≤◌, ◌<◌, ◌≡◌, Bool, true, false, List, [], ◌∷◌, length, drop, get_or}
+use Rattle.std.specs.Prelude.{ℕ, ◌+◌, ◌-◌, ◌≤◌, ◌<◌, ◌≡◌, Bool, true, false, None, List, [], ◌∷◌, length, drop, get_or}
 use Rattle.chars.specs.paper.Text.{Char, Text, from, place, headIs}
 use Rattle.chars.specs.computed.Runs.{afterRun}
+use Rattle.chars.specs.code.Utf8.{decoded}
 use Rattle.chars.specs.code.Text.{codeAt, charEnd, stepAt}
-use Rattle.chars.specs.declared.text.Step.TheVariants as step
 
 -- r is what is left of s after some characters
 pub record Suffix (r s : Text) : Type 0 where
@@ -44,8 +44,8 @@ pub record TextLaws : Type 0 where
   -- ---- a class of ASCII characters is seen by the byte there, which counts as 0 past the end
   pub head-byte : (p : ℕ → Bool) → AsciiClass p → (s : List ℕ) (i : ℕ) → headIs p (from s i) ≡ p (get_or s i 0)
   -- ---- one step
-  pub step-text : (s : List ℕ) (i code next : ℕ) → step.Char code next ≡ stepAt s i → (i < length s) × (codeAt s i ≡ code) × (charEnd s i ≡ next)
-  pub step-none : (s : List ℕ) (i : ℕ) → step.End ≡ stepAt s i → length s ≤ i
+  pub step-text : (s : List ℕ) (i c w : ℕ) → decoded c w ≡ stepAt s i → (i < length s) × (codeAt s i ≡ c) × (charEnd s i ≡ i + w)
+  pub step-none : (s : List ℕ) (i : ℕ) → None ≡ stepAt s i → length s ≤ i
   -- ---- suffixes
   pub suffix-refl : (s : Text) → Suffix s s
   pub suffix-cons : {r s : Text} (c : Char) → Suffix r s → Suffix r (c ∷ s)

@@ -1,25 +1,24 @@
 -- What stands at a byte offset, the longest valid prefix, and what is written for a code.
-use Rattle.std.specs.Prelude.{ℕ, ◌+◌, ◌≤◌, ◌<◌, ◌≡◌, Bool, true, not, ◌&&◌, List, ◌++◌, length, drop, get_or, leb}
+use Rattle.std.specs.Prelude.{ℕ, ◌+◌, ◌≤◌, ◌<◌, ◌≡◌, Bool, true, not, ◌&&◌, None, List, ◌++◌, length, drop, get_or, leb}
 use Rattle.chars.specs.paper.Quoted.{between}
 use Rattle.chars.specs.paper.Utf8.{WellFormed, LongestValid, width, codeOf}
 use Rattle.chars.specs.computed.Valid.{validPrefix}
 use Rattle.chars.specs.computed.Encoded.{encoded}
-use Rattle.chars.specs.code.Utf8.{decodeAt}
+use Rattle.chars.specs.code.Utf8.{decoded, decodeAt}
 use Rattle.chars.specs.code.Text.{charEnd, codeAt}
-use Rattle.chars.specs.declared.utf8.Decoded.TheVariants as decoded
 
 pub record Decoding (s : List ℕ) (i : ℕ) : Type 0 where
   -- a character is 1 to 4 bytes wide and ends within the slice
-  pub widths : (c w : ℕ) → decoded.Char c w ≡ decodeAt s i → (1 ≤ w) × (w ≤ 4) × (i + w ≤ length s)
+  pub widths : (c w : ℕ) → decoded c w ≡ decodeAt s i → (1 ≤ w) × (w ≤ 4) × (i + w ≤ length s)
   -- a byte below 0x80 is itself
-  pub ascii : i < length s → get_or s i 0 < 0x80 → decodeAt s i ≡ decoded.Char (get_or s i 0) 1
+  pub ascii : i < length s → get_or s i 0 < 0x80 → decodeAt s i ≡ decoded (get_or s i 0) 1
   -- a byte of 0x80 to 0xBF starts nothing, nor does 0xC0, 0xC1 or a byte of 0xF5 and above
-  pub no-first : i < length s → 0x80 ≤ get_or s i 0 → get_or s i 0 ≤ 0xC1 → decodeAt s i ≡ decoded.Nothing
-  pub high : i < length s → 0xF5 ≤ get_or s i 0 → decodeAt s i ≡ decoded.Nothing
+  pub no-first : i < length s → 0x80 ≤ get_or s i 0 → get_or s i 0 ≤ 0xC1 → decodeAt s i ≡ None
+  pub high : i < length s → 0xF5 ≤ get_or s i 0 → decodeAt s i ≡ None
   -- past the end nothing stands
-  pub past : length s ≤ i → decodeAt s i ≡ decoded.Nothing
+  pub past : length s ≤ i → decodeAt s i ≡ None
   -- the text there begins with it
-  pub in-text : (c w : ℕ) → decoded.Char c w ≡ decodeAt s i → (codeAt s i ≡ c) × (charEnd s i ≡ i + w)
+  pub in-text : (c w : ℕ) → decoded c w ≡ decodeAt s i → (codeAt s i ≡ c) × (charEnd s i ≡ i + w)
 
 pub record ValidLaws : Type 0 where
   -- what is computed is the longest valid prefix, and a text has one

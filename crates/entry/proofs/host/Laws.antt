@@ -1,113 +1,155 @@
 -- The host's entry, branch by branch.
-use Prim.Native.Nat.{ℕ, ◌+◌, ◌≤◌, ◌<◌}
+use Prim.Native.Nat.{ℕ, ◌≤◌, ◌<◌}
 use mathlib.Core.Path.{◌≡◌, refl, sym, ◌∙◌, ap}
 use mathlib.Core.Bool.{Bool, true, false}
 use mathlib.Core.List.{List, ◌++◌}
-use lib.ListN.{length, take, drop}
-use lib.Seq.{sets, take_at}
-use lib.Dec.{ltb}
-use native.Mathlib.Nat.{zero-add}
+use lib.ListN.{length, drop}
+use lib.Seq.{sets}
+use lib.Dec.{leb}
 use native.Mathlib.Omega.{arith}
-use borrow.Author.Tests.{eq-eqb, ne_eqb, ltb-true, ltb-false, lt-ltb, le-ltb}
+use borrow.Author.Tests.{eq-eqb, ne_eqb, lt-ltb, le-ltb, leb-true, leb-false}
+use Rattle.std.specs.Prelude.{Result, Ok, Err, IsErrAnd}
 use Rattle.chars.specs.computed.Valid.{validPrefix}
 use Rattle.token.specs.paper.Kinds.{Token}
 use Rattle.token.specs.computed.Answer.{Answer, tokenized, refused, answer}
 use Rattle.token.specs.paper.Records.{records, recordBytes, mostBytes}
-use Rattle.token.specs.code.Records.{measuredOf, tokensIn, Fits, begun, storedFrom}
-use Rattle.entry.specs.code.Host.{judgedOf, scratchOf}
+use Rattle.token.specs.code.Refusal as piece
+use Rattle.token.specs.code.Records.{Needs, tokensIn, begun, storedFrom}
+use Rattle.token.specs.declared.records.Need.{Need}
+use Rattle.token.specs.declared.refusal.Refusal as token
+use Rattle.token.specs.declared.refusal.Refusal.TheVariants as p
+use Rattle.entry.specs.paper.Refusals.{refusalNumber}
 use Rattle.entry.specs.paper.Host.{seen}
+use Rattle.entry.specs.computed.Check.{checkOf}
 use Rattle.entry.specs.computed.Host.{granted, rejected, lacking, seenOf, Verdict, verdict, hostOf}
+use Rattle.entry.specs.code.Refusal.{refusalBy}
+use Rattle.entry.specs.code.Host.{judgedOf, Judged, scratchOf}
+use Rattle.entry.specs.declared.refusal.Refusal.TheVariants as refusal
+use Rattle.entry.specs.declared.refusal.Refused.{Refused}
 use Rattle.words.specs.Words.{blockOf}
-use Rattle.token.specs.declared.records.Measured.TheVariants as measured
-use Rattle.entry.specs.declared.host.Judged.TheVariants as judged
 use Rattle.token.proofs.Base.{zero-one}
-use Rattle.token.proofs.records.Measures.{begun-fits}
 use Rattle.token.proofs.theorems.Alone.{records-length}
 use Rattle.words.proofs.Stores.{sets-front}
-use Rattle.entry.proofs.host.Verdicts.{verdict-17, verdict-18, verdict-rest, verdict-granted, room-granted, room-lacking, room-rejected}
+use Rattle.entry.proofs.host.Checks.{tooLong, notUtf8, CheckedAs, long, invalid, good, checked-as}
+use Rattle.entry.proofs.host.Verdicts.{verdict-17, verdict-18, verdict-rest, room-granted, room-lacking, room-rejected}
 
--- ---- back from measuring
+-- ---- judging: 17, 18, 1 to 16
 
-was-total : (v : Answer) (n b : ℕ) → measured.Total n b ≡ measuredOf 0 0 v → (ts : List Token) × (v ≡ tokenized ts) × (n ≡ length ts) × (b ≡ recordBytes ts)
-unfolding measuredOf
-was-total (tokenized ts) n b e =
-    let x : n ≡ 0 + length ts = cc in
-    let y : b ≡ 0 + recordBytes ts = cc in
-    (ts, refl, x ∙ zero-add (length ts), y ∙ zero-add (recordBytes ts))
-was-total (refused j a) n b e = zero-one (cc)
+-- a refusal of a piece, by its number
+piece-by : (w : token.Refusal) → refusalBy (piece.refusalNumber w) ≡ refusal.Piece w
+unfolding refusalBy piece.refusalBy
+piece-by p.LoneCr = refl
+piece-by p.OpenComment = refl
+piece-by p.NoPiece = refl
+piece-by p.OpenBacktick = refl
+piece-by p.EmptyBacktick = refl
+piece-by p.LargeNumber = refl
+piece-by p.OpenString = refl
+piece-by p.LineFeed = refl
+piece-by p.OpenTriple = refl
+piece-by p.BackslashInTriple = refl
+piece-by p.DollarBrace = refl
+piece-by p.OpenEscape = refl
+piece-by p.NoHexDigit = refl
+piece-by p.NoEscape = refl
+piece-by p.NoTick = refl
+piece-by p.NoSymbol = refl
 
-was-stopped : (v : Answer) (j a : ℕ) → measured.Refused j a ≡ measuredOf 0 0 v → v ≡ refused j a
-unfolding measuredOf
-was-stopped (refused i b) j a e = cc
-was-stopped (tokenized ts) j a e = zero-one (cc)
+-- what a `?` hands on
+pub is-err : (r : Result Need Refused) (e : Refused) → IsErrAnd r (λ x. x ≡ e) → r ≡ Err e
+is-err (Err x) e h = ap Err h
+is-err (Ok n) e h = absurd h
 
--- ---- judging: 17, 18, 1 to 16, 19
+-- what a verdict is judged as
+judged-long : Err tooLong ≡ judgedOf (rejected 17 0)
+unfolding judgedOf refusalBy
+judged-long = refl
 
-module _ (s : List ℕ) (room : ℕ) where
-  pub judge-long : mostBytes < length s → judged.Refused 17 0 ≡ judgedOf (verdict s room)
-  unfolding judgedOf
-  judge-long l = sym (ap judgedOf (verdict-17 s room l))
+judged-invalid : (v : ℕ) → Err (notUtf8 v) ≡ judgedOf (rejected 18 v)
+unfolding judgedOf refusalBy
+judged-invalid v = refl
 
-  module _ (l : length s ≤ mostBytes) (v : ℕ) (e : v ≡ validPrefix s) where
-    pub judge-invalid : v < length s → judged.Refused 18 v ≡ judgedOf (verdict s room)
-    unfolding judgedOf
-    judge-invalid x = ap (judged.Refused 18) e ∙ sym (ap judgedOf (verdict-18 s room l (omega (arith, e))))
+judged-piece : (w : token.Refusal) (a : ℕ) → Err (record { what = refusal.Piece w; place = a }) ≡ judgedOf (rejected (piece.refusalNumber w) a)
+unfolding judgedOf
+judged-piece w a = ap (λ r. Err (record { what = r; place = a })) (sym (piece-by w))
 
-    module _ (x : length s ≤ v) where
-      pub judge-stopped : (j a : ℕ) → measured.Refused j a ≡ measuredOf 0 0 (answer s) → judged.Refused j a ≡ judgedOf (verdict s room)
-      unfolding judgedOf
-      judge-stopped j a q =
-          sym (ap judgedOf (verdict-rest s room l (omega (arith, e)) ∙ room-rejected room (answer s) j a (was-stopped (answer s) j a q)))
+judged-granted : (ts : List Token) (n : Need) → Needs (tokenized ts) n → Ok n ≡ judgedOf (granted ts)
+unfolding judgedOf
+judged-granted ts n k = let t = k.tokens in let b = k.bytes in rw (← t, ← b) refl
 
-      pub judge-over : (n b : ℕ) → measured.Total n b ≡ measuredOf 0 0 (answer s) → room < b → judged.Short n b ≡ judgedOf (verdict s room)
-      unfolding judgedOf
-      judge-over n b q y =
-          let w = was-total (answer s) n b q in
-          ap (λ k. judged.Short k b) w.2 ∙ ap (judged.Short (length w.0)) w.3
-          ∙ sym (ap judgedOf (verdict-rest s room l (omega (arith, e)) ∙ room-lacking room (answer s) w.0 w.1 (omega (arith, w.3))))
+judged-lacking : (ts : List Token) (n : Need) → Needs (tokenized ts) n → Ok n ≡ judgedOf (lacking ts)
+unfolding judgedOf
+judged-lacking ts n k = let t = k.tokens in let b = k.bytes in rw (← t, ← b) refl
 
-      pub judge-fits : (n b : ℕ) → measured.Total n b ≡ measuredOf 0 0 (answer s) → b ≤ room → judged.Fits n b ≡ judgedOf (verdict s room)
-      unfolding judgedOf
-      judge-fits n b q y =
-          let w = was-total (answer s) n b q in
-          ap (λ k. judged.Fits k b) w.2 ∙ ap (judged.Fits (length w.0)) w.3
-          ∙ sym (ap judgedOf (verdict-rest s room l (omega (arith, e)) ∙ room-granted room (answer s) w.0 w.1 (omega (arith, w.3))))
+module _ (s : List ℕ) where
+  -- refused by either test
+  pub judge-checked : (e : Refused) → Err e ≡ checkOf s → (room : ℕ) → verdict s room ≡ rejected (refusalNumber e.what) e.place
+  judge-checked e q room = go (checked-as s) q
+    where
+      go : {x : Result (Unit {0}) Refused} → CheckedAs s x → Err e ≡ x → verdict s room ≡ rejected (refusalNumber e.what) e.place
+      go (long l) q = let z : e ≡ tooLong = cc in rw z (verdict-17 s room l)
+      go (invalid l x) q = let z : e ≡ notUtf8 (validPrefix s) = cc in rw z (verdict-18 s room l x)
+      go (good l x) q = zero-one (cc)
+
+  pub checked-by : (e : Refused) → Err e ≡ checkOf s → (room : ℕ) → Err e ≡ judgedOf (verdict s room)
+  checked-by e q room = go (checked-as s) q
+    where
+      go : {x : Result (Unit {0}) Refused} → CheckedAs s x → Err e ≡ x → Err e ≡ judgedOf (verdict s room)
+      go (long l) q = let z : e ≡ tooLong = cc in ap Err z ∙ judged-long ∙ sym (ap judgedOf (verdict-17 s room l))
+      go (invalid l x) q = let z : e ≡ notUtf8 (validPrefix s) = cc in ap Err z ∙ judged-invalid (validPrefix s) ∙ sym (ap judgedOf (verdict-18 s room l x))
+      go (good l x) q = zero-one (cc)
+
+  module _ (u : Unit {0}) (q : Ok u ≡ checkOf s) where
+    pub passed : (length s ≤ mostBytes) × (length s ≤ validPrefix s)
+    passed = go (checked-as s) q
+      where
+        go : {x : Result (Unit {0}) Refused} → CheckedAs s x → Ok u ≡ x → (length s ≤ mostBytes) × (length s ≤ validPrefix s)
+        go (long l) q = zero-one (cc)
+        go (invalid l x) q = zero-one (cc)
+        go (good l x) q = (l, x)
+
+    -- refused by a piece
+    pub judge-refused : (j a : ℕ) → answer s ≡ refused j a → (room : ℕ) → verdict s room ≡ rejected j a
+    judge-refused j a e room = verdict-rest s room passed.0 passed.1 ∙ room-rejected room (answer s) j a e
+
+    pub refused-by : (w : token.Refusal) (a : ℕ) → answer s ≡ refused (piece.refusalNumber w) a → (room : ℕ)
+        → Err (record { what = refusal.Piece w; place = a }) ≡ judgedOf (verdict s room)
+    refused-by w a e room = judged-piece w a ∙ sym (ap judgedOf (judge-refused (piece.refusalNumber w) a e room))
+
+    module _ (n : Need) (h : Needs (answer s) n) where
+      pub judge-read : Judged s n
+      judge-read = record { in-limit = passed.0; utf8 = passed.1; needs = h }
+
+      pub read-by : (room : ℕ) → Ok n ≡ judgedOf (verdict s room)
+      read-by room = go (answer s) refl h
+        where
+          go : (w : Answer) → answer s ≡ w → Needs w n → Ok n ≡ judgedOf (verdict s room)
+          go (tokenized ts) e k = room-by (leb (recordBytes ts) room) refl
+            where
+              room-by : (b : Bool) → leb (recordBytes ts) room ≡ b → Ok n ≡ judgedOf (verdict s room)
+              room-by true f = judged-granted ts n k ∙ sym (ap judgedOf (verdict-rest s room passed.0 passed.1 ∙ room-granted room (answer s) ts e (leb-true _ _ f)))
+              room-by false f = judged-lacking ts n k ∙ sym (ap judgedOf (verdict-rest s room passed.0 passed.1 ∙ room-lacking room (answer s) ts e (leb-false _ _ f)))
+          go (refused j a) e k = let f = k.is-tokenized in zero-one (cc)
 
 -- ---- what a buffer holds that is lent for judging
 
 module _ (s scratch : List ℕ) where
-  pub scratch-long : mostBytes < length s → scratch ≡ scratchOf s scratch
+  -- as it was, where a test refuses
+  pub scratch-checked : (e : Refused) → Err e ≡ checkOf s → scratch ≡ scratchOf s scratch
   unfolding scratchOf
-  scratch-long l = sym (rw (lt-ltb mostBytes (length s) l))
+  scratch-checked e q = go (checked-as s) q
+    where
+      go : {x : Result (Unit {0}) Refused} → CheckedAs s x → Err e ≡ x → scratch ≡ scratchOf s scratch
+      go (long l) q = sym (rw (lt-ltb mostBytes (length s) l) refl)
+      go (invalid l x) q = sym (rw (le-ltb mostBytes (length s) l, lt-ltb (validPrefix s) (length s) x) refl)
+      go (good l x) q = zero-one (cc)
 
-  module _ (l : length s ≤ mostBytes) (v : ℕ) (e : v ≡ validPrefix s) where
-    pub scratch-invalid : v < length s → scratch ≡ scratchOf s scratch
-    unfolding scratchOf
-    scratch-invalid x = let y : validPrefix s < length s = omega (arith, e) in sym (rw (le-ltb mostBytes (length s) l, lt-ltb (validPrefix s) (length s) y))
-
-    pub scratch-read : length s ≤ v → storedFrom s begun scratch ≡ scratchOf s scratch
-    unfolding scratchOf
-    scratch-read x = let y : length s ≤ validPrefix s = omega (arith, e) in sym (rw (le-ltb mostBytes (length s) l, le-ltb (validPrefix s) (length s) y))
-
--- ---- back from judging
-
-was-refused : (v : Verdict) (j a : ℕ) → judged.Refused j a ≡ judgedOf v → v ≡ rejected j a
-unfolding judgedOf
-was-refused (rejected i b) j a e = cc
-was-refused (granted ts) j a e = zero-one (cc)
-was-refused (lacking ts) j a e = zero-one (cc)
-
-was-short : (v : Verdict) (n b : ℕ) → judged.Short n b ≡ judgedOf v → (ts : List Token) × (v ≡ lacking ts) × (n ≡ length ts) × (b ≡ recordBytes ts)
-unfolding judgedOf
-was-short (lacking ts) n b e = (ts, refl, cc, cc)
-was-short (granted ts) n b e = zero-one (cc)
-was-short (rejected j a) n b e = zero-one (cc)
-
-was-fits : (v : Verdict) (n b : ℕ) → judged.Fits n b ≡ judgedOf v → (ts : List Token) × (v ≡ granted ts) × (n ≡ length ts) × (b ≡ recordBytes ts)
-unfolding judgedOf
-was-fits (granted ts) n b e = (ts, refl, cc, cc)
-was-fits (lacking ts) n b e = zero-one (cc)
-was-fits (rejected j a) n b e = zero-one (cc)
+  -- the records that fit, where none does
+  pub scratch-passed : (u : Unit {0}) → Ok u ≡ checkOf s → storedFrom s begun scratch ≡ scratchOf s scratch
+  unfolding scratchOf
+  scratch-passed u q =
+      let w = passed s u q in
+      sym (rw (le-ltb mostBytes (length s) w.0, le-ltb (validPrefix s) (length s) w.1) refl)
 
 -- ---- what the host sees
 
@@ -121,75 +163,36 @@ module _ (s buf block : List ℕ) where
     unfolding hostOf
     by-verdict v e = simp (eq-eqb (length block) 16 h, e)
 
-    pub entry-refused : (blk : List ℕ) (j a : ℕ) → judged.Refused j a ≡ judgedOf (verdict s (length buf)) → blk ≡ blockOf j a 0 0
-        → seen j buf blk ≡ hostOf s buf block
+    pub entry-refused : (blk : List ℕ) (j a : ℕ) → ((room : ℕ) → verdict s room ≡ rejected j a) → blk ≡ blockOf j a 0 0 → seen j buf blk ≡ hostOf s buf block
     unfolding seenOf
-    entry-refused blk j a e q = ap (seen j buf) q ∙ by-verdict (rejected j a) (was-refused _ j a e)
+    entry-refused blk j a e q = ap (seen j buf) q ∙ by-verdict (rejected j a) (e (length buf))
 
-    pub entry-short : (blk : List ℕ) (n b : ℕ) → judged.Short n b ≡ judgedOf (verdict s (length buf)) → blk ≡ blockOf 19 0 n b
-        → seen 19 buf blk ≡ hostOf s buf block
-    unfolding seenOf
-    entry-short blk n b e q =
-        let w = was-short _ n b e in
-        ap (seen 19 buf) (q ∙ ap (λ k. blockOf 19 0 k b) w.2 ∙ ap (blockOf 19 0 (length w.0)) w.3) ∙ by-verdict (lacking w.0) w.1
+    module _ (n : Need) (d : Judged s n) where
+      was-tokenized : (ts : List Token) × (answer s ≡ tokenized ts) × (n.tokens ≡ length ts) × (n.bytes ≡ recordBytes ts)
+      was-tokenized = go (answer s) refl d.needs
+        where
+          go : (w : Answer) → answer s ≡ w → Needs w n → (ts : List Token) × (answer s ≡ tokenized ts) × (n.tokens ≡ length ts) × (n.bytes ≡ recordBytes ts)
+          go (tokenized ts) e k = (ts, e, k.tokens, k.bytes)
+          go (refused j a) e k = let f = k.is-tokenized in zero-one (cc)
 
-    pub entry-done : (out blk : List ℕ) (n b : ℕ) → judged.Fits n b ≡ judgedOf (verdict s (length buf)) → out ≡ sets buf 0 (records (tokensIn (answer s)))
-        → blk ≡ blockOf 0 0 n b → seen 0 out blk ≡ hostOf s buf block
-    unfolding seenOf
-    entry-done out blk n b e o q =
-        let w = was-fits _ n b e in
-        let ts = w.0 in
-        let g = verdict-granted s (length buf) ts w.1 in
-        let y = records-length ts in
-        let z : length (records ts) ≤ length buf = omega (arith, g.1, y) in
-        let f : out ≡ records ts ++ drop (recordBytes ts) buf =
-        o ∙ ap (λ v. sets buf 0 (records (tokensIn v))) g.0 ∙ sets-front buf (records ts) z ∙ ap (λ k. records ts ++ drop k buf) y in
-        ap (λ u. seen 0 u blk) f
-        ∙ ap (seen 0 (records ts ++ drop (recordBytes ts) buf)) (q ∙ ap (λ u. blockOf 0 0 u b) w.2 ∙ ap (blockOf 0 0 (length ts)) w.3)
-        ∙ by-verdict (granted ts) w.1
+      pub entry-short : (blk : List ℕ) → length buf < n.bytes → blk ≡ blockOf 19 0 n.tokens n.bytes → seen 19 buf blk ≡ hostOf s buf block
+      unfolding seenOf
+      entry-short blk l q =
+          let w = was-tokenized in
+          let b = w.3 in
+          ap (seen 19 buf) (q ∙ ap (λ k. blockOf 19 0 k n.bytes) w.2 ∙ ap (blockOf 19 0 (length w.0)) w.3)
+          ∙ by-verdict (lacking w.0) (verdict-rest s (length buf) d.in-limit d.utf8 ∙ room-lacking (length buf) (answer s) w.0 w.1 (omega arith))
 
--- what writing asks for
-module _ (s : List ℕ) (room n b : ℕ) (e : judged.Fits n b ≡ judgedOf (verdict s room)) where
-  pub entry-fits : Fits (answer s) room
-  entry-fits =
-      let w = was-fits _ n b e in
-      let g = verdict-granted s room w.0 w.1 in
-      rw g.0 (record { is-tokenized = refl; fits = g.1 })
-
-  pub entry-bytes : b ≡ recordBytes (tokensIn (answer s))
-  entry-bytes =
-      let w = was-fits _ n b e in
-      w.3 ∙ sym (ap (λ v. recordBytes (tokensIn v)) (verdict-granted s room w.0 w.1).0)
-
-  pub entry-length : length s ≤ mostBytes
-  entry-length = go (ltb mostBytes (length s)) refl
-    where
-      go : (x : Bool) → ltb mostBytes (length s) ≡ x → length s ≤ mostBytes
-      go false q = ltb-false mostBytes (length s) q
-      go true q =
-          let w = was-fits _ n b e in
-          let v = sym (verdict-17 s room (ltb-true mostBytes (length s) q)) ∙ w.1 in
-          zero-one (cc)
-
-  pub entry-valid : length s ≤ validPrefix s
-  entry-valid = go (ltb (validPrefix s) (length s)) refl
-    where
-      go : (x : Bool) → ltb (validPrefix s) (length s) ≡ x → length s ≤ validPrefix s
-      go false q = ltb-false (validPrefix s) (length s) q
-      go true q =
-          let w = was-fits _ n b e in
-          let v = sym (verdict-18 s room entry-length (ltb-true (validPrefix s) (length s) q)) ∙ w.1 in
-          zero-one (cc)
-
-  -- a buffer that the records fit into has them
-  pub entry-held : (scratch next : List ℕ) → length next ≡ length scratch → next ≡ scratchOf s scratch → b ≤ length next
-      → take b next ≡ records (tokensIn (answer s))
-  entry-held scratch next k h l =
-      let w = was-fits _ n b e in
-      let g = verdict-granted s room w.0 w.1 in
-      let ts = w.0 in
-      let y = records-length ts in
-      let z : recordBytes ts ≤ length scratch = omega (arith, w.3) in
-      let f = begun-fits s scratch (rw g.0 (record { is-tokenized = refl; fits = z })) in
-      let o = h ∙ sym (scratch-read s scratch entry-length _ refl entry-valid) ∙ f ∙ ap (λ v. sets scratch 0 (records (tokensIn v))) g.0 ∙ sets-front scratch (records ts) (omega arith) in
-      ap (take b) o ∙ take_at (records ts) _ b (y ∙ sym w.3) ∙ sym (ap (λ v. records (tokensIn v)) g.0)
+      pub entry-done : (out blk : List ℕ) → n.bytes ≤ length buf → out ≡ sets buf 0 (records (tokensIn (answer s))) → blk ≡ blockOf 0 0 n.tokens n.bytes
+          → seen 0 out blk ≡ hostOf s buf block
+      unfolding seenOf
+      entry-done out blk l o q =
+          let w = was-tokenized in
+          let ts = w.0 in
+          let b = w.3 in
+          let y = records-length ts in
+          let f : out ≡ records ts ++ drop (recordBytes ts) buf =
+          o ∙ ap (λ v. sets buf 0 (records (tokensIn v))) w.1 ∙ sets-front buf (records ts) (omega arith) ∙ ap (λ k. records ts ++ drop k buf) y in
+          ap (λ u. seen 0 u blk) f
+          ∙ ap (seen 0 (records ts ++ drop (recordBytes ts) buf)) (q ∙ ap (λ u. blockOf 0 0 u n.bytes) w.2 ∙ ap (blockOf 0 0 (length ts)) w.3)
+          ∙ by-verdict (granted ts) (verdict-rest s (length buf) d.in-limit d.utf8 ∙ room-granted (length buf) (answer s) ts w.1 (omega arith))

@@ -7,6 +7,7 @@ use lib.ListN.{length, take, drop, get_or, length-drop}
 use lib.Seq.{take-suc, take-add, take-length, get_or-drop, drop-drop, length-take-le}
 use lib.Dec.{eqb}
 use native.Mathlib.Nat.{sub-zero, zero-add}
+use native.Mathlib.Numerals.{add-one}
 use native.Mathlib.Omega.{arith}
 use borrow.Author.Tests.{eqb-true, eqb-false}
 use Rattle.chars.specs.paper.Quoted.{between}
@@ -102,8 +103,11 @@ module _ (low high : ℕ) where
   pub count-within : (s : List ℕ) (i j : ℕ) → j ≤ length s → countIn low high (part s i j) ≤ j - i
   count-within s i j h = let a = count-most (part s i j) in let b = part-length s i j h in omega arith
 
--- for the functions that count
-pub ruleset counting = (count-none, count-more, count-join, count-within)
+  -- of the bytes in front one more
+  pub count-next : (s : List ℕ) (i : ℕ) → i < length s
+      → countIn low high (take (i + 1) s) ≡ countIn low high (take i s) + cond (between low high (get_or s i 0)) 1 0
+  count-next s i h =
+      rw (add-one, take-suc s i 0 h) (count-append (take i s) (get_or s i 0 ∷ []) ∙ ap (λ m. countIn low high (take i s) + m) (count-one (get_or s i 0)))
 
--- over the whole script
-pub ruleset whole = (count-most, part-all)
+-- for the functions that count
+pub ruleset counting = (count-none, count-next, count-most, count-within, count-append, take-length)

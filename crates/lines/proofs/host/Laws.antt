@@ -10,37 +10,40 @@ use native.Mathlib.Omega.{arith}
 use borrow.Author.Tests.{eq-eqb, ne_eqb, ltb-true, ltb-false, lt-ltb, le-ltb, leb-true, le-leb, not-true}
 use Rattle.words.specs.Words.{blockOf, told}
 use Rattle.chars.specs.computed.Valid.{validPrefix}
-use Rattle.chars.proofs.Bools.{clash, and-both}
+use Rattle.chars.proofs.Bools.{and-both}
 use Rattle.token.specs.paper.Records.{mostBytes}
+use Rattle.std.specs.Prelude.{Result, Ok, Err}
+use Rattle.entry.specs.paper.Refusals.{refusalNumber}
 use Rattle.entry.specs.paper.Host.{seen}
+use Rattle.entry.specs.computed.Check.{checkOf}
+use Rattle.entry.specs.declared.refusal.Refused.{Refused}
+use Rattle.entry.proofs.host.Checks.{tooLong, notUtf8}
 use Rattle.entry.specs.paper.TokenText.{insideCharacter, hasText}
 use Rattle.lines.specs.paper.Lines.{GoodPlace}
 use Rattle.lines.specs.computed.Lines.{startsOf, lineCount, searchOf, columnSince}
 use Rattle.lines.specs.computed.Host.{checkedOf, builtBy, indexSeen, foundIn, answeredBy, positionTold}
-use Rattle.lines.specs.declared.host.Checked.{Checked}
-use Rattle.lines.specs.declared.host.Checked.TheVariants as checked
 
 -- ---- 17, 18, the number of lines
 
 module _ (s : List ℕ) where
-  pub checked-long : mostBytes < length s → checked.Refused 17 0 ≡ checkedOf s
-  unfolding checkedOf
-  checked-long l = rw (lt-ltb mostBytes (length s) l)
+  pub checked-long : mostBytes < length s → Err tooLong ≡ checkedOf s
+  unfolding checkedOf checkOf
+  checked-long l = rw (lt-ltb mostBytes (length s) l) refl
 
   module _ (l : length s ≤ mostBytes) (v : ℕ) (e : v ≡ validPrefix s) where
-    pub checked-invalid : v < length s → checked.Refused 18 v ≡ checkedOf s
-    unfolding checkedOf
-    checked-invalid x = rw (le-ltb mostBytes (length s) l, ← e, lt-ltb v (length s) x)
+    pub checked-invalid : v < length s → Err (notUtf8 v) ≡ checkedOf s
+    unfolding checkedOf checkOf
+    checked-invalid x = rw (le-ltb mostBytes (length s) l, ← e, lt-ltb v (length s) x) refl
 
-    pub checked-good : length s ≤ v → checked.Lines (lineCount s) ≡ checkedOf s
-    unfolding checkedOf
-    checked-good x = rw (le-ltb mostBytes (length s) l, ← e, le-ltb v (length s) x)
+    pub checked-good : length s ≤ v → Ok (lineCount s) ≡ checkedOf s
+    unfolding checkedOf checkOf
+    checked-good x = rw (le-ltb mostBytes (length s) l, ← e, le-ltb v (length s) x) refl
 
   -- and nothing else is answered
-  pub data CheckedAs : Checked → Type 0 where
-    long : mostBytes < length s → CheckedAs (checked.Refused 17 0)
-    invalid : length s ≤ mostBytes → validPrefix s < length s → CheckedAs (checked.Refused 18 (validPrefix s))
-    good : length s ≤ mostBytes → length s ≤ validPrefix s → CheckedAs (checked.Lines (lineCount s))
+  pub data CheckedAs : Result ℕ Refused → Type 0 where
+    long : mostBytes < length s → CheckedAs (Err tooLong)
+    invalid : length s ≤ mostBytes → validPrefix s < length s → CheckedAs (Err (notUtf8 (validPrefix s)))
+    good : length s ≤ mostBytes → length s ≤ validPrefix s → CheckedAs (Ok (lineCount s))
 
   pub checked-as : CheckedAs (checkedOf s)
   checked-as = go (ltb mostBytes (length s)) refl (ltb (validPrefix s) (length s)) refl
@@ -57,12 +60,12 @@ module _ (s : List ℕ) where
           rw (← checked-good l (validPrefix s) refl x) (good l x)
 
   -- where the lines are counted, the script is not too long, and they are all of them
-  pub was-lines : (n : ℕ) → checked.Lines n ≡ checkedOf s → (length s ≤ mostBytes) × (n ≡ lineCount s)
+  pub was-lines : (n : ℕ) → Ok n ≡ checkedOf s → (length s ≤ mostBytes) × (n ≡ lineCount s)
   was-lines n e = go checked-as e
     where
-      go : {x : Checked} → CheckedAs x → checked.Lines n ≡ x → (length s ≤ mostBytes) × (n ≡ lineCount s)
-      go (long l) e = clash (cc)
-      go (invalid l x) e = clash (cc)
+      go : {x : Result ℕ Refused} → CheckedAs x → Ok n ≡ x → (length s ≤ mostBytes) × (n ≡ lineCount s)
+      go (long l) e = absurd (cc)
+      go (invalid l x) e = absurd (cc)
       go (good l x) e = (l, cc)
 
 -- ---- a good place
@@ -88,11 +91,12 @@ module _ (s index block : List ℕ) where
   index-none n = rw (ne_eqb (length block) 16 n)
 
   module _ (e : length block ≡ 16) where
-    pub index-refused : (j a : ℕ) (b : List ℕ) → checked.Refused j a ≡ checkedOf s → b ≡ blockOf j a 0 0 → seen j index b ≡ indexSeen s index block
+    pub index-refused : (r : Refused) (b : List ℕ) → Err r ≡ checkedOf s → b ≡ blockOf (refusalNumber r.what) r.place 0 0
+        → seen (refusalNumber r.what) index b ≡ indexSeen s index block
     unfolding indexSeen builtBy
-    index-refused j a b q f = rw (eq-eqb (length block) 16 e, ← q, f)
+    index-refused r b q f = rw (eq-eqb (length block) 16 e, ← q, f)
 
-    module _ (n : ℕ) (b : List ℕ) (q : checked.Lines n ≡ checkedOf s) where
+    module _ (n : ℕ) (b : List ℕ) (q : Ok n ≡ checkedOf s) where
       pub index-short : length index < n → b ≡ blockOf 26 0 n 0 → seen 26 index b ≡ indexSeen s index block
       unfolding indexSeen builtBy
       index-short l f = rw (eq-eqb (length block) 16 e, ← q, lt-ltb (length index) n l, f)
@@ -110,11 +114,12 @@ module _ (s index : List ℕ) (a : ℕ) (block : List ℕ) where
   position-none n = rw (ne_eqb (length block) 16 n)
 
   module _ (e : length block ≡ 16) where
-    pub position-refused : (j p : ℕ) (b : List ℕ) → checked.Refused j p ≡ checkedOf s → b ≡ blockOf j p 0 0 → told j b ≡ positionTold s index a block
+    pub position-refused : (r : Refused) (b : List ℕ) → Err r ≡ checkedOf s → b ≡ blockOf (refusalNumber r.what) r.place 0 0
+        → told (refusalNumber r.what) b ≡ positionTold s index a block
     unfolding positionTold answeredBy
-    position-refused j p b q f = rw (eq-eqb (length block) 16 e, ← q, f)
+    position-refused r b q f = rw (eq-eqb (length block) 16 e, ← q, f)
 
-    module _ (n : ℕ) (b : List ℕ) (q : checked.Lines n ≡ checkedOf s) where
+    module _ (n : ℕ) (b : List ℕ) (q : Ok n ≡ checkedOf s) where
       pub position-off : hasText s a a ≡ false → b ≡ blockOf 25 0 0 0 → told 25 b ≡ positionTold s index a block
       unfolding positionTold answeredBy
       position-off t f = rw (eq-eqb (length block) 16 e, ← q, t, f)

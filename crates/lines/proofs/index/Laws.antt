@@ -102,14 +102,15 @@ module _ (s : List ℕ) where
       sum zero b = ap (λ k. eqb k 0) (zero-add b)
       sum (suc a) b = rw (ne_eqb (suc a + b) 0 (λ z. omega arith), ne_eqb (suc a) 0 (λ z. omega arith))
 
-  pub no-lf-two : (i : ℕ) → i + 2 ≤ length s → noLf s i 2 ≡ not (eqb (get_or s i 0) 0x0A) && not (eqb (get_or s (i + 1) 0) 0x0A)
-  no-lf-two i h = sym (rw (← no-lf-one i (omega arith), ← no-lf-one (i + 1) (omega arith)) (no-lf-join i 1 1))
+  -- one byte more
+  no-lf-more : (i n : ℕ) → i + n < length s → noLf s i (n + 1) ≡ noLf s i n && not (eqb (get_or s (i + n) 0) 0x0A)
+  no-lf-more i n h = sym (no-lf-join i n 1) ∙ ap (λ b. noLf s i n && b) (no-lf-one (i + n) h)
 
-  pub no-lf-four : (i : ℕ) → noLf s i 4 ≡ noLf s i 2 && noLf s (i + 2) 2
-  no-lf-four i = sym (no-lf-join i 2 2)
-
-  pub no-lf-eight : (i : ℕ) → noLf s i 8 ≡ noLf s i 4 && noLf s (i + 4) 4
-  no-lf-eight i = sym (no-lf-join i 4 4)
+  pub no-lf-eight : (i : ℕ) → i + 8 ≤ length s
+      → noLf s i 8
+      ≡ not (eqb (get_or s i 0) 0x0A) && not (eqb (get_or s (i + 1) 0) 0x0A) && not (eqb (get_or s (i + 2) 0) 0x0A) && not (eqb (get_or s (i + 3) 0) 0x0A) && not (eqb (get_or s (i + 4) 0) 0x0A) && not (eqb (get_or s (i + 5) 0) 0x0A) && not (eqb (get_or s (i + 6) 0) 0x0A) && not (eqb (get_or s (i + 7) 0) 0x0A)
+  no-lf-eight i h =
+      rw (no-lf-more i 7 (omega arith), no-lf-more i 6 (omega arith), no-lf-more i 5 (omega arith), no-lf-more i 4 (omega arith), no-lf-more i 3 (omega arith), no-lf-more i 2 (omega arith), no-lf-more i 1 (omega arith), no-lf-one i (omega arith)) refl
 
   -- no line starts behind them
   pub starts-free : (i n : ℕ) → noLf s i n ≡ true → startsIn i (part s i (i + n)) ≡ []
@@ -123,8 +124,8 @@ module _ (s : List ℕ) where
       empty [] q = refl
       empty (x ∷ l) q = absurd (omega arith)
 
--- for the tests
-pub ruleset no_lf = (no-lf-two, no-lf-four, no-lf-eight)
+-- for the test
+pub ruleset no_lf = (no-lf-eight)
 
 -- ---- stores
 

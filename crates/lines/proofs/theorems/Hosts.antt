@@ -21,10 +21,11 @@ use Rattle.lines.specs.paper.Lines.{Starts, Position, GoodPlace}
 use Rattle.lines.specs.paper.Host.{Taken, Builds, Answers}
 use Rattle.lines.specs.computed.Lines.{startsOf, lineCount, lineAt, columnAt, searchOf, columnSince}
 use Rattle.lines.specs.computed.Host.{checkedOf, indexSeen, positionTold}
-use Rattle.lines.specs.declared.host.Checked.{Checked}
-use Rattle.lines.specs.declared.host.Checked.TheVariants as checked
+use Rattle.entry.specs.declared.refusal.Refused.{Refused}
 use Rattle.lines.proofs.index.Laws.{lines-length, some_line}
 use Rattle.lines.proofs.find.Laws.{column-between, search-within}
+use Rattle.std.specs.Prelude.{Result, Ok}
+use Rattle.entry.proofs.host.Checks.{tooLong, notUtf8}
 use Rattle.lines.proofs.host.Laws.{CheckedAs, long, invalid, good, checked-as, checked-long, checked-invalid, checked-good, good-place, place-good, index-none, index-refused, index-short, index-built, position-none, position-refused, position-off, position-short, position-found}
 use Rattle.lines.proofs.theorems.Starts.{starts-are}
 use Rattle.lines.proofs.theorems.Counting.{counted-is}
@@ -41,7 +42,7 @@ module _ (s : List ℕ) where
   taken : (block : List ℕ) → length block ≡ 16 → length s ≤ mostBytes → length s ≤ validPrefix s → Taken s block
   taken block e l x = record { sixteen = e; in-limit = l; utf8 = all-valid s x }
 
-  taken-lines : {block : List ℕ} → Taken s block → checked.Lines (lineCount s) ≡ checkedOf s
+  taken-lines : {block : List ℕ} → Taken s block → Ok (lineCount s) ≡ checkedOf s
   taken-lines t = let v = valid-all s t.utf8 in checked-good s t.in-limit (validPrefix s) refl (omega arith)
 
   -- ---- building
@@ -49,8 +50,8 @@ module _ (s : List ℕ) where
   module _ (index block : List ℕ) where
     builds-only : {x : Seen} → Builds s index block x → indexSeen s index block ≡ x
     builds-only (Builds.twenty n) = sym (index-none s index block n)
-    builds-only (Builds.seventeen e l) = sym (index-refused s index block e 17 0 _ (checked-long s l) refl)
-    builds-only (Builds.eighteen {n} e l v x) = sym (index-refused s index block e 18 n _ (checked-invalid s l n (longest-one v (valid s)) x) refl)
+    builds-only (Builds.seventeen e l) = sym (index-refused s index block e tooLong _ (checked-long s l) refl)
+    builds-only (Builds.eighteen {n} e l v x) = sym (index-refused s index block e (notUtf8 n) _ (checked-invalid s l n (longest-one v (valid s)) x) refl)
     builds-only (Builds.twentySix {l} t st x) =
         let e = sym (ap length ((starts-are s l).1 st)) ∙ lines-length s in
         rw e (sym (index-short s index block t.sixteen (lineCount s) _ (taken-lines t) (omega arith) refl))
@@ -59,9 +60,9 @@ module _ (s : List ℕ) where
         let e = sym (ap length q) ∙ lines-length s in
         rw (← q, lines-length s) (sym (index-built s index block t.sixteen (lineCount s) _ (taken-lines t) _ (omega arith) refl refl))
 
-    builds-by : {x : Checked} → CheckedAs s x → x ≡ checkedOf s → length block ≡ 16 → Builds s index block (indexSeen s index block)
-    builds-by (long l) q e = rw (← index-refused s index block e 17 0 _ q refl) (Builds.seventeen e l)
-    builds-by (invalid l x) q e = rw (← index-refused s index block e 18 (validPrefix s) _ q refl) (Builds.eighteen e l (valid s) x)
+    builds-by : {x : Result ℕ Refused} → CheckedAs s x → x ≡ checkedOf s → length block ≡ 16 → Builds s index block (indexSeen s index block)
+    builds-by (long l) q e = rw (← index-refused s index block e tooLong _ q refl) (Builds.seventeen e l)
+    builds-by (invalid l x) q e = rw (← index-refused s index block e (notUtf8 (validPrefix s)) _ q refl) (Builds.eighteen e l (valid s) x)
     builds-by (good l x) q e = go (ltb (length index) (lineCount s)) refl
       where
         t : Taken s block
@@ -133,9 +134,9 @@ module _ (s : List ℕ) where
         position-found s index a block t.sixteen (lineCount s) _ (taken-lines t) (place-good s a g) _ _ h refl refl
         (ap (λ k. blockOf 0 0 k (columnSince s (get_or index (searchOf index (lineCount s) a) 0) a)) (sym (add-one _)))
 
-    answers-by : {x : Checked} → CheckedAs s x → x ≡ checkedOf s → length block ≡ 16 → Answers s index a block (positionTold s index a block)
-    answers-by (long l) q e = rw (← position-refused s index a block e 17 0 _ q refl) (Answers.seventeen e l)
-    answers-by (invalid l x) q e = rw (← position-refused s index a block e 18 (validPrefix s) _ q refl) (Answers.eighteen e l (valid s) x)
+    answers-by : {x : Result ℕ Refused} → CheckedAs s x → x ≡ checkedOf s → length block ≡ 16 → Answers s index a block (positionTold s index a block)
+    answers-by (long l) q e = rw (← position-refused s index a block e tooLong _ q refl) (Answers.seventeen e l)
+    answers-by (invalid l x) q e = rw (← position-refused s index a block e (notUtf8 (validPrefix s)) _ q refl) (Answers.eighteen e l (valid s) x)
     answers-by (good l x) q e = go (hasText s a a) refl (ltb (length index) (lineCount s)) refl
       where
         t : Taken s block
@@ -194,8 +195,8 @@ module _ (s : List ℕ) where
 
     pub answers-only : {x : Told} → (numberTold x ≡ 0 → take (lineCount s) index ≡ startsOf s) → Answers s index a block x → positionTold s index a block ≡ x
     answers-only is (Answers.twenty n) = sym (position-none s index a block n)
-    answers-only is (Answers.seventeen e l) = sym (position-refused s index a block e 17 0 _ (checked-long s l) refl)
-    answers-only is (Answers.eighteen {n} e l v x) = sym (position-refused s index a block e 18 n _ (checked-invalid s l n (longest-one v (valid s)) x) refl)
+    answers-only is (Answers.seventeen e l) = sym (position-refused s index a block e tooLong _ (checked-long s l) refl)
+    answers-only is (Answers.eighteen {n} e l v x) = sym (position-refused s index a block e (notUtf8 n) _ (checked-invalid s l n (longest-one v (valid s)) x) refl)
     answers-only is (Answers.twentyFive t n) = sym (position-off s index a block t.sixteen (lineCount s) _ (taken-lines t) (off (hasText s a a) refl n) refl)
       where
         off : (p : Bool) → hasText s a a ≡ p → (GoodPlace s a → ⊥) → hasText s a a ≡ false

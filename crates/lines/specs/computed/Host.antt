@@ -1,26 +1,27 @@
 -- What the host sees of building and of a query, computed.
-use Rattle.std.specs.Prelude.{ℕ, suc, cond, List, ◌++◌, length, drop, get_or, eqb, ltb}
+use Rattle.std.specs.Prelude.{ℕ, suc, cond, List, ◌++◌, length, drop, get_or, eqb, ltb, Result, Ok, Err}
 use Rattle.words.specs.Words.{blockOf, Told, told}
-use Rattle.chars.specs.computed.Valid.{validPrefix}
-use Rattle.token.specs.paper.Records.{mostBytes}
+use Rattle.entry.specs.paper.Refusals.{refusalNumber}
 use Rattle.entry.specs.paper.Host.{Seen, seen}
+use Rattle.entry.specs.computed.Check.{checkOf}
+use Rattle.entry.specs.declared.refusal.Refused.{Refused}
 use Rattle.entry.specs.paper.TokenText.{hasText}
 use Rattle.lines.specs.computed.Lines.{startsOf, lineCount, searchOf, columnSince}
-use Rattle.lines.specs.declared.host.Checked.{Checked}
-use Rattle.lines.specs.declared.host.Checked.TheVariants as checked
+
+-- so many lines, where the script is not refused
+abbrev pub linesIf : Result (Unit {0}) Refused → ℕ → Result ℕ Refused
+linesIf (Ok x) n = Ok n
+linesIf (Err e) n = Err e
 
 -- 17, 18, else the number of lines
-unfoldable pub checkedOf : List ℕ → Checked
-checkedOf script =
-    let valid = validPrefix script in
-    let counted = cond (ltb valid (length script)) (checked.Refused 18 valid) (checked.Lines (lineCount script)) in
-    cond (ltb mostBytes (length script)) (checked.Refused 17 0) counted
+unfoldable pub checkedOf : List ℕ → Result ℕ Refused
+checkedOf script = linesIf (checkOf script) (lineCount script)
 
 -- ---- building
 
-unfoldable pub builtBy : Checked → List ℕ → List ℕ → Seen
-builtBy (checked.Refused j a) script index = seen j index (blockOf j a 0 0)
-builtBy (checked.Lines n) script index =
+unfoldable pub builtBy : Result ℕ Refused → List ℕ → List ℕ → Seen
+builtBy (Err e) script index = seen (refusalNumber e.what) index (blockOf (refusalNumber e.what) e.place 0 0)
+builtBy (Ok n) script index =
     let built = seen 0 (startsOf script ++ drop n index) (blockOf 0 0 n 0) in
     cond (ltb (length index) n) (seen 26 index (blockOf 26 0 n 0)) built
 
@@ -35,9 +36,9 @@ foundIn n script index a =
     let k = searchOf index n a in
     told 0 (blockOf 0 0 (suc k) (columnSince script (get_or index k 0) a))
 
-unfoldable pub answeredBy : Checked → List ℕ → List ℕ → ℕ → Told
-answeredBy (checked.Refused j p) script index a = told j (blockOf j p 0 0)
-answeredBy (checked.Lines n) script index a =
+unfoldable pub answeredBy : Result ℕ Refused → List ℕ → List ℕ → ℕ → Told
+answeredBy (Err e) script index a = told (refusalNumber e.what) (blockOf (refusalNumber e.what) e.place 0 0)
+answeredBy (Ok n) script index a =
     let found = cond (ltb (length index) n) (told 26 (blockOf 26 0 0 0)) (foundIn n script index a) in
     cond (hasText script a a) found (told 25 (blockOf 25 0 0 0))
 

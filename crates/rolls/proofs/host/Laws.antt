@@ -26,11 +26,7 @@ use Rattle.rolls.specs.paper.Roll.{Outcome, tokens, refused}
 use Rattle.rolls.specs.computed.Roll.{readAt, readRoll}
 use Rattle.rolls.specs.paper.Host.{outcomeTold, steppedTold, tokenBlock, stopBlock}
 use Rattle.rolls.specs.computed.Host.{rollTold, recordTold}
-use Rattle.rolls.specs.code.Record.{yieldOf}
-use Rattle.rolls.specs.code.Roll.{countedOf}
-use Rattle.rolls.specs.declared.roll.Counted.{Counted}
-use Rattle.rolls.specs.declared.roll.Counted.TheVariants as counted
-use Rattle.rolls.proofs.record.Laws.{stepOf, step_of}
+use Rattle.rolls.specs.code.Roll.{Counted, total, counted}
 use Rattle.rolls.proofs.theorems.Kinds.{Carries, int, long, content, mark, nothing, carries}
 
 -- ---- stores
@@ -103,23 +99,23 @@ put_token_block l k start end cut next h size =
 -- ---- what is told, by what the code hands on
 
 abbrev pub countedTold : ℕ → Counted → Told
-countedTold bytes (counted.Tokens n) = told 0 (blockOf 0 0 n bytes)
-countedTold bytes (counted.Refused j a) = told j (blockOf j a 0 0)
+countedTold bytes (total n) = told 0 (blockOf 0 0 n bytes)
+countedTold bytes (Counted.stopped j a) = told j (blockOf j a 0 0)
 
-outcome-told : (bytes : ℕ) (x : Outcome) → outcomeTold bytes x ≡ countedTold bytes (countedOf 0 x)
-unfolding countedOf
+outcome-told : (bytes : ℕ) (x : Outcome) → outcomeTold bytes x ≡ countedTold bytes (counted 0 x)
+unfolding counted
 outcome-told bytes (tokens ts) = ap (λ n. told 0 (blockOf 0 0 n bytes)) (sym (zero-add (length ts)))
 outcome-told bytes (refused j a) = refl
 
 pub told-roll : (roll block : List ℕ)
-    → rollTold roll block ≡ cond (eqb (length block) 16) (countedTold (length roll) (countedOf 0 (readRoll roll))) (told 20 block)
+    → rollTold roll block ≡ cond (eqb (length block) 16) (countedTold (length roll) (counted 0 (readRoll roll))) (told 20 block)
 unfolding rollTold
 told-roll roll block = ap (λ x. cond (eqb (length block) 16) x (told 20 block)) (outcome-told (length roll) (readRoll roll))
 
 pub told-record : (roll : List ℕ) (at previous : ℕ) (block : List ℕ)
-    → recordTold roll at previous block ≡ cond (eqb (length block) 40) (steppedTold (stepOf (yieldOf (readAt roll at previous)))) (told 20 block)
+    → recordTold roll at previous block ≡ cond (eqb (length block) 40) (steppedTold (readAt roll at previous)) (told 20 block)
 unfolding recordTold
-told-record roll at previous block = ap (λ x. cond (eqb (length block) 40) (steppedTold x) (told 20 block)) (sym (step_of (readAt roll at previous)))
+told-record roll at previous block = refl
 
 -- with these the prover finds what both functions tell
 pub ruleset answers = (told-roll, told-record)

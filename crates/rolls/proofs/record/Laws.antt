@@ -1,25 +1,34 @@
 -- One record: the step branch by branch, and the step that an answer of the code stands for.
 use Prim.Native.Nat.{ℕ, ◌+◌, ◌-◌, ◌≤◌, ◌<◌}
 use mathlib.Core.Path.{◌≡◌, refl, sym, ◌∙◌, ap}
-use mathlib.Core.Bool.{true, false, or-true}
+use mathlib.Core.Bool.{Bool, true, false, or-true}
 use mathlib.Core.List.{List}
 use lib.ListN.{length, take, drop, length-drop}
 use lib.Seq.{take_all}
 use native.Mathlib.Nat.{le_of_eq}
 use native.Mathlib.Omega.{arith}
-use borrow.Author.Tests.{le-leb, lt-leb, lt-ltb, le-ltb}
+use lib.Dec.{eqb}
+use borrow.Author.Tests.{eqb-false, le-leb, lt-leb, lt-ltb, le-ltb}
 use Rattle.token.specs.code.Form.{heldAt, RecordForm}
 use Rattle.token.specs.declared.form.Held.{Held}
-use Rattle.rolls.specs.paper.Roll.{Stepped, yielded, stopped}
+use Rattle.rolls.specs.paper.Roll.{yielded, stopped}
+use Rattle.std.specs.Prelude.{None}
+use Rattle.rolls.specs.code.Record.{kindOf}
 use Rattle.rolls.specs.computed.Roll.{lengthFor, isKind, isWrong, tokenOf, stepHeld, readAt, eofFollowed}
-use Rattle.rolls.specs.code.Record.{yieldOf}
-use Rattle.rolls.specs.declared.record.Yield.{Yield}
-use Rattle.rolls.specs.declared.record.Yield.TheVariants as yield
 
 -- no kind's number is past the keywords'
 pub none-above : (n : ℕ) → 45 < n → 0 ≡ lengthFor n
 unfolding lengthFor
 none-above n a = grind arith
+
+-- a record with such a number has no kind
+pub no_kind : (h : Held) → 45 < h.number → kindOf h ≡ None
+unfolding kindOf isKind
+no_kind h a = go (eqb h.length 0) refl
+  where
+    go : (b : Bool) → eqb h.length 0 ≡ b → kindOf h ≡ None
+    go true e = rw e refl
+    go false e = let n = eqb-false h.length 0 e in rw (← (none-above h.number a), e) refl
 
 -- ---- one step, branch by branch
 
@@ -72,14 +81,3 @@ module _ (roll : List ℕ) (at previous : ℕ) where
       pub step-known : isKind h.number h.length ≡ true → readAt roll at previous ≡ stepHeld h at (length roll - at) previous
       unfolding readAt
       step-known k = simp (lt-leb (length roll) at i, le-ltb (length roll - at) 4 f, ← e, le-ltb (length roll - at) h.length s, k)
-
--- ---- the step that the code's answer stands for
-
-abbrev pub stepOf : Yield → Stepped
-stepOf (yield.Token k start end cut next) = yielded (record { kind = k; start = start; end = end; cut = cut }) next.at
-stepOf (yield.Refused j a) = stopped j a
-
-pub step_of : (x : Stepped) → stepOf (yieldOf x) ≡ x
-unfolding yieldOf
-step_of (yielded t n) = refl
-step_of (stopped j a) = refl

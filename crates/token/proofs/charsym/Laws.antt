@@ -18,26 +18,28 @@ use Rattle.token.proofs.Classes.{sign-no-semi}
 use Rattle.token.specs.paper.Tests.{begins, backslash, apostrophe, opSign, freeSign, opensComment, plainChar}
 use Rattle.token.specs.computed.Answer.{Found, Esc, unbroken, broken, afterSlash, afterIdent, tickNext, escapedOf, scanCharSym}
 use Rattle.token.specs.code.Cursor.{cursorAt}
-use Rattle.token.specs.code.Piece.{pieceOf}
-use Rattle.token.specs.code.String.{escEnd, escapeOf}
+use Rattle.token.specs.code.Piece.{pieceOf, tokenTo}
+use Rattle.token.specs.code.String.{escEnd, escapeOf, endAt}
 use Rattle.token.specs.code.Charsym.{escapedChar, symbolOf}
 use Rattle.token.specs.declared.cursor.Cursor.{Cursor}
 use Rattle.token.specs.declared.kinds.TokenKind.TheVariants as tk
-use Rattle.token.specs.declared.piece.Piece.TheVariants as piece
-use Rattle.token.specs.declared.piece.Ended.TheVariants as ended
 use Rattle.token.proofs.Base.{zero-one}
 use Rattle.token.proofs.cursor.Bytes.{any-byte, inside, past}
 use Rattle.token.proofs.cursor.Laws.{Here}
+use Rattle.token.specs.code.Refusal.{refusedFor, refusedBy, refusalBy}
+use Rattle.token.specs.declared.refusal.Refusal.TheVariants as refusal
+use Rattle.token.specs.declared.refusal.Refused.{Refused}
+use Rattle.std.specs.Prelude.{Err}
 open text-laws use {text-drop, text-place, at-end, place-from}
 
 -- ---- pieces
 
 pub sym-token : (s : List ℕ) (end : ℕ) (t : Text) (f : Found) → end ≤ length s → from s end ≡ t → f ≡ Found.token tk.CharSym t
-    → piece.Token tk.CharSym (cursorAt end) ≡ pieceOf (length s) f
+    → tokenTo tk.CharSym (cursorAt end) ≡ pieceOf (length s) f
 unfolding pieceOf
 sym-token s end t f h q e = rw (e, ← q, place-from s end h)
 
-pub sym-stuck : (s : List ℕ) (j at : ℕ) (f : Found) → at ≤ length s → f ≡ Found.stuck j (from s at) → piece.Refused j at ≡ pieceOf (length s) f
+pub sym-stuck : (s : List ℕ) (j at : ℕ) (f : Found) → at ≤ length s → f ≡ Found.stuck j (from s at) → refusedBy j at ≡ pieceOf (length s) f
 unfolding pieceOf
 sym-stuck s j at f h e = rw (e, place-from s at h)
 
@@ -53,18 +55,19 @@ module _ (s : List ℕ) (i : ℕ) where
       let h = inside s i (omega arith) in
       (omega arith, past s i h (omega arith))
 
-  pub tick-closes : eqb (get_or s i 0) 0x27 ≡ true → piece.Token tk.CharSym (cursorAt (i + 1)) ≡ pieceOf (length s) (tickNext (from s i))
+  pub tick-closes : eqb (get_or s i 0) 0x27 ≡ true → tokenTo tk.CharSym (cursorAt (i + 1)) ≡ pieceOf (length s) (tickNext (from s i))
   tick-closes e = let h = past-tick e in sym-token s (i + 1) _ _ h.0 (sym h.1) (rw (tick-byte ∙ e))
 
-  pub tick-lacks : i ≤ length s → eqb (get_or s i 0) 0x27 ≡ false → piece.Refused 15 i ≡ pieceOf (length s) (tickNext (from s i))
+  pub tick-lacks : i ≤ length s → eqb (get_or s i 0) 0x27 ≡ false → refusedFor refusal.NoTick i ≡ pieceOf (length s) (tickNext (from s i))
+  unfolding refusalBy
   tick-lacks h e = sym-stuck s 15 i _ h (rw (tick-byte ∙ e))
 
 -- the byte behind an escape
 pub tick_next : (s : List ℕ) (i : ℕ) → i ≤ length s
-    → pieceOf (length s) (tickNext (from s i)) ≡ cond (eqb (get_or s i 0) 0x27) (piece.Token tk.CharSym (cursorAt (i + 1))) (piece.Refused 15 i)
+    → pieceOf (length s) (tickNext (from s i)) ≡ cond (eqb (get_or s i 0) 0x27) (tokenTo tk.CharSym (cursorAt (i + 1))) (refusedFor refusal.NoTick i)
 tick_next s i h = go (eqb (get_or s i 0) 0x27) refl
   where
-    go : (b : Bool) → eqb (get_or s i 0) 0x27 ≡ b → pieceOf (length s) (tickNext (from s i)) ≡ cond b (piece.Token tk.CharSym (cursorAt (i + 1))) (piece.Refused 15 i)
+    go : (b : Bool) → eqb (get_or s i 0) 0x27 ≡ b → pieceOf (length s) (tickNext (from s i)) ≡ cond b (tokenTo tk.CharSym (cursorAt (i + 1))) (refusedFor refusal.NoTick i)
     go true e = sym (tick-closes s i e)
     go false e = sym (tick-lacks s i h e)
 
@@ -78,12 +81,12 @@ text-within s t (i, e) = rw (← e) (go (ltb i (length s)) refl)
     go false q = rw (at-end s i (ltb-false i (length s) q)) (omega arith)
 
 module _ (s : List ℕ) (i : ℕ) where
-  pub escape-ends : (end : Cursor) → ended.At end ≡ escapeOf (length s) (from s i)
+  pub escape-ends : (end : Cursor) → endAt end ≡ escapeOf (length s) (from s i)
       → (end.at ≤ length s) × (tickNext (from s end.at) ≡ escapedChar (from s i))
   unfolding escapeOf
   escape-ends end e = go (afterSlash (from s i)) e
     where
-      go : (a : Esc) → ended.At end ≡ escEnd (length s) (from s i) a → (end.at ≤ length s) × (tickNext (from s end.at) ≡ escapedOf (from s i) a)
+      go : (a : Esc) → endAt end ≡ escEnd (length s) (from s i) a → (end.at ≤ length s) × (tickNext (from s end.at) ≡ escapedOf (from s i) a)
       go (unbroken k) e =
           let t = text-drop s k (from s i) (i, refl) in
           let y : end ≡ cursorAt (place (length s) (drop k (from s i))) = cc in
@@ -92,11 +95,11 @@ module _ (s : List ℕ) (i : ℕ) where
           (omega arith, ap (λ j. tickNext (from s j)) z ∙ ap tickNext (text-place s (drop k (from s i)) t))
       go (broken j q) e = zero-one (cc)
 
-  pub escape-wrong : (j at : ℕ) → ended.Refused j at ≡ escapeOf (length s) (from s i) → piece.Refused j at ≡ pieceOf (length s) (escapedChar (from s i))
+  pub escape-wrong : (e : Refused) → Err e ≡ escapeOf (length s) (from s i) → Err e ≡ pieceOf (length s) (escapedChar (from s i))
   unfolding escapeOf pieceOf
-  escape-wrong j at e = go (afterSlash (from s i)) e
+  escape-wrong w e = go (afterSlash (from s i)) e
     where
-      go : (a : Esc) → ended.Refused j at ≡ escEnd (length s) (from s i) a → piece.Refused j at ≡ pieceOf (length s) (escapedOf (from s i) a)
+      go : (a : Esc) → Err w ≡ escEnd (length s) (from s i) a → Err w ≡ pieceOf (length s) (escapedOf (from s i) a)
       go (unbroken k) e = zero-one (cc)
       go (broken k q) e = cc
 
@@ -165,7 +168,7 @@ module _ (s : List ℕ) (i code next : ℕ) (h : Here s i code next) (t : Text) 
   char-is e f = scan-at t (from s i) _ _ false q h.text e ∙ rw (printed ∙ f)
 
   pub char-piece : eqb code 0x5C ≡ false → isPrintable code && eqb (get_or s next 0) 0x27 ≡ true
-      → piece.Token tk.CharSym (cursorAt (next + 1)) ≡ pieceOf (length s) (scanCharSym t)
+      → tokenTo tk.CharSym (cursorAt (next + 1)) ≡ pieceOf (length s) (scanCharSym t)
   char-piece e f =
       let u = past-tick s next (and-both (isPrintable code) (eqb (get_or s next 0) 0x27) f).1 in
       sym-token s (next + 1) _ _ u.0 (sym u.1) (char-is e f)

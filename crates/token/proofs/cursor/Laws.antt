@@ -11,14 +11,13 @@ use Rattle.chars.specs.paper.Text.{Char, Text, from, place}
 use Rattle.chars.specs.code.Text.{charEnd, stepAt, codeAt}
 use Rattle.chars.specs.computed.Runs.{afterRun}
 use Rattle.chars.specs.code.Runs.{Each}
-use Rattle.chars.specs.declared.text.Step.{Step}
-use Rattle.chars.specs.declared.text.Step.TheVariants as step
+use Rattle.chars.specs.code.Utf8.{decoded}
+use Rattle.chars.specs.declared.utf8.Decoded.{Decoded}
 use Rattle.chars.proofs.theorems.Promises.{text-laws}
-use Rattle.token.specs.code.Cursor.{cursorAt, peekedOf, peekAt}
+use Rattle.token.specs.code.Cursor.{cursorAt, peekedOf, peekAt, peekedTo}
 use Rattle.token.specs.declared.cursor.Cursor.{Cursor}
-use Rattle.token.specs.declared.cursor.Peeked.{Peeked}
-use Rattle.token.specs.declared.cursor.Peeked.TheVariants as peeked
-use Rattle.token.proofs.Base.{zero-one}
+use Rattle.token.proofs.Base.{zero-one, some-parts}
+use Rattle.std.specs.Prelude.{None, Option, Some}
 open text-laws use {at-char, at-end, place-from, next-on, step-text, step-none}
 
 -- the character at i, as the code has it
@@ -28,32 +27,36 @@ pub record Here (s : List ℕ) (i code next : ℕ) : Type 0 where
   pub on : i < next
   pub within : next ≤ length s
 
-pub here : (s : List ℕ) (i code next : ℕ) → step.Char code next ≡ stepAt s i → Here s i code next
-here s i code next e =
-    let t = step-text s i code next e in
+pub here : (s : List ℕ) (i code wide : ℕ) → decoded code wide ≡ stepAt s i → Here s i code (i + wide)
+here s i code wide e =
+    let t = step-text s i code wide e in
     let n = next-on s i t.0 in
     record {
       text = at-char s i t.0 ∙ ap (λ c. record { code = c; at = i } ∷ from s (charEnd s i)) t.1 ∙ ap (λ j. record { code = code; at = i } ∷ from s j) t.2;
       in-script = t.0;
-      on = omega (arith, t.2);
-      within = omega (arith, t.2);
+      on = omega (arith, t.2, n);
+      within = omega (arith, t.2, n);
     }
 
--- a peek, by the step that the code makes
-abbrev pub peekStep : Step → Peeked
-peekStep (step.Char code next) = peeked.Char code (cursorAt next)
-peekStep step.End = peeked.End
+-- a character ends within the script
+pub step_within : (s : List ℕ) (i : ℕ) (d : Decoded) → Some d ≡ stepAt s i → i + d.width ≤ length s
+step_within s i d e = (here s i d.code d.width e).within
 
-pub peek_step : (s : List ℕ) (i : ℕ) → peekAt s i ≡ peekStep (stepAt s i)
+-- a peek, by the step that the code makes
+abbrev pub peekStep : ℕ → Option Decoded → Option (ℕ × Cursor)
+peekStep i (Some d) = peekedTo d.code (cursorAt (i + d.width))
+peekStep i None = None
+
+pub peek_step : (s : List ℕ) (i : ℕ) → peekAt s i ≡ peekStep i (stepAt s i)
 unfolding peekAt
 peek_step s i = go (stepAt s i) refl
   where
-    go : (x : Step) → x ≡ stepAt s i → peekAt s i ≡ peekStep x
-    go (step.Char code next) e = let h = here s i code next e in ap (peekedOf (length s)) h.text ∙ ap (λ j. peeked.Char code (cursorAt j)) (place-from s next h.within)
-    go step.End e = ap (peekedOf (length s)) (at-end s i (step-none s i e))
+    go : (x : Option Decoded) → x ≡ stepAt s i → peekAt s i ≡ peekStep i x
+    go (Some d) e = let h = here s i d.code d.width e in ap (peekedOf (length s)) h.text ∙ ap (λ j. peekedTo d.code (cursorAt j)) (place-from s (i + d.width) h.within)
+    go None e = ap (peekedOf (length s)) (at-end s i (step-none s i e))
 
 -- what a peek says
-pub peeked-char : (s : List ℕ) (i code : ℕ) (next : ℕ) → peeked.Char code (cursorAt next) ≡ peekAt s i → Here s i code next
+pub peeked-char : (s : List ℕ) (i code : ℕ) (next : ℕ) → peekedTo code (cursorAt next) ≡ peekAt s i → Here s i code next
 unfolding peekAt
 peeked-char s i code next e = go (ltb i (length s)) refl
   where
@@ -63,23 +66,24 @@ peeked-char s i code next e = go (ltb i (length s)) refl
         let t = at-char s i h in
         let n = next-on s i h in
         let p = place-from s (charEnd s i) n.1 in
-        let f : peeked.Char code (cursorAt next) ≡ peeked.Char (codeAt s i) (cursorAt (place (length s) (from s (charEnd s i)))) = e ∙ ap (peekedOf (length s)) t in
-        let a : code ≡ codeAt s i = cc in
-        let b : cursorAt next ≡ cursorAt (place (length s) (from s (charEnd s i))) = cc in
+        let f : peekedTo code (cursorAt next) ≡ peekedTo (codeAt s i) (cursorAt (place (length s) (from s (charEnd s i)))) = e ∙ ap (peekedOf (length s)) t in
+        let g = some-parts f in
+        let a = g.0 in
+        let b = g.1 in
         let d : next ≡ charEnd s i = ap (λ (c : Cursor). c.at) b ∙ p in
         record { text = t ∙ ap (λ c. record { code = c; at = i } ∷ from s (charEnd s i)) (sym a) ∙ ap (λ j. record { code = code; at = i } ∷ from s j) (sym d); in-script = h; on = omega arith; within = omega arith }
     go false q =
-        let f : peeked.Char code (cursorAt next) ≡ peeked.End = e ∙ ap (peekedOf (length s)) (at-end s i (ltb-false i (length s) q)) in
+        let f : peekedTo code (cursorAt next) ≡ None = e ∙ ap (peekedOf (length s)) (at-end s i (ltb-false i (length s) q)) in
         zero-one (cc)
 
-pub peeked-end : (s : List ℕ) (i : ℕ) → peeked.End ≡ peekAt s i → length s ≤ i
+pub peeked-end : (s : List ℕ) (i : ℕ) → None ≡ peekAt s i → length s ≤ i
 unfolding peekAt
 peeked-end s i e = go (ltb i (length s)) refl
   where
     go : (b : Bool) → ltb i (length s) ≡ b → length s ≤ i
     go false q = ltb-false i (length s) q
     go true q =
-        let f : peeked.End ≡ peeked.Char (codeAt s i) (cursorAt (place (length s) (from s (charEnd s i)))) = e ∙ ap (peekedOf (length s)) (at-char s i (ltb-true i (length s) q)) in
+        let f : None ≡ peekedTo (codeAt s i) (cursorAt (place (length s) (from s (charEnd s i)))) = e ∙ ap (peekedOf (length s)) (at-char s i (ltb-true i (length s) q)) in
         zero-one (cc)
 
 -- ---- a run of bytes

@@ -18,14 +18,15 @@ use Rattle.chars.proofs.theorems.Promises.{code_laws, text-laws}
 use Rattle.token.specs.paper.Tests.{isDigit, isHexDigit, digitValue, begins, hexDigit, hexAhead, letterL}
 use Rattle.token.specs.computed.Answer.{Found, numeral, readDigits, numberOf, scanNumber}
 use Rattle.token.specs.code.Cursor.{cursorAt}
-use Rattle.token.specs.code.Piece.{pieceOf}
+use Rattle.token.specs.code.Piece.{pieceOf, tokenTo}
 use Rattle.token.specs.code.Digits.{digitIn, digitOf, afterUpTo, valueOf, intOr}
 use Rattle.token.specs.declared.kinds.TokenKind.TheVariants as tk
-use Rattle.token.specs.declared.piece.Piece.TheVariants as piece
-use Rattle.token.specs.declared.digits.Value.TheVariants as value
 use Rattle.token.proofs.Base.{zero-one}
 use Rattle.token.proofs.cursor.Bytes.{any-byte, ascii-list, inside, past, two-bytes}
 use Rattle.token.proofs.theorems.Numbers.{valueAfter, digitsOf, read-is}
+use Rattle.token.specs.code.Refusal.{refusedFor, refusalBy}
+use Rattle.std.specs.Prelude.{Some, None}
+use Rattle.token.specs.declared.refusal.Refusal.TheVariants as refusal
 open code_laws use {hits, misses, between-in, between-out, in-between, not-between}
 open text-laws use {head-byte, at-ascii, at-end, place-from}
 
@@ -218,19 +219,19 @@ pub base-some : (base : ℕ) → (base ≡ 10) ⊎ (base ≡ 16) → 1 ≤ base
 base-some base (inl e) = omega arith
 base-some base (inr e) = omega arith
 
-pub fitted : (w v : ℕ) → value.Of w ≡ valueOf v → (w ≡ v) × (v ≤ 9223372036854775807)
+pub fitted : (w v : ℕ) → Some w ≡ valueOf v → (w ≡ v) × (v ≤ 9223372036854775807)
 unfolding valueOf
 fitted w v e = go (leb v 9223372036854775807) refl e
   where
-    go : (b : Bool) → leb v 9223372036854775807 ≡ b → value.Of w ≡ cond b (value.Of v) value.Over → (w ≡ v) × (v ≤ 9223372036854775807)
+    go : (b : Bool) → leb v 9223372036854775807 ≡ b → Some w ≡ cond b (Some v) None → (w ≡ v) × (v ≤ 9223372036854775807)
     go true q e = (cc, leb-true v 9223372036854775807 q)
     go false q e = zero-one (cc)
 
-pub overs : (v : ℕ) → value.Over ≡ valueOf v → 9223372036854775807 < v
+pub overs : (v : ℕ) → None ≡ valueOf v → 9223372036854775807 < v
 unfolding valueOf
 overs v e = go (leb v 9223372036854775807) refl e
   where
-    go : (b : Bool) → leb v 9223372036854775807 ≡ b → value.Over ≡ cond b (value.Of v) value.Over → 9223372036854775807 < v
+    go : (b : Bool) → leb v 9223372036854775807 ≡ b → None ≡ cond b (Some v) None → 9223372036854775807 < v
     go true q e = zero-one (cc)
     go false q e = leb-false v 9223372036854775807 q
 
@@ -246,7 +247,7 @@ letter_miss b h = misses (0x4C ∷ 0x6C ∷ []) b h
 -- the number that begins at start, whose digits of the value v end at end
 module _ (s : List ℕ) (start end v : ℕ) (h : start ≤ length s) where
   pub long-piece : v ≤ 9223372036854775807 → oneOf "Ll" (get_or s end 0) ≡ true
-      → piece.Token (tk.LongLit v) (cursorAt (end + 1)) ≡ pieceOf (length s) (numberOf (from s start) (numeral v (from s end)))
+      → tokenTo (tk.LongLit v) (cursorAt (end + 1)) ≡ pieceOf (length s) (numberOf (from s start) (numeral v (from s end)))
   unfolding pieceOf
   long-piece k e =
       let c = class-at (oneOf "Ll") (ascii-list (codes "Ll") refl) s end e in
@@ -256,28 +257,28 @@ module _ (s : List ℕ) (start end v : ℕ) (h : start ≤ length s) where
 
   pub int-piece : end ≤ length s → oneOf "Ll" (get_or s end 0) ≡ false
       → intOr start v (cursorAt end) ≡ pieceOf (length s) (numberOf (from s start) (numeral v (from s end)))
-  unfolding pieceOf intOr
+  unfolding pieceOf intOr refusalBy
   int-piece k e =
       let q : letterL (from s end) ≡ false = any-byte "Ll" refl s end ∙ e in
       rw q (go (leb v 2147483647))
     where
-      go : (b : Bool) → cond b (piece.Token (tk.IntLit v) (cursorAt end)) (piece.Refused 6 start)
+      go : (b : Bool) → cond b (tokenTo (tk.IntLit v) (cursorAt end)) (refusedFor refusal.LargeNumber start)
           ≡ pieceOf (length s) (cond b (Found.token (tk.IntLit v) (from s end)) (Found.stuck 6 (from s start)))
       go true = rw (place-from s end k)
       go false = rw (place-from s start h)
 
 module _ (s : List ℕ) (start : ℕ) (h : start ≤ length s) where
-  over-piece : (v : ℕ) (r : Text) → 9223372036854775807 < v → piece.Refused 6 start ≡ pieceOf (length s) (numberOf (from s start) (numeral v r))
-  unfolding pieceOf
+  over-piece : (v : ℕ) (r : Text) → 9223372036854775807 < v → refusedFor refusal.LargeNumber start ≡ pieceOf (length s) (numberOf (from s start) (numeral v r))
+  unfolding pieceOf refusalBy
   over-piece v r k = rw (lt-leb v 9223372036854775807 k, lt-leb v 2147483647 (omega arith)) (go (letterL r))
     where
-      go : (b : Bool) → piece.Refused 6 start ≡ pieceOf (length s) (cond b (Found.stuck 6 (from s start)) (Found.stuck 6 (from s start)))
+      go : (b : Bool) → refusedFor refusal.LargeNumber start ≡ pieceOf (length s) (cond b (Found.stuck 6 (from s start)) (Found.stuck 6 (from s start)))
       go true = rw (place-from s start h)
       go false = rw (place-from s start h)
 
   -- no digit that follows brings a value back below the limit
   pub over-read : (p : ℕ → Bool) (base : ℕ) → 1 ≤ base → (v : ℕ) (t : Text) → 9223372036854775807 < v
-      → piece.Refused 6 start ≡ pieceOf (length s) (numberOf (from s start) (readDigits p base v t))
+      → refusedFor refusal.LargeNumber start ≡ pieceOf (length s) (numberOf (from s start) (readDigits p base v t))
   over-read p base some v t k =
       let l = no-less base v (digitsOf p t) some in
       over-piece (valueAfter base v (digitsOf p t)) (afterRun (headIs p) t) (omega arith)

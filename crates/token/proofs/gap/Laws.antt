@@ -20,10 +20,10 @@ use Rattle.token.specs.paper.Tests.{begins, endsLine, endOfLine, opensLine, open
 use Rattle.token.specs.computed.Answer.{close}
 use Rattle.token.specs.code.Cursor.{cursorAt}
 use Rattle.token.specs.code.Gap.{closedOf, opensAt, fourOpen, nestAt, fourMore, fourPassed, openings}
-use Rattle.token.specs.declared.gap.Closed.TheVariants as closed
 use Rattle.token.specs.declared.gap.Nest.{Nest}
 use Rattle.token.proofs.cursor.Bytes.{two-bytes, one-byte, inside}
 use Rattle.token.proofs.cursor.Laws.{run-past, all-past}
+use Rattle.std.specs.Prelude.{Some, None}
 open text-laws use {at-char, at-ascii, at-end, place-from, run-stays}
 
 -- ---- two ASCII characters at a place
@@ -213,11 +213,11 @@ close-last s i d h = go (ltb i (length s)) refl
     go false e = ap (close d 0) (at-end s i (ltb-false i (length s) e))
 
 -- where the text that is left begins
-pub closed-at : (s : List ℕ) (i : ℕ) → i ≤ length s → closedOf (length s) (some (from s i)) ≡ closed.At (cursorAt i)
+pub closed-at : (s : List ℕ) (i : ℕ) → i ≤ length s → closedOf (length s) (some (from s i)) ≡ Some (cursorAt i)
 unfolding closedOf
-closed-at s i h = ap (λ j. closed.At (cursorAt j)) (place-from s i h)
+closed-at s i h = ap (λ j. Some (cursorAt j)) (place-from s i h)
 
-pub closed-none : (n : ℕ) → closedOf n none ≡ closed.Open
+pub closed-none : (n : ℕ) → closedOf n none ≡ None
 unfolding closedOf
 closed-none n = refl
 

@@ -15,12 +15,13 @@ use Rattle.token.specs.paper.Tests.{begins, endOfLine, opensLine, opensBlock}
 use Rattle.token.specs.computed.Flags.{GapKind}
 use Rattle.token.specs.computed.Answer.{Found, scan, close, blockOr}
 use Rattle.token.specs.code.Gap.{closedOf, lineEndAfter, placeOr, blockEnd}
-use Rattle.token.specs.declared.gap.Closed.{Closed}
-use Rattle.token.specs.declared.gap.Closed.TheVariants as closed
 use Rattle.token.proofs.cursor.Bytes.{inside}
 use Rattle.token.proofs.gap.Laws.{Pair, pair-at, line-opens, block-opens, lf-bytes, crlf-bytes}
 use Rattle.token.proofs.lexer.Seeks.{gap-strict, left-at}
 use Rattle.token.proofs.lexer.Laws.{later-place, lf-scan, crlf-scan, line-scan, block-scan}
+use Rattle.std.specs.Prelude.{Some, None}
+use Rattle.std.specs.Prelude as code
+use Rattle.token.specs.declared.cursor.Cursor.{Cursor}
 open text-laws use {at-char, place-from}
 
 -- a gap piece stands at the place i, and the place j is right behind it
@@ -75,9 +76,9 @@ module _ (s : List ℕ) (i : ℕ) where
       rw (place-from s j l) at (gap-to GapKind.lineComment (from s j) (omega (arith, p.within)) (line-scan s i j o q))
 
   -- where the code says that a block comment ends
-  abbrev pub endOr : Closed → ℕ
-  endOr (closed.At e) = e.at
-  endOr closed.Open = i
+  abbrev pub endOr : code.Option Cursor → ℕ
+  endOr (Some e) = e.at
+  endOr None = i
 
   pub end_closed : blockEnd s i ≡ endOr (closedOf (length s) (close 0 0 (drop 2 (from s i))))
   unfolding closedOf blockEnd

@@ -23,17 +23,17 @@ use Rattle.token.specs.paper.Tests.{isAny, begins, quote, opSign, freeSign, open
 use Rattle.token.specs.paper.Kinds.{wordOf, runOf}
 use Rattle.token.specs.computed.Answer.{Found, afterIdent, orPrefixed, prefixedOf, closeString, codesTo, wordOr, scanIdent, runOr, scanOperator, backtickOr, scanBacktick}
 use Rattle.token.specs.code.Cursor.{cursorAt}
-use Rattle.token.specs.code.Piece.{pieceOf}
+use Rattle.token.specs.code.Piece.{pieceOf, tokenTo}
 use Rattle.token.specs.declared.cursor.Cursor.{Cursor}
 use Rattle.token.specs.declared.kinds.Kw.{Kw}
 use Rattle.token.specs.declared.kinds.TokenKind.{TokenKind}
 use Rattle.token.specs.declared.kinds.TokenKind.TheVariants as tk
-use Rattle.token.specs.declared.piece.Piece.TheVariants as piece
 use Rattle.token.proofs.cursor.Bytes.{any-byte, inside, one-byte}
 use Rattle.token.proofs.theorems.Runs.{after-next, after-stop, run-after, run-suffix}
 use Rattle.token.proofs.cursor.Laws.{all-past}
 use Rattle.token.proofs.gap.Laws.{opens-line, opens-block}
 use Rattle.token.proofs.theorems.Idents.{ident-finds, start-rest, rest-suffix}
+use Rattle.token.specs.code.Refusal.{refusedBy}
 open text-laws use {run-stays, run-done, run-place, suffix-trans, drop-suffix, at-char, at-ascii, at-end, next-on, place-from}
 
 -- ---- places
@@ -297,10 +297,10 @@ pub not-prefixed : (n : ℕ) (k : TokenKind) (s r : Text) → quote r ≡ false 
 unfolding orPrefixed
 not-prefixed n k s r e = rw e
 
-pub token-at : (s : List ℕ) (k : TokenKind) (c : Cursor) (r : Text) → c.at ≤ length s → from s c.at ≡ r → piece.Token k c ≡ pieceOf (length s) (Found.token k r)
+pub token-at : (s : List ℕ) (k : TokenKind) (c : Cursor) (r : Text) → c.at ≤ length s → from s c.at ≡ r → tokenTo k c ≡ pieceOf (length s) (Found.token k r)
 unfolding pieceOf
-token-at s k c r h e = ap (λ i. piece.Token k (cursorAt i)) (sym (place-from s c.at h) ∙ ap (place (length s)) e)
+token-at s k c r h e = ap (λ i. tokenTo k (cursorAt i)) (sym (place-from s c.at h) ∙ ap (place (length s)) e)
 
-pub refused-at : (s : List ℕ) (j i : ℕ) → i ≤ length s → piece.Refused j i ≡ pieceOf (length s) (Found.stuck j (from s i))
+pub refused-at : (s : List ℕ) (j i : ℕ) → i ≤ length s → refusedBy j i ≡ pieceOf (length s) (Found.stuck j (from s i))
 unfolding pieceOf
-refused-at s j i h = ap (piece.Refused j) (sym (place-from s i h))
+refused-at s j i h = ap (refusedBy j) (sym (place-from s i h))

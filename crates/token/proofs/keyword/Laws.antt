@@ -22,11 +22,11 @@ use Rattle.token.specs.computed.Answer.{codesTo}
 use Rattle.token.specs.code.Keyword.{standsAt, keywordAt, keywordOf, numberOr, keywordAmong, keywordBy}
 use Rattle.token.specs.declared.kinds.Kw.{Kw}
 use Rattle.token.specs.declared.kinds.Kw.TheVariants as kw
-use Rattle.token.specs.declared.kinds.Keyword.{Keyword}
-use Rattle.token.specs.declared.kinds.Keyword.TheVariants as key
 use Rattle.token.proofs.Base.{zero-one}
 use Rattle.token.proofs.cursor.Bytes.{plain}
 use Rattle.token.proofs.theorems.Runs as runs
+use Rattle.std.specs.Prelude.{Some, None}
+use Rattle.std.specs.Prelude as code
 open text-laws use {suffix-refl, suffix-same, at-char, place-from, ascii-code, ascii-next, wide-code}
 
 -- ---- codes between two places
@@ -324,7 +324,7 @@ pub ruleset keywords = (word-at, two_word, four_word, five_word, six_word, eight
 -- ---- keywords by their numbers
 
 -- a keyword by the number of its kind is the keyword
-pub by-number : (k : Kw) → keywordBy (kwNumber k) ≡ key.Is k
+pub by-number : (k : Kw) → keywordBy (kwNumber k) ≡ Some k
 unfolding keywordBy keywordAmong
 by-number kw.Case = refl
 by-number kw.Else = refl
@@ -342,30 +342,30 @@ by-number kw.Hash = refl
 by-number kw.At = refl
 
 -- the numbers of an identifier and of an operator are no keyword's
-pub by-ident : keywordBy 1 ≡ key.Not
+pub by-ident : keywordBy 1 ≡ None
 unfolding keywordBy keywordAmong
 by-ident = refl
 
-pub by-op : keywordBy 2 ≡ key.Not
+pub by-op : keywordBy 2 ≡ None
 unfolding keywordBy keywordAmong
 by-op = refl
 
 -- a keyword or none, by its number and back
-by-told : (n : ℕ) → keywordBy n ≡ key.Not → (o : Option Kw) → keywordBy (numberOr n o) ≡ keywordOf o
+by-told : (n : ℕ) → keywordBy n ≡ None → (o : Option Kw) → keywordBy (numberOr n o) ≡ keywordOf o
 unfolding numberOr keywordOf
 by-told n e none = e
 by-told n e (some k) = by-number k
 
 -- what `keyword_of` gives, where its number is that of a keyword or else n
-pub told-by : (n : ℕ) → keywordBy n ≡ key.Not → (o : Option Kw) (v : ℕ) (u : Keyword) → v ≡ numberOr n o → u ≡ keywordBy v → u ≡ keywordOf o
+pub told-by : (n : ℕ) → keywordBy n ≡ None → (o : Option Kw) (v : ℕ) (u : code.Option Kw) → v ≡ numberOr n o → u ≡ keywordBy v → u ≡ keywordOf o
 told-by n e o v u p q = q ∙ ap keywordBy p ∙ by-told n e o
 
-pub key-is : (o : Option Kw) (k : Kw) → key.Is k ≡ keywordOf o → o ≡ some k
+pub key-is : (o : Option Kw) (k : Kw) → Some k ≡ keywordOf o → o ≡ some k
 unfolding keywordOf
 key-is none k e = zero-one (cc)
 key-is (some j) k e = cc
 
-pub key-not : (o : Option Kw) → key.Not ≡ keywordOf o → o ≡ none
+pub key-not : (o : Option Kw) → None ≡ keywordOf o → o ≡ none
 unfolding keywordOf
 key-not none e = refl
 key-not (some j) e = zero-one (cc)

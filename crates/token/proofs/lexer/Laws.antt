@@ -18,34 +18,30 @@ use Rattle.chars.specs.promises.Codes.{every}
 use Rattle.chars.specs.promises.Texts.{AsciiClass}
 use Rattle.chars.proofs.theorems.Promises.{code_laws, text-laws}
 use Rattle.token.specs.paper.Tests.{isAny, begins, digit, isDigit, quote, apostrophe, opSign, opensLine, opensBlock, opensComment, isHexDigit, hexAhead, letterL, notBacktick, freeSign, backslash, plainChar, endOfLine}
-use Rattle.token.specs.code.Lexer.{wordless, seek, nextOf, passedOf}
+use Rattle.token.specs.code.Lexer.{wordless, seek, nextOf, passedOf, NextAnswer, nextToken, nextLine, passedTo, Sought}
 use Rattle.token.specs.computed.Flags.{GapKind, push, cutOf}
 use Rattle.token.specs.computed.Answer.{Found, Start, startOf, signOf, scan, scanAs, scanReturn, scanLine, scanBlock, blockOr, close, Numeral, numeral, readDigits, numberOf, scanNumber, Closing, closed, wrong, closeString, prefixedOf, plainOf, orPrefixed, afterIdent, codesTo, wordOr, scanIdent, runOr, scanOperator, backtickOr, scanBacktick, scanString, Esc, unbroken, broken, afterSlash, escapedOf, scanCharSym}
 use Rattle.token.specs.code.Cursor.{cursorAt}
-use Rattle.token.specs.code.Piece.{pieceOf}
+use Rattle.token.specs.code.Piece.{pieceOf, PieceAnswer, tokenTo}
 use Rattle.token.specs.code.Gap.{closedOf}
 use Rattle.token.specs.declared.gap.Gap.{Gap}
-use Rattle.token.specs.declared.gap.Closed.{Closed}
-use Rattle.token.specs.declared.gap.Closed.TheVariants as shut
 use Rattle.token.specs.declared.kinds.TokenKind.{TokenKind}
-use Rattle.token.specs.declared.piece.Piece.{Piece}
-use Rattle.token.specs.declared.piece.Piece.TheVariants as piece
-use Rattle.token.specs.declared.lexer.Next.{Next}
-use Rattle.token.specs.declared.lexer.Next.TheVariants as next
-use Rattle.token.specs.declared.lexer.Passed.{Passed}
-use Rattle.token.specs.declared.lexer.Passed.TheVariants as passed
 use mathlib.Core.Logic.{◌⊎◌, inl, inr}
 use mathlib.Core.Option.{Option, none, some}
 use Rattle.token.specs.paper.Kinds.{wordOf, runOf}
 use Rattle.token.specs.declared.kinds.Kw.{Kw}
 use Rattle.token.specs.declared.kinds.TokenKind.TheVariants as tk
 use Rattle.token.specs.declared.cursor.Cursor.{Cursor}
-use Rattle.token.proofs.Base.{zero-one}
+use Rattle.token.proofs.Base.{zero-one, some-parts, ok-parts}
 use Rattle.token.proofs.gap.Laws.{Pair, pair-at, opens-line, crlf-bytes}
 use Rattle.token.proofs.theorems.Dispatch.{Fact, start-fact, clear, clear-head, scan-by, digit-one, quote-any, starts-lf, starts-cr, starts-sign, starts-number, starts-word, starts-operator, starts-backtick, starts-string, starts-tick, starts-line, starts-block}
 use Rattle.token.proofs.cursor.Bytes.{any-byte}
 use Rattle.token.proofs.lexer.Seeks.{gap-strict, seek-line, seek-block, seek-end, seek-token, seek-stuck, left-at}
 use Rattle.token.proofs.theorems.Shorter.{Strict}
+use Rattle.token.specs.code.Refusal.{refusedFor, refusalBy}
+use Rattle.std.specs.Prelude.{Some, None, Ok, Err}
+use Rattle.token.specs.declared.refusal.Refusal.TheVariants as refusal
+use Rattle.std.specs.Prelude as code
 open code_laws use {carry, no-member}
 open text-laws use {head-byte, at-char, at-end, at-ascii, place-from, next-on}
 
@@ -73,7 +69,7 @@ module _ (s : List ℕ) (i : ℕ) (h : i < length s) where
 
   -- a single sign
   pub sign-at : (x : ℕ) (k : TokenKind) → get_or s i 0 ≡ x → x < 0x80 → oneOf "()[]{},;." x ≡ true → signOf (record { code = x; at = i } ∷ from s (i + 1)) ≡ k
-      → piece.Token k (cursorAt (i + 1)) ≡ pieceOf n (scan n t)
+      → tokenTo k (cursorAt (i + 1)) ≡ pieceOf n (scan n t)
   unfolding pieceOf
   sign-at x k e l o q =
       let a : from s i ≡ record { code = x; at = i } ∷ from s (i + 1) =
@@ -82,7 +78,7 @@ module _ (s : List ℕ) (i : ℕ) (h : i < length s) where
       let z = clear-head (oneOf "()[]{},;.") refl t b in
       let f : scan n t ≡ Found.token k (from s (i + 1)) =
       scan-by n t Start.sign (starts-sign t z b) ∙ ap (λ u. Found.token (signOf u) (drop 1 u)) a ∙ ap (λ y. Found.token y (from s (i + 1))) q in
-      sym (ap (pieceOf n) f ∙ ap (λ j. piece.Token k (cursorAt j)) (place-from s (i + 1) (omega arith)))
+      sym (ap (pieceOf n) f ∙ ap (λ j. tokenTo k (cursorAt j)) (place-from s (i + 1) (omega arith)))
 
   -- another kind of start
   pub number_at : isDigit (get_or s i 0) ≡ true → scan n t ≡ scanAs n Start.number t
@@ -358,24 +354,25 @@ module _ (s : List ℕ) (i : ℕ) (g : Gap) (h : i < length s) where
   m = length s
 
   -- a token: from its piece to the step
-  pub next-token : (k : TokenKind) (e : Cursor) (cut : Bool) → cut ≡ cutOf g → piece.Token k e ≡ pieceOf m (scan m (from s i)) → next.Token k i e cut ≡ nextOf m (seek m 0 g (from s i))
+  pub next-token : (k : TokenKind) (e : Cursor) (cut : Bool) → cut ≡ cutOf g → tokenTo k e ≡ pieceOf m (scan m (from s i)) → nextToken k i e cut ≡ nextOf m (seek m 0 g (from s i))
   unfolding pieceOf nextOf
-  next-token k e cut y q = ap (next.Token k i e) y ∙ go (scan m (from s i)) refl q
+  next-token k e cut y q = ap (nextToken k i e) y ∙ go (scan m (from s i)) refl q
     where
-      go : (f : Found) → scan m (from s i) ≡ f → piece.Token k e ≡ pieceOf m f → next.Token k i e (cutOf g) ≡ nextOf m (seek m 0 g (from s i))
+      go : (f : Found) → scan m (from s i) ≡ f → tokenTo k e ≡ pieceOf m f → nextToken k i e (cutOf g) ≡ nextOf m (seek m 0 g (from s i))
       go (Found.token x r) p q =
           let t = at-char s i h in
-          let a : x ≡ k = cc in
-          let b : cursorAt (place m r) ≡ e = cc in
+          let o = ok-parts q in
+          let a = sym o.0 in
+          let b = sym o.1 in
           let w = seek-token m g _ _ r x (ap (scan m) (sym t) ∙ p) in
-          sym (ap (λ u. nextOf m (seek m 0 g u)) t ∙ ap (nextOf m) w ∙ ap (λ z. next.Token z i (cursorAt (place m r)) (cutOf g)) a ∙ ap (λ z. next.Token k i z (cutOf g)) b)
+          sym (ap (λ u. nextOf m (seek m 0 g u)) t ∙ ap (nextOf m) w ∙ ap (λ z. nextToken z i (cursorAt (place m r)) (cutOf g)) a ∙ ap (λ z. nextToken k i z (cutOf g)) b)
       go (Found.stuck j r) p q = zero-one (cc)
       go (Found.gap j r) p q = zero-one (cc)
 
   -- a token or a refusal
-  abbrev pub nextBy : Piece → Next
-  nextBy (piece.Token k e) = next.Token k i e (cutOf g)
-  nextBy (piece.Refused j a) = next.Refused j a
+  abbrev pub nextBy : PieceAnswer → NextAnswer
+  nextBy (Ok t) = nextToken t.0 i t.1 (cutOf g)
+  nextBy (Err e) = Err e
 
   pub next_piece : opensComment (from s i) ≡ false → isAny " \t\n\r" (from s i) ≡ false → nextOf m (seek m 0 g (from s i)) ≡ nextBy (pieceOf m (scan m (from s i)))
   unfolding pieceOf nextOf
@@ -389,40 +386,40 @@ module _ (s : List ℕ) (i : ℕ) (g : Gap) (h : i < length s) where
           absurd (no-gap m _ _ x r (sym (ap opensComment t) ∙ z) (sym (ap (isAny " \t\n\r") t) ∙ w) (ap (scan m) (sym t) ∙ p))
 
   -- a line end of one byte, and what a CR is
-  pub next-lf : get_or s i 0 ≡ 0x0A → nextOf m (seek m 0 g (from s i)) ≡ next.LineEnd i (cursorAt (i + 1)) g.comment (push GapKind.lineEnd g)
+  pub next-lf : get_or s i 0 ≡ 0x0A → nextOf m (seek m 0 g (from s i)) ≡ nextLine i (cursorAt (i + 1)) g.comment (push GapKind.lineEnd g)
   unfolding nextOf
   next-lf e =
       let t = at-char s i h in
       let w = seek-end m g _ _ (from s (i + 1)) (ap (scan m) (sym t) ∙ lf-scan s i h e) in
-      ap (λ u. nextOf m (seek m 0 g u)) t ∙ ap (nextOf m) w ∙ ap (λ j. next.LineEnd i (cursorAt j) g.comment (push GapKind.lineEnd g)) (place-from s (i + 1) (omega arith))
+      ap (λ u. nextOf m (seek m 0 g u)) t ∙ ap (nextOf m) w ∙ ap (λ j. nextLine i (cursorAt j) g.comment (push GapKind.lineEnd g)) (place-from s (i + 1) (omega arith))
 
   pub next_return : isAny "\r" (from s i) ≡ true
       → nextOf m (seek m 0 g (from s i))
-      ≡ cond (eqb (get_or s i 0) 0x0D && eqb (get_or s (i + 1) 0) 0x0A) (next.LineEnd i (cursorAt (i + 2)) g.comment (push GapKind.lineEnd g)) (next.Refused 1 i)
-  unfolding nextOf scanReturn
+      ≡ cond (eqb (get_or s i 0) 0x0D && eqb (get_or s (i + 1) 0) 0x0A) (nextLine i (cursorAt (i + 2)) g.comment (push GapKind.lineEnd g)) (refusedFor refusal.LoneCr i)
+  unfolding nextOf scanReturn refusalBy
   next_return b = go (eqb (get_or s i 0) 0x0D && eqb (get_or s (i + 1) 0) 0x0A) refl
     where
       go : (x : Bool) → eqb (get_or s i 0) 0x0D && eqb (get_or s (i + 1) 0) 0x0A ≡ x
-          → nextOf m (seek m 0 g (from s i)) ≡ cond x (next.LineEnd i (cursorAt (i + 2)) g.comment (push GapKind.lineEnd g)) (next.Refused 1 i)
+          → nextOf m (seek m 0 g (from s i)) ≡ cond x (nextLine i (cursorAt (i + 2)) g.comment (push GapKind.lineEnd g)) (refusedFor refusal.LoneCr i)
       go true e =
           let p = pair-at s i 0x0D 0x0A (omega arith) (omega arith) (omega arith) (omega arith) e in
           let w = seek-end m g _ _ (from s (i + 2)) (ap (scan m) (sym p.text) ∙ crlf-scan s i p) in
-          ap (λ u. nextOf m (seek m 0 g u)) p.text ∙ ap (nextOf m) w ∙ ap (λ j. next.LineEnd i (cursorAt j) g.comment (push GapKind.lineEnd g)) (place-from s (i + 2) p.within)
+          ap (λ u. nextOf m (seek m 0 g u)) p.text ∙ ap (nextOf m) w ∙ ap (λ j. nextLine i (cursorAt j) g.comment (push GapKind.lineEnd g)) (place-from s (i + 2) p.within)
       go false e =
           let t = at-char s i h in
           let f : scan m (from s i) ≡ Found.stuck 1 (from s i) = return-scan s i b ∙ rw (crlf-bytes s i ∙ e) in
           let w = seek-stuck m g _ _ (from s i) 1 (ap (scan m) (sym t) ∙ f) in
-          ap (λ u. nextOf m (seek m 0 g u)) t ∙ ap (nextOf m) w ∙ ap (next.Refused 1) (place-from s i (omega arith))
+          ap (λ u. nextOf m (seek m 0 g u)) t ∙ ap (nextOf m) w ∙ ap (refusedFor refusal.LoneCr) (place-from s i (omega arith))
 
   -- ---- comments
 
-  pub pass-line : opensLine (from s i) ≡ true → passedOf m g (scan m (from s i)) ≡ passed.To (cursorAt (place m (afterRun (λ u. not (endOfLine u)) (drop 2 (from s i))))) (push GapKind.lineComment g)
+  pub pass-line : opensLine (from s i) ≡ true → passedOf m g (scan m (from s i)) ≡ passedTo (cursorAt (place m (afterRun (λ u. not (endOfLine u)) (drop 2 (from s i))))) (push GapKind.lineComment g)
   unfolding scanLine
   pass-line o = ap (passedOf m g) (scan-by m (from s i) Start.line (starts-line (from s i) o))
 
-  abbrev pub passedBy : Closed → Passed
-  passedBy (shut.At e) = passed.To e (push GapKind.blockComment g)
-  passedBy shut.Open = passed.Open
+  abbrev pub passedBy : code.Option Cursor → code.Option (Cursor × Gap)
+  passedBy (Some e) = passedTo e (push GapKind.blockComment g)
+  passedBy None = None
 
   pub pass-block : opensBlock (from s i) ≡ true → passedOf m g (scan m (from s i)) ≡ passedBy (closedOf m (close 0 0 (drop 2 (from s i))))
   unfolding closedOf
@@ -433,35 +430,36 @@ module _ (s : List ℕ) (i : ℕ) (g : Gap) (h : i < length s) where
       go (some r) = refl
 
   -- past a comment the search goes on from its end
-  pub pass-on : (e : Cursor) (f : Gap) → opensComment (from s i) ≡ true → passed.To e f ≡ passedOf m g (scan m (from s i))
+  pub pass-on : (e : Cursor) (f : Gap) → opensComment (from s i) ≡ true → passedTo e f ≡ passedOf m g (scan m (from s i))
       → (i < e.at) × (e.at ≤ length s) × (seek m 0 f (from s e.at) ≡ seek m 0 g (from s i))
   pass-on e f o q = go (scan m (from s i)) refl q
     where
-      go : (x : Found) → scan m (from s i) ≡ x → passed.To e f ≡ passedOf m g x → (i < e.at) × (e.at ≤ length s) × (seek m 0 f (from s e.at) ≡ seek m 0 g (from s i))
+      go : (x : Found) → scan m (from s i) ≡ x → passedTo e f ≡ passedOf m g x → (i < e.at) × (e.at ≤ length s) × (seek m 0 f (from s e.at) ≡ seek m 0 g (from s i))
       go (Found.token k r) p q = zero-one (cc)
       go (Found.stuck j r) p q = zero-one (cc)
       go (Found.gap k r) p q =
           let t = at-char s i h in
-          let a : cursorAt (place m r) ≡ e = cc in
-          let b : push k g ≡ f = cc in
+          let v = some-parts q in
+          let a = sym v.0 in
+          let b = sym v.1 in
           let d : place m r ≡ e.at = ap (λ (c : Cursor). c.at) a in
           let y = gap-strict m _ _ k r (ap (scan m) (sym t) ∙ p) in
           let u : from s e.at ≡ r = ap (from s) (sym d) ∙ left-at s i r (rw t y.0) in
           let w = later-place s i r h (rw t y) in
           (omega arith, omega arith, ap (seek m 0 f) u ∙ sym (ap (seek m 0 g) t ∙ comment-on m g _ _ r k (comment-kind m (from s i) k r o p) (ap (scan m) (sym t) ∙ p) ∙ ap (λ z. seek m 0 z r) b))
 
-  pub pass-none : opensComment (from s i) ≡ true → passed.Open ≡ passedOf m g (scan m (from s i)) → nextOf m (seek m 0 g (from s i)) ≡ next.Refused 2 i
-  unfolding nextOf
+  pub pass-none : opensComment (from s i) ≡ true → None ≡ passedOf m g (scan m (from s i)) → nextOf m (seek m 0 g (from s i)) ≡ refusedFor refusal.OpenComment i
+  unfolding nextOf refusalBy
   pass-none o q = go (scan m (from s i)) refl q
     where
-      go : (x : Found) → scan m (from s i) ≡ x → passed.Open ≡ passedOf m g x → nextOf m (seek m 0 g (from s i)) ≡ next.Refused 2 i
+      go : (x : Found) → scan m (from s i) ≡ x → None ≡ passedOf m g x → nextOf m (seek m 0 g (from s i)) ≡ refusedFor refusal.OpenComment i
       go (Found.gap k r) p q = zero-one (cc)
       go (Found.token k r) p q = absurd (comment-token m (from s i) k r o p)
       go (Found.stuck j r) p q =
           let t = at-char s i h in
           let y = comment-stuck m (from s i) j r o p in
           let w = seek-stuck m g _ _ r j (ap (scan m) (sym t) ∙ p) in
-          ap (λ u. nextOf m (seek m 0 g u)) t ∙ ap (nextOf m) w ∙ ap (λ z. next.Refused z (place m r)) y.0 ∙ ap (λ u. next.Refused 2 (place m u)) y.1 ∙ ap (next.Refused 2) (place-from s i (omega arith))
+          ap (λ u. nextOf m (seek m 0 g u)) t ∙ ap (nextOf m) w ∙ ap (λ z. nextOf m (Sought.stuck z r)) y.0 ∙ ap (λ u. refusedFor refusal.OpenComment (place m u)) y.1 ∙ ap (refusedFor refusal.OpenComment) (place-from s i (omega arith))
 
 pub place-of : (s : List ℕ) (i : ℕ) → i ≤ length s → place (length s) (from s i) ≡ i
 place-of = place-from

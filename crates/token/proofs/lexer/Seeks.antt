@@ -13,8 +13,7 @@ use Rattle.chars.proofs.theorems.Promises.{text-laws}
 use Rattle.token.specs.paper.Tests.{isAny}
 use Rattle.token.specs.computed.Flags.{GapKind, push, cutOf}
 use Rattle.token.specs.computed.Answer.{Found, Start, scan}
-use Rattle.token.specs.code.Lexer.{Sought, seek, nextOf}
-use Rattle.token.specs.declared.lexer.Next.TheVariants as next
+use Rattle.token.specs.code.Lexer.{Sought, seek, nextOf, nextEnd}
 use Rattle.token.specs.declared.gap.Gap.{Gap}
 use Rattle.token.specs.declared.kinds.TokenKind.{TokenKind}
 use Rattle.token.proofs.Base.{zero-one}
@@ -122,7 +121,7 @@ pub left-at : (script : List ℕ) (i : ℕ) (r : Text) → Suffix r (from script
 left-at script i r h = text-place script r (text-suffix script r (from script i) h (i, refl))
 
 -- nothing is left
-pub seek-none : (s : List ℕ) (i : ℕ) (g : Gap) → length s ≤ i → nextOf (length s) (seek (length s) 0 g (from s i)) ≡ next.End (cutOf g)
+pub seek-none : (s : List ℕ) (i : ℕ) (g : Gap) → length s ≤ i → nextOf (length s) (seek (length s) 0 g (from s i)) ≡ nextEnd (cutOf g)
 unfolding nextOf seek
 seek-none s i g h = ap (λ u. nextOf (length s) (seek (length s) 0 g u)) (at-end s i h)
 

@@ -8,30 +8,31 @@ use Rattle.chars.specs.code.Classes.{cyrillicAt}
 use Rattle.chars.proofs.theorems.Promises.{code_laws, text-laws, class-laws}
 use Rattle.token.specs.paper.Tests.{isAny, begins, quote, isDigit, opensComment}
 use Rattle.token.specs.computed.Answer.{Found, Start, scan, signOf, scanIdent, scanOperator, scanBacktick, scanString, scanCharSym, scanNumber}
-use Rattle.token.specs.code.Cursor.{cursorAt, peekedOf, peekAt}
+use Rattle.token.specs.code.Cursor.{cursorAt, peekedOf, peekAt, peekedTo}
 use Rattle.token.specs.code.Lexer.{wordless}
-use Rattle.token.specs.code.Piece.{pieceOf}
-use Rattle.token.specs.declared.cursor.Peeked.{Peeked}
-use Rattle.token.specs.declared.cursor.Peeked.TheVariants as peeked
+use Rattle.token.specs.code.Piece.{pieceOf, tokenTo}
 use Rattle.token.specs.declared.kinds.TokenKind.{TokenKind}
 use Rattle.token.specs.declared.kinds.TokenKind.TheVariants as tk
-use Rattle.token.specs.declared.piece.Piece.TheVariants as piece
 use Rattle.token.proofs.cursor.Bytes.{any-byte, one-byte}
 use Rattle.token.proofs.theorems.Dispatch.{clear, clear-head, scan-by, starts-sign, starts-word, starts-operator}
 use Rattle.token.proofs.lexer.Laws.{other-at, ascii-start, number_at, backtick-at, string-at, charsym-at}
+use Rattle.token.specs.code.Refusal.{refusalBy, refusedFor}
+use Rattle.std.specs.Prelude.{None, Option, Some}
+use Rattle.token.specs.declared.cursor.Cursor.{Cursor}
+use Rattle.token.specs.declared.refusal.Refusal.TheVariants as refusal
 open code_laws use {carry, no-member, between-in}
 open text-laws use {at-char, at-ascii, place-from, next-on}
 open class-laws use {russian}
 
 -- ---- pieces by their places
 
-pub token-piece : (s : List ℕ) (i : ℕ) (k : TokenKind) → i ≤ length s → pieceOf (length s) (Found.token k (from s i)) ≡ piece.Token k (cursorAt i)
+pub token-piece : (s : List ℕ) (i : ℕ) (k : TokenKind) → i ≤ length s → pieceOf (length s) (Found.token k (from s i)) ≡ tokenTo k (cursorAt i)
 unfolding pieceOf
-token-piece s i k h = ap (λ j. piece.Token k (cursorAt j)) (place-from s i h)
+token-piece s i k h = ap (λ j. tokenTo k (cursorAt j)) (place-from s i h)
 
-pub stuck-piece : (s : List ℕ) (i j : ℕ) → i ≤ length s → pieceOf (length s) (Found.stuck j (from s i)) ≡ piece.Refused j i
-unfolding pieceOf
-stuck-piece s i j h = ap (piece.Refused j) (place-from s i h)
+pub stuck-piece : (s : List ℕ) (i : ℕ) → i ≤ length s → pieceOf (length s) (Found.stuck 3 (from s i)) ≡ refusedFor refusal.NoPiece i
+unfolding pieceOf refusalBy
+stuck-piece s i h = ap (refusedFor refusal.NoPiece) (place-from s i h)
 
 -- ---- words and operators, by the character
 
@@ -46,9 +47,9 @@ by-code n c r z w = go (isOpSign c.code) refl (isIdStart c.code) refl
     go false e true f = scan-by n (c ∷ r) Start.word (starts-word (c ∷ r) (clear (c ∷ r) z) f)
     go false e false f = other-at n (c ∷ r) z w f e
 
-abbrev pub scanPeek : ℕ → Text → Peeked → Found
-scanPeek n t peeked.End = scan n t
-scanPeek n t (peeked.Char code c) = cond (isOpSign code) (scanOperator t) (cond (isIdStart code) (scanIdent n t) (Found.stuck 3 t))
+abbrev pub scanPeek : ℕ → Text → Option (ℕ × Cursor) → Found
+scanPeek n t None = scan n t
+scanPeek n t (Some p) = cond (isOpSign p.0) (scanOperator t) (cond (isIdStart p.0) (scanIdent n t) (Found.stuck 3 t))
 
 pub scan-peek : (s : List ℕ) (i : ℕ) → opensComment (from s i) ≡ false → isAny wordless (from s i) ≡ false
     → scan (length s) (from s i) ≡ scanPeek (length s) (from s i) (peekAt s i)
@@ -60,13 +61,13 @@ scan-peek s i = go (from s i)
     go (c ∷ r) z w = by-code (length s) c r z w
 
 -- where a character stands, it is peeked at, and starts an identifier by its code
-pub peek-stands : (s : List ℕ) (i : ℕ) → i < length s → peekAt s i ≡ peeked.Char (codeAt s i) (cursorAt (charEnd s i))
+pub peek-stands : (s : List ℕ) (i : ℕ) → i < length s → peekAt s i ≡ peekedTo (codeAt s i) (cursorAt (charEnd s i))
 unfolding peekAt
-peek-stands s i h = ap (peekedOf (length s)) (at-char s i h) ∙ ap (λ j. peeked.Char (codeAt s i) (cursorAt j)) (place-from s (charEnd s i) (next-on s i h).1)
+peek-stands s i h = ap (peekedOf (length s)) (at-char s i h) ∙ ap (λ j. peekedTo (codeAt s i) (cursorAt j)) (place-from s (charEnd s i) (next-on s i h).1)
 
-abbrev pub startPeek : Peeked → Bool
-startPeek peeked.End = false
-startPeek (peeked.Char code c) = isIdStart code
+abbrev pub startPeek : Option (ℕ × Cursor) → Bool
+startPeek None = false
+startPeek (Some p) = isIdStart p.0
 
 pub start-peek : (s : List ℕ) (i : ℕ) → headIs isIdStart (from s i) ≡ startPeek (peekAt s i)
 unfolding peekAt

@@ -15,17 +15,19 @@ use Rattle.token.specs.computed.Flags.{GapKind, fresh, push}
 use Rattle.token.specs.computed.Answer.{Found, scan}
 use Rattle.token.specs.code.Records.{Trail, trail, eofAt}
 use Rattle.token.specs.code.Cursor.{cursorAt}
-use Rattle.token.specs.code.Lexer.{Sought, seek, nextOf}
+use Rattle.token.specs.code.Lexer.{Sought, seek, nextOf, nextToken, nextLine, nextEnd, NextAnswer}
 use Rattle.token.specs.declared.gap.Gap.{Gap}
 use Rattle.token.specs.declared.cursor.Cursor.{Cursor}
 use Rattle.token.specs.declared.kinds.TokenKind.{TokenKind}
 use Rattle.token.specs.declared.kinds.TokenKind.TheVariants as tk
-use Rattle.token.specs.declared.lexer.Next.TheVariants as next
 use Rattle.token.proofs.Base.{zero-one}
 use Rattle.token.proofs.theorems.Shorter.{Strict}
 use Rattle.token.proofs.lexer.Seeks.{gap-strict, token-strict, seek-blank, seek-line, seek-block, seek-end, seek-token, seek-stuck, left-at}
 use Rattle.token.proofs.lexer.Laws.{later-place}
 use Rattle.token.proofs.lexer.Trails.{trail-gap, trail-token, trail-stuck, trail-end}
+use Rattle.token.specs.code.Refusal.{refusedBy}
+use Rattle.token.specs.declared.refusal.Refused.{Refused}
+use Rattle.std.specs.Prelude.{Err}
 open text-laws use {suffix-refl, suffix-trans, at-end}
 
 -- ---- on texts
@@ -99,12 +101,12 @@ module _ (s : List ℕ) (i : ℕ) (g : Gap) where
   found : Meets n g (from s i) (seek n 0 g (from s i))
   found = meets n (length (from s i)) (from s i) g (omega arith)
 
-  pub turn-token : (k : TokenKind) (a : ℕ) (e : Cursor) (cut : Bool) → next.Token k a e cut ≡ nextOf n (seek n 0 g (from s i))
+  pub turn-token : (k : TokenKind) (a : ℕ) (e : Cursor) (cut : Bool) → nextToken k a e cut ≡ nextOf n (seek n 0 g (from s i))
       → Turn s i g (record { kind = k; start = a; end = e.at; cut = cut }) e.at fresh
   unfolding nextOf
   turn-token k a e cut q = go (seek n 0 g (from s i)) found q
     where
-      go : (x : Sought) → Meets n g (from s i) x → next.Token k a e cut ≡ nextOf n x → Turn s i g (record { kind = k; start = a; end = e.at; cut = cut }) e.at fresh
+      go : (x : Sought) → Meets n g (from s i) x → nextToken k a e cut ≡ nextOf n x → Turn s i g (record { kind = k; start = a; end = e.at; cut = cut }) e.at fresh
       go (Sought.token y p r d) (Meets.token f h w) q =
           let b1 : y ≡ k = cc in
           let b2 : place n p ≡ a = cc in
@@ -126,12 +128,12 @@ module _ (s : List ℕ) (i : ℕ) (g : Gap) where
       go (Sought.ends d) w q = zero-one (cc)
       go (Sought.stuck j p) w q = zero-one (cc)
 
-  pub turn-line : (a : ℕ) (e : Cursor) (mark : Bool) (h : Gap) → next.LineEnd a e mark h ≡ nextOf n (seek n 0 g (from s i))
+  pub turn-line : (a : ℕ) (e : Cursor) (mark : Bool) (h : Gap) → nextLine a e mark h ≡ nextOf n (seek n 0 g (from s i))
       → Turn s i g (record { kind = tk.Newline mark; start = a; end = e.at; cut = false }) e.at h
   unfolding nextOf
   turn-line a e mark h q = go (seek n 0 g (from s i)) found q
     where
-      go : (x : Sought) → Meets n g (from s i) x → next.LineEnd a e mark h ≡ nextOf n x → Turn s i g (record { kind = tk.Newline mark; start = a; end = e.at; cut = false }) e.at h
+      go : (x : Sought) → Meets n g (from s i) x → nextLine a e mark h ≡ nextOf n x → Turn s i g (record { kind = tk.Newline mark; start = a; end = e.at; cut = false }) e.at h
       go (Sought.lineEnd p r m v) (Meets.lineEnd f y w) q =
           let b2 : place n p ≡ a = cc in
           let b3 : cursorAt (place n r) ≡ e = cc in
@@ -153,22 +155,25 @@ module _ (s : List ℕ) (i : ℕ) (g : Gap) where
       go (Sought.ends d) w q = zero-one (cc)
       go (Sought.stuck j p) w q = zero-one (cc)
 
-  pub turn-end : (cut : Bool) → next.End cut ≡ nextOf n (seek n 0 g (from s i)) → trail n 0 g (from s i) ≡ Trail.ends (eofAt n cut)
+  pub turn-end : (cut : Bool) → nextEnd cut ≡ nextOf n (seek n 0 g (from s i)) → trail n 0 g (from s i) ≡ Trail.ends (eofAt n cut)
   unfolding nextOf
   turn-end cut q = go (seek n 0 g (from s i)) found q
     where
-      go : (x : Sought) → Meets n g (from s i) x → next.End cut ≡ nextOf n x → trail n 0 g (from s i) ≡ Trail.ends (eofAt n cut)
+      go : (x : Sought) → Meets n g (from s i) x → nextEnd cut ≡ nextOf n x → trail n 0 g (from s i) ≡ Trail.ends (eofAt n cut)
       go (Sought.ends d) (Meets.ends w) q = let b : d ≡ cut = cc in w ∙ ap (λ z. Trail.ends (eofAt n z)) b
       go (Sought.token y p r d) w q = zero-one (cc)
       go (Sought.lineEnd p r m h) w q = zero-one (cc)
       go (Sought.stuck j p) w q = zero-one (cc)
 
-  pub turn-stop : (j a : ℕ) → next.Refused j a ≡ nextOf n (seek n 0 g (from s i)) → trail n 0 g (from s i) ≡ Trail.stops j a
+  -- a refusal: by what number and where, and that the answer is that
+  pub turn-stop : (e : Refused) → Err e ≡ nextOf n (seek n 0 g (from s i))
+      → (j : ℕ) × (a : ℕ) × (trail n 0 g (from s i) ≡ Trail.stops j a) × (◌≡◌ {A = NextAnswer} (refusedBy j a) (Err e))
   unfolding nextOf
-  turn-stop j a q = go (seek n 0 g (from s i)) found q
+  turn-stop e q = go (seek n 0 g (from s i)) found q
     where
-      go : (x : Sought) → Meets n g (from s i) x → next.Refused j a ≡ nextOf n x → trail n 0 g (from s i) ≡ Trail.stops j a
-      go (Sought.stuck y p) (Meets.stuck w) q = let b : y ≡ j = cc in let d : place n p ≡ a = cc in w ∙ ap (λ z. Trail.stops z (place n p)) b ∙ ap (Trail.stops j) d
+      go : (x : Sought) → Meets n g (from s i) x → Err e ≡ nextOf n x
+          → (j : ℕ) × (a : ℕ) × (trail n 0 g (from s i) ≡ Trail.stops j a) × (◌≡◌ {A = NextAnswer} (refusedBy j a) (Err e))
+      go (Sought.stuck y p) (Meets.stuck w) q = (y, place n p, w, sym q)
       go (Sought.token y p r d) w q = zero-one (cc)
       go (Sought.lineEnd p r m h) w q = zero-one (cc)
       go (Sought.ends d) w q = zero-one (cc)

@@ -20,12 +20,11 @@ use Rattle.token.specs.computed.Answer.{Found, Numeral, numeral, readDigits, num
 use Rattle.token.specs.code.Ascii.{signNumber}
 use Rattle.token.specs.code.ByteClass.{classOf, classAt, digitClass, inWord}
 use Rattle.token.specs.code.Cursor.{cursorAt}
-use Rattle.token.specs.code.Piece.{pieceOf}
+use Rattle.token.specs.code.Piece.{pieceOf, tokenTo}
 use Rattle.token.specs.code.Digits.{digitIn, digitOf, intOr}
 use Rattle.token.specs.code.Literal.{lesser, numberLit, literalEnd, goesOn, endingBy, literalIn, fullEnd, literalOf}
 use Rattle.token.specs.declared.kinds.TokenKind.{TokenKind}
 use Rattle.token.specs.declared.kinds.TokenKind.TheVariants as tk
-use Rattle.token.specs.declared.piece.Piece.TheVariants as piece
 use Rattle.token.specs.declared.literal.NumberLit.{NumberLit}
 use Rattle.token.proofs.byte_class.Laws.{class-digit}
 use Rattle.token.proofs.cursor.Bytes.{any-byte, ascii-list}
@@ -289,7 +288,7 @@ module _ (s : List ℕ) (at : ℕ) where
 
 -- it ends past its start and within the script, and is this token
 abbrev pub Stands : List ℕ → ℕ → Found → NumberLit → TokenKind → Type 0
-Stands s at f r k = (at < r.end) × (r.end ≤ length s) × (piece.Token k (cursorAt r.end) ≡ pieceOf (length s) f)
+Stands s at f r k = (at < r.end) × (r.end ≤ length s) × (tokenTo k (cursorAt r.end) ≡ pieceOf (length s) f)
 
 module _ (s : List ℕ) (at v e stop : ℕ) (a : at < e) (b : e ≤ length s) (r : NumberLit) (q : r ≡ endingBy (length s) stop (numeral v (from s e))) where
   abbrev number : Found
@@ -303,7 +302,7 @@ module _ (s : List ℕ) (at v e stop : ℕ) (a : at < e) (b : e ≤ length s) (r
   int-is k l o =
       let w : r.value ≡ v = ap (λ (x : NumberLit). x.value) k in
       let m = le-leb v 2147483647 (omega arith) in
-      let i : piece.Token (tk.IntLit v) (cursorAt e) ≡ intOr at v (cursorAt e) = sym (rw m) in
+      let i : tokenTo (tk.IntLit v) (cursorAt e) ≡ intOr at v (cursorAt e) = sym (rw m) in
       rw k (a, b, i ∙ int-piece s at e v (omega arith) b o)
 
   long-is : r ≡ numberLit (e + 1) v true → r.value ≤ 9223372036854775807 → oneOf "Ll" (get_or s e 0) ≡ true → Stands s at number r (tk.LongLit r.value)
@@ -406,11 +405,11 @@ module _ (b : ℕ) (e : inWord (classOf b) ≡ false) where
       go false q = refl
 
 pub digit-alone : (s : List ℕ) (at : ℕ) → at < length s → isDigit (get_or s at 0) ≡ true → inWord (classAt s (at + 1)) ≡ false
-    → piece.Token (tk.IntLit (digitValue (get_or s at 0))) (cursorAt (at + 1)) ≡ pieceOf (length s) (scan (length s) (from s at))
+    → tokenTo (tk.IntLit (digitValue (get_or s at 0))) (cursorAt (at + 1)) ≡ pieceOf (length s) (scan (length s) (from s at))
 unfolding digitIn intOr
 digit-alone s at h d w = go (digitValue (get_or s at 0)) refl
   where
-    go : (v : ℕ) → v ≡ digitValue (get_or s at 0) → piece.Token (tk.IntLit v) (cursorAt (at + 1)) ≡ pieceOf (length s) (scan (length s) (from s at))
+    go : (v : ℕ) → v ≡ digitValue (get_or s at 0) → tokenTo (tk.IntLit v) (cursorAt (at + 1)) ≡ pieceOf (length s) (scan (length s) (from s at))
     go v e =
         let p = digitIn 10 in
         let n = no-letter (get_or s (at + 1) 0) w in
@@ -420,6 +419,6 @@ digit-alone s at h d w = go (digitValue (get_or s at 0)) refl
         let q : numeral v (from s (at + 1)) ≡ readDigits p 10 0 (from s at) =
         read-stop p (digits-ascii 10) s (at + 1) 10 v (digitless (get_or s (at + 1) 0) w) ∙ ap (λ x. readDigits p 10 x (from s (at + 1))) z
         ∙ read-next p (digits-ascii 10) s at 10 0 d in
-        let i : piece.Token (tk.IntLit v) (cursorAt (at + 1)) ≡ intOr at v (cursorAt (at + 1)) = sym (rw m) in
+        let i : tokenTo (tk.IntLit v) (cursorAt (at + 1)) ≡ intOr at v (cursorAt (at + 1)) = sym (rw m) in
         i ∙ int-piece s at (at + 1) v (omega arith) (omega arith) n.1
         ∙ ap (pieceOf (length s)) (ap (numberOf (from s at)) q ∙ dec-number s at (no-hex s at n.0) ∙ sym (number_at s at h d))

@@ -24,12 +24,10 @@ use Rattle.token.specs.computed.Answer.{Found, signOf, scan, afterIdent, codesTo
 use Rattle.token.specs.code.Cursor.{cursorAt}
 use Rattle.token.specs.code.Ascii.{AsciiToken, signNumber}
 use Rattle.token.specs.code.Keyword.{numberOr}
-use Rattle.token.specs.code.Piece.{pieceOf, pieceNumber}
+use Rattle.token.specs.code.Piece.{pieceOf, pieceNumber, PieceAnswer, tokenTo}
 use Rattle.token.specs.declared.kinds.Kw.{Kw}
 use Rattle.token.specs.declared.kinds.TokenKind.{TokenKind}
 use Rattle.token.specs.declared.kinds.TokenKind.TheVariants as tk
-use Rattle.token.specs.declared.piece.Piece.{Piece}
-use Rattle.token.specs.declared.piece.Piece.TheVariants as piece
 use Rattle.token.proofs.cursor.Bytes.{two-bytes}
 use Rattle.token.proofs.ident.Laws.{left-to, run-left, ident-left, scan-word, scan-run, run-alone, not-prefixed, token-at}
 use Rattle.token.proofs.lexer.Laws.{sign-at, word-at, operator-at, ascii-head, ascii-start}
@@ -106,7 +104,7 @@ module _ (s : List ℕ) (i e : ℕ) (h : i < length s) where
   abbrev n : ℕ
   n = length s
 
-  abbrev here : Piece
+  abbrev here : PieceAnswer
   here = pieceOf n (scan n (from s i))
 
   -- a word
@@ -121,7 +119,7 @@ module _ (s : List ℕ) (i e : ℕ) (h : i < length s) where
     pub word-scan : (o : Option Kw) → wordOf (codesTo (from s i) (from s e)) ≡ o → scan n (from s i) ≡ wordOr n (from s i) (from s e) o
     word-scan o q = word-at s i h (no-comment s i (start-no-slash _ a)) (ascii-start s i h a).0 ∙ scan-word n (from s i) (from s e) o word-rest q
 
-    pub word-found : quote (from s e) ≡ false → (o : Option Kw) → wordOf (codesTo (from s i) (from s e)) ≡ o → piece.Token (wordKind o) (cursorAt e) ≡ here
+    pub word-found : quote (from s e) ≡ false → (o : Option Kw) → wordOf (codesTo (from s i) (from s e)) ≡ o → tokenTo (wordKind o) (cursorAt e) ≡ here
     word-found z o q =
         token-at s (wordKind o) (cursorAt e) (from s e) l refl
         ∙ ap (pieceOf n) (sym (word-scan o q ∙ by o))
@@ -136,7 +134,7 @@ module _ (s : List ℕ) (i e : ℕ) (h : i < length s) where
     run-to = left-to s i e _ (omega arith) l r (run-left freeSign (from s i))
 
     pub run-found : opensComment (from s i) ≡ false → opensComment (from s e) ≡ false → (o : Option Kw) → runOf (codesTo (from s i) (from s e)) ≡ o
-        → piece.Token (runKind o) (cursorAt e) ≡ here
+        → tokenTo (runKind o) (cursorAt e) ≡ here
     run-found y z o q =
         let k = and-both (ltb (get_or s i 0) 0x80) (isOpSign (get_or s i 0)) a in
         let v = ascii-head s i h isOpSign (ltb-true (get_or s i 0) 0x80 k.0) ∙ k.1 in
@@ -152,7 +150,7 @@ module _ (s : List ℕ) (i e : ℕ) (h : i < length s) where
     abbrev signText : Text
     signText = record { code = get_or s i 0; at = i } ∷ from s (i + 1)
 
-    pub sign-found : piece.Token (signOf signText) (cursorAt (i + 1)) ≡ here
+    pub sign-found : tokenTo (signOf signText) (cursorAt (i + 1)) ≡ here
     sign-found = sign-at s i h (get_or s i 0) (signOf signText) refl (sign-low (get_or s i 0) a).1 a refl
 
     pub sign-number : signNumber (get_or s i 0) ≡ pieceNumber here
@@ -164,10 +162,10 @@ module _ (s : List ℕ) (i e : ℕ) (h : i < length s) where
   pub record Told : Type 0 where
     pub kind : TokenKind
     pub bare : values kind ≡ []
-    pub found : piece.Token kind (cursorAt e) ≡ here
+    pub found : tokenTo kind (cursorAt e) ≡ here
 
   pub told : AsciiToken s i e → Told
-  told (AsciiToken.sign a q) = record { kind = _; bare = sign-bare _; found = ap (λ j. piece.Token (signOf (signText a)) (cursorAt j)) q ∙ sign-found a }
+  told (AsciiToken.sign a q) = record { kind = _; bare = sign-bare _; found = ap (λ j. tokenTo (signOf (signText a)) (cursorAt j)) q ∙ sign-found a }
   told (AsciiToken.signs a l r y z) = record { kind = _; bare = run-bare (runOf (codesTo (from s i) (from s e))); found = run-found a l r y z _ refl }
 
 -- ---- records

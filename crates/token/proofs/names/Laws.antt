@@ -19,13 +19,12 @@ use Rattle.token.specs.paper.Tests.{begins, quote, opSign, freeSign, opensBlock,
 use Rattle.token.specs.paper.Kinds.{runOf}
 use Rattle.token.specs.computed.Answer.{Found, afterIdent, scan, codesTo, runOr}
 use Rattle.token.specs.code.Cursor.{cursorAt}
-use Rattle.token.specs.code.Piece.{pieceOf}
+use Rattle.token.specs.code.Piece.{pieceOf, tokenTo}
 use Rattle.token.specs.code.Ascii.{AsciiToken}
 use Rattle.token.specs.code.ByteClass.{classOf, classAt, quoteClass, wideClass, slashClass, upToBlank, startsWord, inWord, asksMore, isSign, inRun}
 use Rattle.token.specs.code.Names.{bytesTo, runTo, lowBefore, nameTo, freeAt, operatorTo}
 use Rattle.token.specs.declared.kinds.Kw.{Kw}
 use Rattle.token.specs.declared.kinds.TokenKind.TheVariants as tk
-use Rattle.token.specs.declared.piece.Piece.TheVariants as piece
 use Rattle.token.proofs.cursor.Bytes.{any-byte, two-bytes}
 use Rattle.token.proofs.ident.Laws.{head-low, quote-byte, rest-id, rest-none, pass-under, scan-run, run-before, token-at}
 use Rattle.token.proofs.lexer.Laws.{ascii-head, operator-at}
@@ -309,7 +308,7 @@ module _ (s : List ℕ) (i : ℕ) (h : i < length s) where
       operator-token w z = let r = operator-rest w in AsciiToken.signs a r.1 r.2 y (operator-comment ∙ z)
 
       -- directly before a comment it is no keyword
-      pub operator-cut : eqb (classAt s e) wideClass ≡ false → eqb (classAt s e) slashClass ≡ true → piece.Token tk.OpId (cursorAt e) ≡ pieceOf n (scan n (from s i))
+      pub operator-cut : eqb (classAt s e) wideClass ≡ false → eqb (classAt s e) slashClass ≡ true → tokenTo tk.OpId (cursorAt e) ≡ pieceOf n (scan n (from s i))
       operator-cut w z =
           let r = operator-rest w in
           token-at s tk.OpId (cursorAt e) (from s e) r.1 refl

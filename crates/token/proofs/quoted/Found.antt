@@ -18,14 +18,12 @@ use Rattle.chars.proofs.theorems.Promises.{text-laws}
 use Rattle.token.specs.paper.Tests.{isAny, quote, threeQuotes, backslash, dollarBrace, notBacktick}
 use Rattle.token.specs.computed.Answer.{Closing, closed, wrong, closeTriple, closeString, plainContent, scanBacktick, orPrefixed, scan}
 use Rattle.token.specs.code.Cursor.{cursorAt}
-use Rattle.token.specs.code.Piece.{pieceOf}
-use Rattle.token.specs.code.String.{endedOf, closeSingle}
+use Rattle.token.specs.code.Piece.{pieceOf, tokenTo}
+use Rattle.token.specs.code.String.{endedOf, closeSingle, endAt}
 use Rattle.token.specs.code.Quoted.{closedTo, stringOf, tickedTo, backtickEnd}
 use Rattle.token.specs.declared.quoted.Quoted.{Quoted}
 use Rattle.token.specs.declared.kinds.TokenKind.{TokenKind}
 use Rattle.token.specs.declared.kinds.TokenKind.TheVariants as tk
-use Rattle.token.specs.declared.piece.Piece.TheVariants as piece
-use Rattle.token.specs.declared.piece.Ended.TheVariants as ended
 use Rattle.token.proofs.Base.{zero-one}
 use Rattle.token.proofs.cursor.Bytes.{inside, any-byte, past}
 use Rattle.token.proofs.cursor.Laws.{all-past}
@@ -349,18 +347,18 @@ content s i e n b c ends last = go (ltb (i + n) (e - n)) refl
     go false f = left-end s i e (i + n) (e - n) left (ltb-false (i + n) (e - n) f)
 
 piece-found : (s : List ℕ) (i e : ℕ) (k : TokenKind) → get_or s i 0 ≡ 0x22 → ClosedAt false s i e → k ≡ plainContent (length s) (from s i) (from s e)
-    → piece.Token k (cursorAt e) ≡ pieceOf (length s) (scan (length s) (from s i))
+    → tokenTo k (cursorAt e) ≡ pieceOf (length s) (scan (length s) (from s i))
 unfolding endedOf
 piece-found s i e k b c z =
     let q = quote-byte s i ∙ eq-eqb (get_or s i 0) 0x22 b in
-    plain-ended (length s) (from s i) (cursorAt e) k (from s e) (sym (ap (endedOf (length s)) c.is ∙ ap (λ j. ended.At (cursorAt j)) (place-from s e c.within))) c.is z
+    plain-ended (length s) (from s i) (cursorAt e) k (from s e) (sym (ap (endedOf (length s)) c.is ∙ ap (λ j. endAt (cursorAt j)) (place-from s e c.within))) c.is z
     ∙ ap (pieceOf (length s)) (sym (string-at s i (inside s i (omega arith)) q))
 
 -- the scanner finds the plain string that is recognised at a place
 abbrev pub StringFound : List ℕ → ℕ → Quoted → Type 0
 StringFound s i r =
     (i < r.end) × (r.end ≤ length s)
-    × (piece.Token (tk.Str (i + r.quotes) (r.end - r.quotes)) (cursorAt r.end) ≡ pieceOf (length s) (scan (length s) (from s i)))
+    × (tokenTo (tk.Str (i + r.quotes) (r.end - r.quotes)) (cursorAt r.end) ≡ pieceOf (length s) (scan (length s) (from s i)))
 
 pub string-found : (s : List ℕ) (i : ℕ) → get_or s i 0 ≡ 0x22 → (r : Quoted) → r ≡ stringOf false s i → (r.end ≡ i → ⊥) → StringFound s i r
 string-found s i b r z n = go r (recognised false s i b r z n)

@@ -17,11 +17,9 @@ use Rattle.token.specs.paper.Shapes.{tripleChar}
 use Rattle.token.specs.computed.Answer.{Esc, unbroken, broken, exactHexes, digitsUpTo, afterSlash, Closing, closed, wrong, closeTriple}
 use Rattle.token.specs.code.Cursor.{cursorAt}
 use Rattle.token.specs.code.ByteClass as bytes
-use Rattle.token.specs.code.String.{endedOf, escEnd, escapeOf, closeSingle, isOrdinary, dollarOf, singleItem}
+use Rattle.token.specs.code.String.{endedOf, escEnd, escapeOf, closeSingle, isOrdinary, dollarOf, singleItem, EndAnswer, endAt}
 use Rattle.token.specs.code.Quoted.{decimalEnd, unicodeEnd, codedEnd, escapeEnd, backslashEnd, dollarEnd, itemEnd, closedTo}
 use Rattle.token.specs.declared.cursor.Cursor.{Cursor}
-use Rattle.token.specs.declared.piece.Ended.{Ended}
-use Rattle.token.specs.declared.piece.Ended.TheVariants as ended
 use Rattle.token.proofs.Base.{zero-one}
 use Rattle.token.proofs.byte_class.Laws.{class-ordinary}
 use Rattle.token.proofs.cursor.Bytes.{inside, any-byte, ascii-list}
@@ -29,6 +27,8 @@ use Rattle.token.proofs.theorems.Escapes.{u-other}
 use Rattle.token.proofs.theorems.Strings as strings
 use Rattle.token.proofs.string.Escapes.{digit-ascii, hex-ascii, ascii-in, hexes-next, hexes-stop, slash-simple, slash-digits, slash-other}
 use Rattle.token.proofs.string.Laws.{slash-byte, brace-byte, dollar-brace, dollar-alone, other-ordinary, ordinary-byte, Walk, walk-on, walk-run, skips, skip-past, Onward, single-item-newline, single-item-dollar, single-item-lone, single-item-slash, single-item-escape, single-step, no-quote, triples, triple-test}
+use Rattle.std.specs.Prelude.{Ok, Err}
+use Rattle.token.specs.declared.refusal.Refused.{Refused}
 open text-laws use {head-byte, at-ascii, place-from}
 
 -- ---- what the code tells
@@ -285,35 +285,35 @@ module _ {A : Type 0} (f : Text → A) (test : Text → Bool) (w : Walk f test) 
 
 -- the answer by the full reader's
 module _ (s : List ℕ) (at : ℕ) where
-  pub told-closed : (c : Cursor) (w : Closing) → ended.At c ≡ endedOf (length s) w → c.at ≡ closedTo s at w
+  pub told-closed : (c : Cursor) (w : Closing) → endAt c ≡ endedOf (length s) w → c.at ≡ closedTo s at w
   unfolding endedOf closedTo
   told-closed c (closed q) e = let x : c ≡ cursorAt (place (length s) q) = cc in ap (λ (d : Cursor). d.at) x
   told-closed c (wrong j q) e = zero-one (cc)
 
-  pub told-wrong : (j a : ℕ) (w : Closing) → ended.Refused j a ≡ endedOf (length s) w → at ≡ closedTo s at w
+  pub told-wrong : (e : Refused) (w : Closing) → Err e ≡ endedOf (length s) w → at ≡ closedTo s at w
   unfolding endedOf closedTo
-  told-wrong j a (closed q) e = zero-one (cc)
-  told-wrong j a (wrong k q) e = refl
+  told-wrong r (closed q) e = zero-one (cc)
+  told-wrong r (wrong k q) e = refl
 
   wrong-at : (w : Closing) (j : ℕ) (q : Text) → w ≡ wrong j q → at ≡ closedTo s at w
   unfolding closedTo
   wrong-at w j q e = sym (ap (closedTo s at) e)
 
 -- where a step ends; its own place, where it is refused
-abbrev stepEnd : ℕ → Ended → ℕ
-stepEnd i (ended.At c) = c.at
-stepEnd i (ended.Refused j a) = i
+abbrev stepEnd : ℕ → EndAnswer → ℕ
+stepEnd i (Ok c) = c.at
+stepEnd i (Err e) = i
 
 module _ (s : List ℕ) (f : Text → Closing) (i : ℕ) where
-  step-goes : (r : Ended) (e : ℕ) → Onward s f i r → e ≡ stepEnd i r → (e ≡ i → ⊥) → (i < e) × (e ≤ length s) × (f (from s e) ≡ f (from s i))
+  step-goes : (r : EndAnswer) (e : ℕ) → Onward s f i r → e ≡ stepEnd i r → (e ≡ i → ⊥) → (i < e) × (e ≤ length s) × (f (from s e) ≡ f (from s i))
   unfolding Onward
-  step-goes (ended.At c) e o q n = rw q o
-  step-goes (ended.Refused j a) e o q n = absurd (n q)
+  step-goes (Ok c) e o q n = rw q o
+  step-goes (Err w) e o q n = absurd (n q)
 
-  step-stops : (r : Ended) (at : ℕ) → Onward s f i r → stepEnd i r ≡ i → at ≡ closedTo s at (f (from s i))
+  step-stops : (r : EndAnswer) (at : ℕ) → Onward s f i r → stepEnd i r ≡ i → at ≡ closedTo s at (f (from s i))
   unfolding Onward
-  step-stops (ended.At c) at o q = absurd (let h = o.0 in omega arith)
-  step-stops (ended.Refused j a) at o q = told-wrong s at j a (f (from s i)) o
+  step-stops (Ok c) at o q = absurd (let h = o.0 in omega arith)
+  step-stops (Err e) at o q = told-wrong s at e (f (from s i)) o
 
 escape-step : (s : List ℕ) (i e : ℕ) (x : Esc) → EscapeEnds s i e x → e ≡ stepEnd i (escEnd (length s) (from s (i + 1)) x)
 escape-step s i e (unbroken k) h = sym (ap (place (length s)) (sym h.2) ∙ place-from s e h.1)

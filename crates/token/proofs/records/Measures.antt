@@ -14,11 +14,11 @@ use Rattle.token.specs.computed.Answer.{Answer, tokenized, refused, prepend, ans
 use Rattle.token.specs.paper.Records.{values, headLength, lineLength, recordLength, records, recordBytes}
 use Rattle.token.specs.code.Form.{mostLength}
 use Rattle.words.specs.Words.{le4, le8}
-use Rattle.token.specs.code.Records.{stores, measuredOf, tokensIn, Fits, answerOf, begun, trailFrom, storedFrom}
+use Rattle.token.specs.code.Records.{stores, measuredOf, tokensIn, Fits, answerOf, begun, trailFrom, storedFrom, total}
 use Rattle.token.specs.declared.kinds.TokenKind.{TokenKind}
 use Rattle.token.specs.declared.kinds.TokenKind.TheVariants as tk
-use Rattle.token.specs.declared.records.Measured.TheVariants as measured
 use Rattle.token.proofs.lexer.Trails.{trail-answer, tokens-on, stores-fit}
+use Rattle.token.specs.code.Refusal.{refusedBy}
 
 pub record-most : (k : TokenKind) → recordLength k ≤ mostLength
 unfolding recordLength values le4 le8
@@ -57,16 +57,16 @@ unfolding measuredOf recordBytes
 measured-turn v (tokenized ts) t c b l e q =
     let x : c + 1 + length ts ≡ c + suc (length ts) = omega arith in
     let y : b + l + recordBytes ts ≡ b + (recordLength t.kind + recordBytes ts) = omega arith in
-    ap (λ z. measured.Total z (b + l + recordBytes ts)) x ∙ ap (measured.Total (c + suc (length ts))) y ∙ sym (ap (measuredOf c b) e)
+    ap (λ z. total z (b + l + recordBytes ts)) x ∙ ap (total (c + suc (length ts))) y ∙ sym (ap (measuredOf c b) e)
 measured-turn v (refused j a) t c b l e q = sym (ap (measuredOf c b) e)
 
-pub measured-end : (v : Answer) (t : Token) (c b l : ℕ) → v ≡ tokenized (t ∷ []) → l ≡ recordLength t.kind → measured.Total (c + 1) (b + l) ≡ measuredOf c b v
+pub measured-end : (v : Answer) (t : Token) (c b l : ℕ) → v ≡ tokenized (t ∷ []) → l ≡ recordLength t.kind → total (c + 1) (b + l) ≡ measuredOf c b v
 unfolding measuredOf recordBytes
 measured-end v t c b l e q =
     let y : b + l ≡ b + (recordLength t.kind + 0) = omega arith in
-    ap (measured.Total (c + 1)) y ∙ sym (ap (measuredOf c b) e)
+    ap (total (c + 1)) y ∙ sym (ap (measuredOf c b) e)
 
-pub measured-stop : (v : Answer) (j a c b : ℕ) → v ≡ refused j a → measured.Refused j a ≡ measuredOf c b v
+pub measured-stop : (v : Answer) (j a c b : ℕ) → v ≡ refused j a → refusedBy j a ≡ measuredOf c b v
 unfolding measuredOf
 measured-stop v j a c b e = sym (ap (measuredOf c b) e)
 

@@ -19,11 +19,12 @@ use Rattle.chars.proofs.theorems.Promises.{code_laws, text-laws}
 use Rattle.token.specs.paper.Tests.{isDigit, isHexDigit, isAny, digit}
 use Rattle.token.specs.computed.Answer.{unbroken, broken, exactHexes, digitsUpTo, afterSlash}
 use Rattle.token.specs.code.Cursor.{cursorAt}
-use Rattle.token.specs.code.String.{escEnd, escapeOf, hexesOf}
+use Rattle.token.specs.code.String.{escEnd, escapeOf, hexesOf, endAt}
 use Rattle.token.specs.code.Digits.{digitIn, afterUpTo}
-use Rattle.token.specs.declared.piece.Ended.TheVariants as ended
 use Rattle.token.proofs.cursor.Bytes.{ascii-list, inside, any-byte, past}
 use Rattle.token.proofs.theorems.Escapes.{digit-no-simple, u-other}
+use Rattle.token.specs.code.Refusal.{refusedFor, refusalBy}
+use Rattle.token.specs.declared.refusal.Refusal.TheVariants as refusal
 open code_laws use {no-member, misses, between-out}
 open text-laws use {head-byte, at-ascii, at-end, at-char, place-from}
 
@@ -106,14 +107,14 @@ module _ (s : List ℕ) (e : ℕ) (within : e ≤ length s) where
           inl (omega arith, hexes-stop m k (from s i) f ∙ ap (broken 13) (sym r))
 
   module _ (i : ℕ) (inside : i ≤ length s) (read : from s e ≡ afterUpTo (digitIn 16) 4 (from s i)) where
-    pub hexes-short : e - i < 4 → ended.Refused 13 e ≡ hexesOf (length s) (from s i)
-    unfolding hexesOf digitIn
-    hexes-short l = ⊎_elim (λ h. sym (rw h.1 (ap (ended.Refused 13) (place-from s e within)))) (λ h. absurd (omega (arith, h.0, l))) (hexes-read 4 0 i inside read)
+    pub hexes-short : e - i < 4 → refusedFor refusal.NoHexDigit e ≡ hexesOf (length s) (from s i)
+    unfolding hexesOf digitIn refusalBy
+    hexes-short l = ⊎_elim (λ h. sym (rw h.1 (ap (refusedFor refusal.NoHexDigit) (place-from s e within)))) (λ h. absurd (omega (arith, h.0, l))) (hexes-read 4 0 i inside read)
 
-    pub hexes-full : 4 ≤ e - i → ended.At (cursorAt e) ≡ hexesOf (length s) (from s i)
+    pub hexes-full : 4 ≤ e - i → endAt (cursorAt e) ≡ hexesOf (length s) (from s i)
     unfolding hexesOf digitIn
     hexes-full l =
-        ⊎_elim (λ h. absurd (omega (arith, h.0, l))) (λ h. sym (rw h.1 (ap (λ t. ended.At (cursorAt (place (length s) t))) h.2 ∙ ap (λ j. ended.At (cursorAt j)) (place-from s e within))))
+        ⊎_elim (λ h. absurd (omega (arith, h.0, l))) (λ h. sym (rw h.1 (ap (λ t. endAt (cursorAt (place (length s) t))) h.2 ∙ ap (λ j. endAt (cursorAt j)) (place-from s e within))))
         (hexes-read 4 0 i inside read)
 
 pub ruleset four_hexes = (hexes-short, hexes-full)
@@ -164,32 +165,32 @@ unfolding afterSlash
 slash-other c t x y z = rw (x, y, z)
 
 module _ (s : List ℕ) (i : ℕ) where
-  pub escape-end : i ≤ length s → length s ≤ i → ended.Refused 12 i ≡ escapeOf (length s) (from s i)
-  unfolding escapeOf afterSlash
-  escape-end h k = sym (ap (λ t. escEnd (length s) t (afterSlash t)) (at-end s i k) ∙ ap (ended.Refused 12) (omega arith))
+  pub escape-end : i ≤ length s → length s ≤ i → refusedFor refusal.OpenEscape i ≡ escapeOf (length s) (from s i)
+  unfolding escapeOf afterSlash refusalBy
+  escape-end h k = sym (ap (λ t. escEnd (length s) t (afterSlash t)) (at-end s i k) ∙ ap (refusedFor refusal.OpenEscape) (omega arith))
 
   module _ (h : i < length s) where
-    escape-simple : oneOf "btnfr'\"]" (get_or s i 0) ≡ true → escapeOf (length s) (from s i) ≡ ended.At (cursorAt (i + 1))
+    escape-simple : oneOf "btnfr'\"]" (get_or s i 0) ≡ true → escapeOf (length s) (from s i) ≡ endAt (cursorAt (i + 1))
     unfolding escapeOf
     escape-simple e =
         let b = ascii-in (oneOf "btnfr'\"]") (ascii-list (codes "btnfr'\"]") refl) (get_or s i 0) e in
         rw (slash-simple (from s i) (any-byte "btnfr'\"]" refl s i ∙ e))
-        (ap (λ t. ended.At (cursorAt (place (length s) t))) (past s i h b.1) ∙ ap (λ j. ended.At (cursorAt j)) (place-from s (i + 1) (omega arith)))
+        (ap (λ t. endAt (cursorAt (place (length s) t))) (past s i h b.1) ∙ ap (λ j. endAt (cursorAt j)) (place-from s (i + 1) (omega arith)))
 
-    escape-digits : isDigit (get_or s i 0) ≡ true → escapeOf (length s) (from s i) ≡ ended.At (cursorAt (place (length s) (afterUpTo (digitIn 10) 2 (from s (i + 1)))))
+    escape-digits : isDigit (get_or s i 0) ≡ true → escapeOf (length s) (from s i) ≡ endAt (cursorAt (place (length s) (afterUpTo (digitIn 10) 2 (from s (i + 1)))))
     unfolding escapeOf digitIn
     escape-digits d =
         let p = past s i h (ascii-in isDigit digit-ascii (get_or s i 0) d).1 in
         rw (slash-digits (from s i) (head-byte isDigit digit-ascii s i ∙ d))
-        (ap (λ t. ended.At (cursorAt (place (length s) t))) (upto-digits 2 1 (from s i) (drop 1 (from s i)) refl ∙ ap (afterUpTo isDigit 2) p))
+        (ap (λ t. endAt (cursorAt (place (length s) t))) (upto-digits 2 1 (from s i) (drop 1 (from s i)) refl ∙ ap (afterUpTo isDigit 2) p))
 
     escape-hexes : oneOf "u" (get_or s i 0) ≡ true → escapeOf (length s) (from s i) ≡ hexesOf (length s) (from s (i + 1))
     escape-hexes e =
         let b = ascii-in (oneOf "u") (ascii-list (codes "u") refl) (get_or s i 0) e in
         slash-hexes (length s) (from s i) (any-byte "u" refl s i ∙ e) ∙ ap (hexesOf (length s)) (past s i h b.1)
 
-    escape-other : oneOf "btnfr'\"]" (get_or s i 0) ≡ false → isDigit (get_or s i 0) ≡ false → oneOf "u" (get_or s i 0) ≡ false → escapeOf (length s) (from s i) ≡ ended.Refused 14 i
-    unfolding escapeOf
+    escape-other : oneOf "btnfr'\"]" (get_or s i 0) ≡ false → isDigit (get_or s i 0) ≡ false → oneOf "u" (get_or s i 0) ≡ false → escapeOf (length s) (from s i) ≡ refusedFor refusal.NoEscape i
+    unfolding escapeOf refusalBy
     escape-other x y z =
         let q = at-char s i h in
         let a = sym (ap (isAny "btnfr'\"]") q) ∙ any-byte "btnfr'\"]" refl s i ∙ x in
@@ -201,20 +202,20 @@ module _ (s : List ℕ) (i : ℕ) where
 
     -- by the first byte of its code
     pub escape_by : escapeOf (length s) (from s i) ≡ cond (oneOf "u" (get_or s i 0)) (hexesOf (length s) (from s (i + 1))) (cond (oneOf "btnfr'\"]" (get_or s i 0))
-        (ended.At (cursorAt (i + 1)))
-        (cond (isDigit (get_or s i 0)) (ended.At (cursorAt (place (length s) (afterUpTo (digitIn 10) 2 (from s (i + 1)))))) (ended.Refused 14 i)))
+        (endAt (cursorAt (i + 1)))
+        (cond (isDigit (get_or s i 0)) (endAt (cursorAt (place (length s) (afterUpTo (digitIn 10) 2 (from s (i + 1)))))) (refusedFor refusal.NoEscape i)))
     escape_by = go (oneOf "u" (get_or s i 0)) (oneOf "btnfr'\"]" (get_or s i 0)) (isDigit (get_or s i 0)) refl refl refl
       where
         go : (a b c : Bool) → oneOf "u" (get_or s i 0) ≡ a → oneOf "btnfr'\"]" (get_or s i 0) ≡ b → isDigit (get_or s i 0) ≡ c
             → escapeOf (length s) (from s i) ≡ cond a (hexesOf (length s) (from s (i + 1)))
-            (cond b (ended.At (cursorAt (i + 1))) (cond c (ended.At (cursorAt (place (length s) (afterUpTo (digitIn 10) 2 (from s (i + 1)))))) (ended.Refused 14 i)))
+            (cond b (endAt (cursorAt (i + 1))) (cond c (endAt (cursorAt (place (length s) (afterUpTo (digitIn 10) 2 (from s (i + 1)))))) (refusedFor refusal.NoEscape i)))
         go true b c x y z = escape-hexes x
         go false true c x y z = escape-simple y
         go false false true x y z = escape-digits z
         go false false false x y z = escape-other y z x
 
     -- where the byte is no code of an escape
-    pub escape_none : (OneOf (codes "\"']bfnrt") (get_or s i 0) → ⊥) → (get_or s i 0 ≡ 0x75 → ⊥) → (0x30 ≤ get_or s i 0 → 0x39 < get_or s i 0) → ended.Refused 14 i ≡ escapeOf (length s) (from s i)
+    pub escape_none : (OneOf (codes "\"']bfnrt") (get_or s i 0) → ⊥) → (get_or s i 0 ≡ 0x75 → ⊥) → (0x30 ≤ get_or s i 0 → 0x39 < get_or s i 0) → refusedFor refusal.NoEscape i ≡ escapeOf (length s) (from s i)
     unfolding isDigit
     escape_none n u l =
         let x = get_or s i 0 in

@@ -22,12 +22,9 @@ use Rattle.token.specs.paper.Kinds.{Kind, TokenType, isComment}
 use Rattle.token.specs.paper.Shapes.{singleChar, Single, tripleChar, Stands, HasShape, TokenShape}
 use Rattle.token.specs.computed.Answer.{unbroken, broken, afterSlash, Closing, closed, wrong, closePlain, closeTriple, closeString, plainContent, plainOf, scanString, prefixedOf}
 use Rattle.token.specs.code.Cursor.{cursorAt}
-use Rattle.token.specs.code.Piece.{pieceOf}
-use Rattle.token.specs.code.String.{endedOf, escEnd, escapeOf, closeSingle, isOrdinary, dollarOf, singleItem, tripleItem}
+use Rattle.token.specs.code.Piece.{pieceOf, tokenTo}
+use Rattle.token.specs.code.String.{endedOf, escEnd, escapeOf, closeSingle, isOrdinary, dollarOf, singleItem, tripleItem, EndAnswer, endAt}
 use Rattle.token.specs.declared.cursor.Cursor.{Cursor}
-use Rattle.token.specs.declared.piece.Ended.{Ended}
-use Rattle.token.specs.declared.piece.Ended.TheVariants as ended
-use Rattle.token.specs.declared.piece.Piece.TheVariants as piece
 use Rattle.token.specs.declared.kinds.TokenKind.{TokenKind}
 use Rattle.token.specs.declared.kinds.TokenKind.TheVariants as tk
 use Rattle.token.proofs.Base.{zero-one}
@@ -37,6 +34,10 @@ use Rattle.token.proofs.cursor.Laws.{all-past}
 use Rattle.token.proofs.theorems.Escapes.{slash-finds, Good, Bad}
 use Rattle.token.proofs.theorems.Shorter.{Strict, stands-strict}
 use Rattle.token.proofs.theorems.Strings as strings
+use Rattle.token.specs.code.Refusal.{refusedFor, refusedBy, refusalBy}
+use Rattle.token.specs.declared.refusal.Refusal.TheVariants as refusal
+use Rattle.token.specs.declared.refusal.Refused.{Refused}
+use Rattle.std.specs.Prelude.{Ok, Err}
 open text-laws use {at-ascii, at-end, at-char, place-from, next-on, wide-code}
 
 -- ---- places
@@ -126,19 +127,19 @@ module _ (s : List ℕ) (i : ℕ) (h : i < length s) (e : isAny "$" (from s i) �
       go true q f = eqb-true (get_or s i 0) 0x24 q
       go false q f = clash f
 
-  pub dollar-brace : get_or s (i + 1) 0 ≡ 0x7B → ended.Refused 11 i ≡ dollarOf (length s) (from s i)
+  pub dollar-brace : get_or s (i + 1) 0 ≡ 0x7B → refusedFor refusal.DollarBrace i ≡ dollarOf (length s) (from s i)
   unfolding dollarOf
   dollar-brace b =
       let t : dollarBrace (from s i) ≡ true = brace-byte s i ∙ rw (dollar-is, b) in
-      sym (rw t (ap (ended.Refused 11) (place-from s i (omega arith))))
+      sym (rw t (ap (refusedFor refusal.DollarBrace) (place-from s i (omega arith))))
 
-  pub dollar-alone : (get_or s (i + 1) 0 ≡ 0x7B → ⊥) → ended.At (cursorAt (i + 1)) ≡ dollarOf (length s) (from s i)
+  pub dollar-alone : (get_or s (i + 1) 0 ≡ 0x7B → ⊥) → endAt (cursorAt (i + 1)) ≡ dollarOf (length s) (from s i)
   unfolding dollarOf
   dollar-alone n =
       let t : dollarBrace (from s i) ≡ false = brace-byte s i ∙ rw (dollar-is, ne_eqb (get_or s (i + 1) 0) 0x7B n) in
       let d = dollar-is in
       let p = ap (place (length s)) (past s i h (omega arith)) ∙ place-from s (i + 1) (omega arith) in
-      sym (rw t (ap (λ j. ended.At (cursorAt j)) p))
+      sym (rw t (ap (λ j. endAt (cursorAt j)) p))
 
 pub ruleset dollars = (dollar-brace, dollar-alone)
 
@@ -258,48 +259,48 @@ pub ruleset skip_run = (skip_none, skip_next, skip-end)
 -- ---- one step
 
 -- from the place i to a later place from which the walk finds the same, or to what the walk refuses
-unfoldable pub Onward : List ℕ → (Text → Closing) → ℕ → Ended → Type 0
-Onward s walk i (ended.At c) = (i < c.at) × (c.at ≤ length s) × (walk (from s c.at) ≡ walk (from s i))
-Onward s walk i (ended.Refused j a) = ended.Refused j a ≡ endedOf (length s) (walk (from s i))
+unfoldable pub Onward : List ℕ → (Text → Closing) → ℕ → EndAnswer → Type 0
+Onward s walk i (Ok c) = (i < c.at) × (c.at ≤ length s) × (walk (from s c.at) ≡ walk (from s i))
+Onward s walk i (Err e) = Err e ≡ endedOf (length s) (walk (from s i))
 
 module _ (s : List ℕ) (f : Text → Closing) (i : ℕ) where
-  on-refused : (j : ℕ) → i ≤ length s → f (from s i) ≡ wrong j (from s i) → Onward s f i (ended.Refused j i)
+  on-refused : (j : ℕ) → i ≤ length s → f (from s i) ≡ wrong j (from s i) → Onward s f i (refusedBy j i)
   unfolding Onward endedOf
-  on-refused j h e = sym (ap (endedOf (length s)) e ∙ ap (ended.Refused j) (place-from s i h))
+  on-refused j h e = sym (ap (endedOf (length s)) e ∙ ap (refusedBy j) (place-from s i h))
 
-  on-next : (test : Text → Bool) → Walk f test → i < length s → test (from s i) ≡ true → Onward s f i (ended.At (cursorAt (i + 1)))
+  on-next : (test : Text → Bool) → Walk f test → i < length s → test (from s i) ≡ true → Onward s f i (endAt (cursorAt (i + 1)))
   unfolding Onward
   on-next test w h t = (omega arith, omega arith, walk-on f test w s i h t)
 
   -- a `$` of a prefixed string
   on-dollar : (test : Text → Bool) → Walk f test → i < length s → get_or s i 0 ≡ 0x24
       → (dollarBrace (from s i) ≡ true → f (from s i) ≡ wrong 11 (from s i)) → (dollarBrace (from s i) ≡ false → test (from s i) ≡ true)
-      → (r : Ended) → r ≡ dollarOf (length s) (from s i) → Onward s f i r
-  unfolding dollarOf
+      → (r : EndAnswer) → r ≡ dollarOf (length s) (from s i) → Onward s f i r
+  unfolding dollarOf refusalBy
   on-dollar test w h b refuses passes r q = go (dollarBrace (from s i)) refl
     where
       go : (x : Bool) → dollarBrace (from s i) ≡ x → Onward s f i r
       go true e =
-          let z : r ≡ ended.Refused 11 i = q ∙ rw e (ap (ended.Refused 11) (place-from s i (omega arith))) in
+          let z : r ≡ refusedFor refusal.DollarBrace i = q ∙ rw e (ap (refusedFor refusal.DollarBrace) (place-from s i (omega arith))) in
           rw z (on-refused 11 (omega arith) (refuses e))
       go false e =
           let p = ap (place (length s)) (past s i h (omega arith)) ∙ place-from s (i + 1) (omega arith) in
-          let z : r ≡ ended.At (cursorAt (i + 1)) = q ∙ rw e (ap (λ j. ended.At (cursorAt j)) p) in
+          let z : r ≡ endAt (cursorAt (i + 1)) = q ∙ rw e (ap (λ j. endAt (cursorAt j)) p) in
           rw z (on-next test w h (passes e))
 
   -- what a step's answer says
-  went-on : (r : Ended) (e : Cursor) → Onward s f i r → r ≡ ended.At e → (i < e.at) × (e.at ≤ length s) × (f (from s e.at) ≡ f (from s i))
+  went-on : (r : EndAnswer) (e : Cursor) → Onward s f i r → r ≡ endAt e → (i < e.at) × (e.at ≤ length s) × (f (from s e.at) ≡ f (from s i))
   unfolding Onward
   went-on r e h q = rw q at h
 
-  went-wrong : (r : Ended) (j a : ℕ) → Onward s f i r → r ≡ ended.Refused j a → r ≡ endedOf (length s) (f (from s i))
+  went-wrong : (r : EndAnswer) (e : Refused) → Onward s f i r → r ≡ Err e → r ≡ endedOf (length s) (f (from s i))
   unfolding Onward
-  went-wrong r j a h q = q ∙ (rw q at h)
+  went-wrong r e h q = q ∙ (rw q at h)
 
 -- ---- one step, by the byte there
 
 module _ (p : Bool) (s : List ℕ) (i : ℕ) where
-  pub single-item-newline : get_or s i 0 ≡ 0x0A → ended.Refused 8 i ≡ singleItem p s i
+  pub single-item-newline : get_or s i 0 ≡ 0x0A → refusedFor refusal.LineFeed i ≡ singleItem p s i
   unfolding singleItem
   single-item-newline b = rw b
 
@@ -307,11 +308,11 @@ module _ (p : Bool) (s : List ℕ) (i : ℕ) where
   unfolding singleItem
   single-item-dollar e b = rw (e, b)
 
-  pub single-item-lone : p ≡ false → get_or s i 0 ≡ 0x24 → ended.At (cursorAt (i + 1)) ≡ singleItem p s i
+  pub single-item-lone : p ≡ false → get_or s i 0 ≡ 0x24 → endAt (cursorAt (i + 1)) ≡ singleItem p s i
   unfolding singleItem
   single-item-lone e b = rw (e, b)
 
-  pub single-item-slash : p ≡ true → get_or s i 0 ≡ 0x5C → ended.At (cursorAt (i + 1)) ≡ singleItem p s i
+  pub single-item-slash : p ≡ true → get_or s i 0 ≡ 0x5C → endAt (cursorAt (i + 1)) ≡ singleItem p s i
   unfolding singleItem
   single-item-slash e b = rw (e, b)
 
@@ -319,11 +320,11 @@ module _ (p : Bool) (s : List ℕ) (i : ℕ) where
   unfolding singleItem
   single-item-escape e b = rw (e, b)
 
-  single-item-other : (get_or s i 0 ≡ 0x0A → ⊥) → (get_or s i 0 ≡ 0x24 → ⊥) → (get_or s i 0 ≡ 0x5C → ⊥) → ended.At (cursorAt (i + 1)) ≡ singleItem p s i
+  single-item-other : (get_or s i 0 ≡ 0x0A → ⊥) → (get_or s i 0 ≡ 0x24 → ⊥) → (get_or s i 0 ≡ 0x5C → ⊥) → endAt (cursorAt (i + 1)) ≡ singleItem p s i
   unfolding singleItem
   single-item-other a b d = simp (ne_eqb (get_or s i 0) 0x0A a, ne_eqb (get_or s i 0) 0x24 b, ne_eqb (get_or s i 0) 0x5C d, and-false)
 
-  triple-item-slash : get_or s i 0 ≡ 0x5C → ended.Refused 10 i ≡ tripleItem p s i
+  triple-item-slash : get_or s i 0 ≡ 0x5C → refusedFor refusal.BackslashInTriple i ≡ tripleItem p s i
   unfolding tripleItem
   triple-item-slash b = rw b
 
@@ -331,11 +332,11 @@ module _ (p : Bool) (s : List ℕ) (i : ℕ) where
   unfolding tripleItem
   triple-item-dollar e b = rw (e, b)
 
-  triple-item-lone : p ≡ false → get_or s i 0 ≡ 0x24 → ended.At (cursorAt (i + 1)) ≡ tripleItem p s i
+  triple-item-lone : p ≡ false → get_or s i 0 ≡ 0x24 → endAt (cursorAt (i + 1)) ≡ tripleItem p s i
   unfolding tripleItem
   triple-item-lone e b = rw (e, b)
 
-  triple-item-other : (get_or s i 0 ≡ 0x24 → ⊥) → (get_or s i 0 ≡ 0x5C → ⊥) → ended.At (cursorAt (i + 1)) ≡ tripleItem p s i
+  triple-item-other : (get_or s i 0 ≡ 0x24 → ⊥) → (get_or s i 0 ≡ 0x5C → ⊥) → endAt (cursorAt (i + 1)) ≡ tripleItem p s i
   unfolding tripleItem
   triple-item-other b d = simp (ne_eqb (get_or s i 0) 0x24 b, ne_eqb (get_or s i 0) 0x5C d, and-false)
 
@@ -363,33 +364,34 @@ module _ (s : List ℕ) (i : ℕ) (h : i < length s) (no-quote : quote (from s i
   not-byte : (x : ℕ) → (get_or s i 0 ≡ x → ⊥) → (y : Bool) → eqb (get_or s i 0) x && y ≡ false
   not-byte x n y = rw (ne_eqb (get_or s i 0) x n)
 
-  single-newline : (p : Bool) → get_or s i 0 ≡ 0x0A → Onward s (closeSingle p) i (ended.Refused 8 i)
+  single-newline : (p : Bool) → get_or s i 0 ≡ 0x0A → Onward s (closeSingle p) i (refusedFor refusal.LineFeed i)
+  unfolding refusalBy
   single-newline p b =
       on-refused s (closeSingle p) i 8 (omega arith) (single-same p (from s i) ∙ strings.single-newline p (from s i) (any-byte "\n" refl s i ∙ ap (oneOf "\n") b))
 
-  single-dollar : get_or s i 0 ≡ 0x24 → (r : Ended) → r ≡ dollarOf (length s) (from s i) → Onward s (closeSingle true) i r
+  single-dollar : get_or s i 0 ≡ 0x24 → (r : EndAnswer) → r ≡ dollarOf (length s) (from s i) → Onward s (closeSingle true) i r
   single-dollar b =
       on-dollar s (closeSingle true) i (singleChar true) (singles true) h b
       (λ x. single-same true (from s i) ∙ strings.single-dollar (from s i) x)
       (λ x. single-test true (any-byte "\n" refl s i ∙ ap (oneOf "\n") b) (λ z. x) (λ z. clash (sym z)))
 
-  single-lone : get_or s i 0 ≡ 0x24 → Onward s (closeSingle false) i (ended.At (cursorAt (i + 1)))
+  single-lone : get_or s i 0 ≡ 0x24 → Onward s (closeSingle false) i (endAt (cursorAt (i + 1)))
   single-lone b =
       on-next s (closeSingle false) i (singleChar false) (singles false) h
       (single-test false (any-byte "\n" refl s i ∙ ap (oneOf "\n") b) (λ z. clash z) (λ z. slash-byte s i ∙ ap (λ x. eqb x 0x5C) b))
 
-  single-slash : get_or s i 0 ≡ 0x5C → Onward s (closeSingle true) i (ended.At (cursorAt (i + 1)))
+  single-slash : get_or s i 0 ≡ 0x5C → Onward s (closeSingle true) i (endAt (cursorAt (i + 1)))
   single-slash b =
       on-next s (closeSingle true) i (singleChar true) (singles true) h
       (single-test true (any-byte "\n" refl s i ∙ ap (oneOf "\n") b) (λ z. brace-byte s i ∙ ap (λ x. eqb x 0x24 && eqb (get_or s (i + 1) 0) 0x7B) b) (λ z. clash (sym z)))
 
-  single-other : (p : Bool) → (get_or s i 0 ≡ 0x0A → ⊥) → (get_or s i 0 ≡ 0x24 → ⊥) → (get_or s i 0 ≡ 0x5C → ⊥) → Onward s (closeSingle p) i (ended.At (cursorAt (i + 1)))
+  single-other : (p : Bool) → (get_or s i 0 ≡ 0x0A → ⊥) → (get_or s i 0 ≡ 0x24 → ⊥) → (get_or s i 0 ≡ 0x5C → ⊥) → Onward s (closeSingle p) i (endAt (cursorAt (i + 1)))
   single-other p a b d =
       on-next s (closeSingle p) i (singleChar p) (singles p) h
       (single-test p (any-byte "\n" refl s i ∙ rw (ne_eqb (get_or s i 0) 10 a)) (λ z. brace-byte s i ∙ not-byte 0x24 b _) (λ z. slash-byte s i ∙ ne_eqb (get_or s i 0) 0x5C d))
 
   -- an escape of a plain string
-  single-escape : get_or s i 0 ≡ 0x5C → (r : Ended) → r ≡ escapeOf (length s) (from s (i + 1)) → Onward s (closeSingle false) i r
+  single-escape : get_or s i 0 ≡ 0x5C → (r : EndAnswer) → r ≡ escapeOf (length s) (from s (i + 1)) → Onward s (closeSingle false) i r
   unfolding escapeOf Onward closeSingle endedOf
   single-escape b r q = ⊎_elim valid invalid (slash-finds (from s i) back)
     where
@@ -413,7 +415,7 @@ module _ (s : List ℕ) (i : ℕ) (h : i < length s) (no-quote : quote (from s i
           rw (q ∙ ap (escEnd (length s) (from s (i + 1))) f) (sym (ap (endedOf (length s)) (strings.single-slash (from s i) back g)))
 
   -- a step passes what the walk passes, or refuses what the walk refuses
-  pub single-step : (p : Bool) (r : Ended) → r ≡ singleItem p s i → Onward s (closeSingle p) i r
+  pub single-step : (p : Bool) (r : EndAnswer) → r ≡ singleItem p s i → Onward s (closeSingle p) i r
   single-step p r q = rw q (go p (eqb (get_or s i 0) 0x0A) (eqb (get_or s i 0) 0x24) (eqb (get_or s i 0) 0x5C) refl refl refl)
     where
       go : (p x y z : Bool) → eqb (get_or s i 0) 0x0A ≡ x → eqb (get_or s i 0) 0x24 ≡ y → eqb (get_or s i 0) 0x5C ≡ z → Onward s (closeSingle p) i (singleItem p s i)
@@ -443,25 +445,26 @@ module _ (s : List ℕ) (i : ℕ) (h : i < length s) (no-three : threeQuotes (fr
   triple-test true b d = rw (no-three, b, d refl)
   triple-test false b d = rw (no-three, b)
 
-  triple-slash : (p : Bool) → get_or s i 0 ≡ 0x5C → Onward s (closeTriple p) i (ended.Refused 10 i)
+  triple-slash : (p : Bool) → get_or s i 0 ≡ 0x5C → Onward s (closeTriple p) i (refusedFor refusal.BackslashInTriple i)
+  unfolding refusalBy
   triple-slash p b = on-refused s (closeTriple p) i 10 (omega arith) (strings.triple-slash p (from s i) (slash-byte s i ∙ ap (λ x. eqb x 0x5C) b))
 
-  triple-dollar : get_or s i 0 ≡ 0x24 → (r : Ended) → r ≡ dollarOf (length s) (from s i) → Onward s (closeTriple true) i r
+  triple-dollar : get_or s i 0 ≡ 0x24 → (r : EndAnswer) → r ≡ dollarOf (length s) (from s i) → Onward s (closeTriple true) i r
   triple-dollar b =
       on-dollar s (closeTriple true) i (tripleChar true) (triples true) h b (strings.triple-dollar (from s i))
       (λ x. triple-test true (slash-byte s i ∙ ap (λ z. eqb z 0x5C) b) (λ z. x))
 
-  triple-lone : get_or s i 0 ≡ 0x24 → Onward s (closeTriple false) i (ended.At (cursorAt (i + 1)))
+  triple-lone : get_or s i 0 ≡ 0x24 → Onward s (closeTriple false) i (endAt (cursorAt (i + 1)))
   triple-lone b =
       on-next s (closeTriple false) i (tripleChar false) (triples false) h (triple-test false (slash-byte s i ∙ ap (λ z. eqb z 0x5C) b) (λ z. clash z))
 
-  triple-other : (p : Bool) → (get_or s i 0 ≡ 0x24 → ⊥) → (get_or s i 0 ≡ 0x5C → ⊥) → Onward s (closeTriple p) i (ended.At (cursorAt (i + 1)))
+  triple-other : (p : Bool) → (get_or s i 0 ≡ 0x24 → ⊥) → (get_or s i 0 ≡ 0x5C → ⊥) → Onward s (closeTriple p) i (endAt (cursorAt (i + 1)))
   triple-other p b d =
       on-next s (closeTriple p) i (tripleChar p) (triples p) h
       (triple-test p (slash-byte s i ∙ ne_eqb (get_or s i 0) 0x5C d) (λ z. brace-byte s i ∙ rw (ne_eqb (get_or s i 0) 0x24 b)))
 
   -- a step passes what the walk passes, or refuses what the walk refuses
-  triple-step : (p : Bool) (r : Ended) → r ≡ tripleItem p s i → Onward s (closeTriple p) i r
+  triple-step : (p : Bool) (r : EndAnswer) → r ≡ tripleItem p s i → Onward s (closeTriple p) i r
   triple-step p r q = rw q (go p (eqb (get_or s i 0) 0x24) (eqb (get_or s i 0) 0x5C) refl refl)
     where
       go : (p y z : Bool) → eqb (get_or s i 0) 0x24 ≡ y → eqb (get_or s i 0) 0x5C ≡ z → Onward s (closeTriple p) i (tripleItem p s i)
@@ -493,42 +496,42 @@ module _ (p : Bool) (s : List ℕ) (o e : ℕ) where
 
 -- a step from the place i
 module _ (p : Bool) (s : List ℕ) (i : ℕ) (h : i < length s) where
-  pub single-on : (e : Cursor) → (get_or s i 0 ≡ 0x22 → ⊥) → ended.At e ≡ singleItem p s i → (i < e.at) × (e.at ≤ length s) × (closeSingle p (from s e.at) ≡ closeSingle p (from s i))
+  pub single-on : (e : Cursor) → (get_or s i 0 ≡ 0x22 → ⊥) → endAt e ≡ singleItem p s i → (i < e.at) × (e.at ≤ length s) × (closeSingle p (from s e.at) ≡ closeSingle p (from s i))
   single-on e n q = went-on _ _ _ _ _ (single-step s i h (no-quote s i n) p _ q) refl
 
-  pub single-wrong : (j a : ℕ) → (get_or s i 0 ≡ 0x22 → ⊥) → ended.Refused j a ≡ singleItem p s i → ended.Refused j a ≡ endedOf (length s) (closeSingle p (from s i))
-  single-wrong j a n q = went-wrong _ _ _ _ _ _ (single-step s i h (no-quote s i n) p _ q) refl
+  pub single-wrong : (e : Refused) → (get_or s i 0 ≡ 0x22 → ⊥) → Err e ≡ singleItem p s i → Err e ≡ endedOf (length s) (closeSingle p (from s i))
+  single-wrong e n q = went-wrong _ _ _ _ _ (single-step s i h (no-quote s i n) p _ q) refl
 
-  pub triple-on : (e : Cursor) → false ≡ threeQuotes (from s i) → ended.At e ≡ tripleItem p s i → (i < e.at) × (e.at ≤ length s) × (closeTriple p (from s e.at) ≡ closeTriple p (from s i))
+  pub triple-on : (e : Cursor) → false ≡ threeQuotes (from s i) → endAt e ≡ tripleItem p s i → (i < e.at) × (e.at ≤ length s) × (closeTriple p (from s e.at) ≡ closeTriple p (from s i))
   triple-on e n q = went-on _ _ _ _ _ (triple-step s i h (sym n) p _ q) refl
 
-  pub triple-wrong : (j a : ℕ) → false ≡ threeQuotes (from s i) → ended.Refused j a ≡ tripleItem p s i → ended.Refused j a ≡ endedOf (length s) (closeTriple p (from s i))
-  triple-wrong j a n q = went-wrong _ _ _ _ _ _ (triple-step s i h (sym n) p _ q) refl
+  pub triple-wrong : (e : Refused) → false ≡ threeQuotes (from s i) → Err e ≡ tripleItem p s i → Err e ≡ endedOf (length s) (closeTriple p (from s i))
+  triple-wrong e n q = went-wrong _ _ _ _ _ (triple-step s i h (sym n) p _ q) refl
 
 module _ (p : Bool) (s : List ℕ) (i : ℕ) where
-  pub single-closes : i < length s → get_or s i 0 ≡ 0x22 → ended.At (cursorAt (i + 1)) ≡ endedOf (length s) (closeSingle p (from s i))
+  pub single-closes : i < length s → get_or s i 0 ≡ 0x22 → endAt (cursorAt (i + 1)) ≡ endedOf (length s) (closeSingle p (from s i))
   unfolding endedOf
   single-closes h b =
       let c = single-same p (from s i) ∙ strings.single-close p (from s i) (quote-byte s i ∙ eq-eqb (get_or s i 0) 0x22 b) ∙ ap closed (past s i h (omega arith)) in
-      sym (ap (endedOf (length s)) c ∙ ap (λ j. ended.At (cursorAt j)) (place-from s (i + 1) (omega arith)))
+      sym (ap (endedOf (length s)) c ∙ ap (λ j. endAt (cursorAt j)) (place-from s (i + 1) (omega arith)))
 
-  pub single-open : i ≤ length s → length s ≤ i → ended.Refused 7 i ≡ endedOf (length s) (closeSingle p (from s i))
-  unfolding endedOf
+  pub single-open : i ≤ length s → length s ≤ i → refusedFor refusal.OpenString i ≡ endedOf (length s) (closeSingle p (from s i))
+  unfolding endedOf refusalBy
   single-open h k =
       let c = ap (closeSingle p) (at-end s i k) ∙ single-same p [] ∙ strings.single-empty p in
-      sym (ap (endedOf (length s)) c ∙ ap (ended.Refused 7) (omega arith))
+      sym (ap (endedOf (length s)) c ∙ ap (refusedFor refusal.OpenString) (omega arith))
 
-  pub triple-closes : (e : Cursor) → e.at ≤ length s → from s e.at ≡ afterRun quote (from s i) → threeQuotes (from s i) ≡ true → ended.At e ≡ endedOf (length s) (closeTriple p (from s i))
+  pub triple-closes : (e : Cursor) → e.at ≤ length s → from s e.at ≡ afterRun quote (from s i) → threeQuotes (from s i) ≡ true → endAt e ≡ endedOf (length s) (closeTriple p (from s i))
   unfolding endedOf
   triple-closes e h q t =
       let c = strings.triple-close p (from s i) t ∙ ap closed (sym q) in
-      sym (ap (endedOf (length s)) c ∙ ap (λ j. ended.At (cursorAt j)) (place-from s e.at h))
+      sym (ap (endedOf (length s)) c ∙ ap (λ j. endAt (cursorAt j)) (place-from s e.at h))
 
-  pub triple-open : i ≤ length s → length s ≤ i → ended.Refused 9 i ≡ endedOf (length s) (closeTriple p (from s i))
-  unfolding endedOf
+  pub triple-open : i ≤ length s → length s ≤ i → refusedFor refusal.OpenTriple i ≡ endedOf (length s) (closeTriple p (from s i))
+  unfolding endedOf refusalBy
   triple-open h k =
       let c = ap (closeTriple p) (at-end s i k) ∙ strings.triple-empty p in
-      sym (ap (endedOf (length s)) c ∙ ap (ended.Refused 9) (omega arith))
+      sym (ap (endedOf (length s)) c ∙ ap (refusedFor refusal.OpenTriple) (omega arith))
 
 pub ruleset single_walk = (single-begun, single-wrong, single-closes, single-open)
 
@@ -536,44 +539,44 @@ pub ruleset triple_walk = (three-in, triple-begun, triple-closes, triple-open)
 
 -- ---- the token
 
-no-at : {A : Type 0} (e : Cursor) (j a : ℕ) → ended.Refused j a ≡ ended.At e → A
-no-at e j a q = zero-one (cc)
+no-at : {A : Type 0} (e : Cursor) (w : Refused) → Err w ≡ endAt e → A
+no-at e w q = zero-one (cc)
 
 module _ (n : ℕ) (t : Text) where
-  pub plain-refused : (j a : ℕ) → ended.Refused j a ≡ endedOf n (closeString false t) → piece.Refused j a ≡ pieceOf n (scanString n t)
+  pub plain-refused : (e : Refused) → Err e ≡ endedOf n (closeString false t) → Err e ≡ pieceOf n (scanString n t)
   unfolding endedOf pieceOf scanString
-  plain-refused j a q = go (closeString false t) q
+  plain-refused e q = go (closeString false t) q
     where
-      go : (w : Closing) → ended.Refused j a ≡ endedOf n w → piece.Refused j a ≡ pieceOf n (plainOf n t w)
-      go (closed r) q = no-at _ j a q
+      go : (w : Closing) → Err e ≡ endedOf n w → Err e ≡ pieceOf n (plainOf n t w)
+      go (closed r) q = no-at _ e q
       go (wrong k x) q = cc
 
-  pub plain-ended : (e : Cursor) (k : TokenKind) (r : Text) → ended.At e ≡ endedOf n (closeString false t) → closeString false t ≡ closed r → k ≡ plainContent n t r
-      → piece.Token k e ≡ pieceOf n (scanString n t)
+  pub plain-ended : (e : Cursor) (k : TokenKind) (r : Text) → endAt e ≡ endedOf n (closeString false t) → closeString false t ≡ closed r → k ≡ plainContent n t r
+      → tokenTo k e ≡ pieceOf n (scanString n t)
   unfolding endedOf pieceOf scanString
   plain-ended e k r q c p =
-      let x : e ≡ cursorAt (place n r) = let z : ended.At e ≡ ended.At (cursorAt (place n r)) = q ∙ ap (endedOf n) c in cc in
-      sym (rw (c, p) (ap (piece.Token (plainContent n t r)) (sym x)))
+      let x : e ≡ cursorAt (place n r) = let z : endAt e ≡ endAt (cursorAt (place n r)) = q ∙ ap (endedOf n) c in cc in
+      sym (rw (c, p) (ap (tokenTo (plainContent n t r)) (sym x)))
 
-  pub prefixed-refused : (o : Text) (j a : ℕ) → ended.Refused j a ≡ endedOf n (closeString true o) → piece.Refused j a ≡ pieceOf n (prefixedOf n t (closeString true o))
+  pub prefixed-refused : (o : Text) (e : Refused) → Err e ≡ endedOf n (closeString true o) → Err e ≡ pieceOf n (prefixedOf n t (closeString true o))
   unfolding endedOf pieceOf
-  prefixed-refused o j a q = go (closeString true o) q
+  prefixed-refused o e q = go (closeString true o) q
     where
-      go : (w : Closing) → ended.Refused j a ≡ endedOf n w → piece.Refused j a ≡ pieceOf n (prefixedOf n t w)
-      go (closed r) q = no-at _ j a q
+      go : (w : Closing) → Err e ≡ endedOf n w → Err e ≡ pieceOf n (prefixedOf n t w)
+      go (closed r) q = no-at _ e q
       go (wrong k x) q = cc
 
-  prefixed-ended : (o : Text) (e : Cursor) (i : ℕ) → place n t ≡ i → ended.At e ≡ endedOf n (closeString true o)
-      → piece.Token (tk.Str i e.at) e ≡ pieceOf n (prefixedOf n t (closeString true o))
+  prefixed-ended : (o : Text) (e : Cursor) (i : ℕ) → place n t ≡ i → endAt e ≡ endedOf n (closeString true o)
+      → tokenTo (tk.Str i e.at) e ≡ pieceOf n (prefixedOf n t (closeString true o))
   unfolding endedOf pieceOf
   prefixed-ended o e i p q = go (closeString true o) q
     where
-      go : (w : Closing) → ended.At e ≡ endedOf n w → piece.Token (tk.Str i e.at) e ≡ pieceOf n (prefixedOf n t w)
+      go : (w : Closing) → endAt e ≡ endedOf n w → tokenTo (tk.Str i e.at) e ≡ pieceOf n (prefixedOf n t w)
       go (closed r) q = let x : e ≡ cursorAt (place n r) = cc in rw (x, p)
-      go (wrong k x) q = no-at e k _ (sym q)
+      go (wrong k x) q = no-at e _ (sym q)
 
-pub prefixed-placed : (s : List ℕ) (i : ℕ) (o : Text) (e : Cursor) → i ≤ length s → ended.At e ≡ endedOf (length s) (closeString true o)
-    → piece.Token (tk.Str i e.at) e ≡ pieceOf (length s) (prefixedOf (length s) (from s i) (closeString true o))
+pub prefixed-placed : (s : List ℕ) (i : ℕ) (o : Text) (e : Cursor) → i ≤ length s → endAt e ≡ endedOf (length s) (closeString true o)
+    → tokenTo (tk.Str i e.at) e ≡ pieceOf (length s) (prefixedOf (length s) (from s i) (closeString true o))
 prefixed-placed s i o e h q = prefixed-ended (length s) (from s i) o e i (place-from s i h) q
 
 pub ruleset prefixed_string = (prefixed-refused, prefixed-placed)
@@ -601,16 +604,16 @@ plain-strict t r q c = ⊎_elim ends refused (strings.body-finds false t q)
 pub plain-suffix : (t r : Text) → quote t ≡ true → closeString false t ≡ closed r → Suffix r t
 plain-suffix t r q c = (plain-strict t r q c).0
 
-pub plain-end : (s : List ℕ) (i : ℕ) (e : Cursor) → i ≤ length s → quote (from s i) ≡ true → ended.At e ≡ endedOf (length s) (closeString false (from s i))
+pub plain-end : (s : List ℕ) (i : ℕ) (e : Cursor) → i ≤ length s → quote (from s i) ≡ true → endAt e ≡ endedOf (length s) (closeString false (from s i))
     → (i ≤ e.at) × (e.at ≤ length s) × (quote (from s i) ≡ true) × (closeString false (from s i) ≡ closed (from s e.at))
 unfolding endedOf
 plain-end s i e h q a = go (closeString false (from s i)) refl a
   where
-    go : (w : Closing) → closeString false (from s i) ≡ w → ended.At e ≡ endedOf (length s) w
+    go : (w : Closing) → closeString false (from s i) ≡ w → endAt e ≡ endedOf (length s) w
         → (i ≤ e.at) × (e.at ≤ length s) × (quote (from s i) ≡ true) × (closeString false (from s i) ≡ closed (from s e.at))
     go (closed r) c b =
         let x = plain-suffix (from s i) r q c in
         let k = reached s i r (rw x.rest-is (reach s (length (from s i) - length r) i h)) in
         let y : e ≡ cursorAt (place (length s) r) = cc in
         rw y (k.0, k.1, q, c ∙ ap closed (sym k.2))
-    go (wrong j x) c b = no-at e j _ (sym b)
+    go (wrong j x) c b = no-at e _ (sym b)

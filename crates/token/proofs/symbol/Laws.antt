@@ -17,14 +17,13 @@ use Rattle.chars.proofs.theorems.Promises.{code_laws, class-laws, text-laws}
 use Rattle.token.specs.paper.Tests.{begins, opSign, freeSign, opensComment, plainChar}
 use Rattle.token.specs.computed.Answer.{Esc, unbroken, broken, afterSlash, afterIdent, tickNext, escapedOf, scan, scanCharSym}
 use Rattle.token.specs.code.Cursor.{cursorAt}
-use Rattle.token.specs.code.Piece.{pieceOf}
+use Rattle.token.specs.code.Piece.{pieceOf, tokenTo}
 use Rattle.token.specs.code.Charsym.{escapedChar, symbolOf}
 use Rattle.token.specs.code.ByteClass.{classOf, classAt, wideClass, upToBlank, startsWord, isSign}
 use Rattle.token.specs.code.Names.{nameEnd, operatorFrom}
 use Rattle.token.specs.code.Quoted.{escapeEnd}
 use Rattle.token.specs.code.Symbol.{plainByte, endsChar, escapedCharEnd, operatorSymbolEnd, nameSymbolEnd, semiEnd, charSymBy, charSymEnd}
 use Rattle.token.specs.declared.kinds.TokenKind.TheVariants as tk
-use Rattle.token.specs.declared.piece.Piece.TheVariants as piece
 use Rattle.token.proofs.Classes.{no-sign, no-start, sign-byte}
 use Rattle.token.proofs.byte_class.Laws.{class-start, class-sign, class-wide}
 use Rattle.token.proofs.cursor.Bytes.{inside, past, one-byte}
@@ -83,7 +82,7 @@ no-comment s i e h k r n = go (opensComment (from s i)) refl
 
 -- the token that ends at e is what the scanner finds from the `'` on
 abbrev Ends : List ℕ → ℕ → ℕ → Type 0
-Ends s at e = (at < e) × (e ≤ length s) × (piece.Token tk.CharSym (cursorAt e) ≡ pieceOf (length s) (scanCharSym (from s at)))
+Ends s at e = (at < e) × (e ≤ length s) × (tokenTo tk.CharSym (cursorAt e) ≡ pieceOf (length s) (scanCharSym (from s at)))
 
 abbrev Good : List ℕ → ℕ → ℕ → Type 0
 Good s at e = (e ≡ at → ⊥) → Ends s at e
@@ -125,7 +124,7 @@ module _ (s : List ℕ) (at : ℕ) (h : at < length s) (q : get_or s at 0 ≡ 0x
       ap (λ z. z && eqb (get_or s (at + 2) 0) 0x27) (print-plain byte b f ∙ k.1) ∙ k.0 in
       let t = past-tick s (at + 2) k.0 in
       let z : at + 3 ≡ at + 2 + 1 = omega arith in
-      (omega arith, omega (arith, t.0), ap (λ j. piece.Token tk.CharSym (cursorAt j)) z ∙ char-piece s (at + 1) byte (at + 2) (behind i b) (from s at) text f g)
+      (omega arith, omega (arith, t.0), ap (λ j. tokenTo tk.CharSym (cursorAt j)) z ∙ char-piece s (at + 1) byte (at + 2) (behind i b) (from s at) text f g)
 
   -- an escaped one
   abbrev end : ℕ
@@ -232,8 +231,8 @@ module _ (s : List ℕ) (at : ℕ) (h : at < length s) (q : get_or s at 0 ≡ 0x
 -- ---- for whoever walks
 
 pub symbol-found : (s : List ℕ) (at e : ℕ) → at < length s → get_or s at 0 ≡ 0x27 → e ≡ charSymEnd s at → (e ≡ at → ⊥)
-    → (at < e) × (e ≤ length s) × (piece.Token tk.CharSym (cursorAt e) ≡ pieceOf (length s) (scan (length s) (from s at)))
+    → (at < e) × (e ≤ length s) × (tokenTo tk.CharSym (cursorAt e) ≡ pieceOf (length s) (scan (length s) (from s at)))
 symbol-found s at e h q p n =
     let g = all-ends s at h q (λ z. n (p ∙ z)) in
     let f : scan (length s) (from s at) ≡ scanCharSym (from s at) = charsym-at s at h (tick-byte s at ∙ eq-eqb (get_or s at 0) 0x27 q) in
-    (omega (arith, g.0), omega (arith, g.1), ap (λ j. piece.Token tk.CharSym (cursorAt j)) p ∙ g.2 ∙ ap (pieceOf (length s)) (sym f))
+    (omega (arith, g.0), omega (arith, g.1), ap (λ j. tokenTo tk.CharSym (cursorAt j)) p ∙ g.2 ∙ ap (pieceOf (length s)) (sym f))

@@ -21,13 +21,12 @@ use Rattle.token.specs.code.ByteClass.{classAt, blankClass, lfClass, crClass, up
 use Rattle.token.specs.code.Cursor.{cursorAt}
 use Rattle.token.specs.code.Form.{headNumber, headBytes, formOf, plainForm, byForm}
 use Rattle.token.specs.code.Names.{hereOf}
-use Rattle.token.specs.code.Piece.{pieceOf, pieceNumber}
+use Rattle.token.specs.code.Piece.{pieceOf, pieceNumber, tokenTo}
 use Rattle.token.specs.code.Records.{storedIf, lineEndAt, gapGoes, trail}
 use Rattle.token.specs.code.Walk.{plainGap, gapAt, Good, movedTo, plainBehind, valuesBehind, lineBehind, commentBehind, Steps}
 use Rattle.token.specs.declared.gap.Gap.{Gap}
 use Rattle.token.specs.declared.kinds.TokenKind.{TokenKind}
 use Rattle.token.specs.declared.kinds.TokenKind.TheVariants as tk
-use Rattle.token.specs.declared.piece.Piece.TheVariants as piece
 use Rattle.token.specs.declared.walk.Walked.{Walked}
 use Rattle.token.proofs.names.Ascii.{told, bare-length, bare-record, sign-low, sign-number}
 use Rattle.token.proofs.byte_class.Laws.{class-signs, class-blank, class-lf, class-cr, class-number}
@@ -67,13 +66,13 @@ line-end-turn s i j g f = record { walked = gap-trail s GapKind.lineEnd i j g f;
 
 -- ---- tokens
 
-pub found-here : (s : List ℕ) (i e : ℕ) (g : Gap) (k : TokenKind) → i < length s → piece.Token k (cursorAt e) ≡ pieceOf (length s) (scan (length s) (from s i))
+pub found-here : (s : List ℕ) (i e : ℕ) (g : Gap) (k : TokenKind) → i < length s → tokenTo k (cursorAt e) ≡ pieceOf (length s) (scan (length s) (from s i))
     → Turn s i g (record { kind = k; start = i; end = e; cut = cutOf g }) e fresh
 found-here s i e g k h f = turn-token s i g k i (cursorAt e) (cutOf g) (next-token s i g h k (cursorAt e) (cutOf g) refl f)
 
 module _ {s : List ℕ} {x : Walked} (g : Good s x) (h : x.at < length s) where
   -- with values
-  pub step-valued : (k : TokenKind) (e : ℕ) → piece.Token k (cursorAt e) ≡ pieceOf (length s) (scan (length s) (from s x.at)) → (l : ℕ) → headLength + (l - headLength) ≡ recordLength k
+  pub step-valued : (k : TokenKind) (e : ℕ) → tokenTo k (cursorAt e) ≡ pieceOf (length s) (scan (length s) (from s x.at)) → (l : ℕ) → headLength + (l - headLength) ≡ recordLength k
       → l ≡ recordLength k → (out next : List ℕ) → next ≡ storedIf out x.bytes (byForm (formOf k) x.at e false) → Steps s x out (valuesBehind x (hereOf s e) l) next
   step-valued k e f l p r out next q =
       let t : Token = record { kind = k; start = x.at; end = e; cut = false } in
@@ -82,7 +81,7 @@ module _ {s : List ℕ} {x : Walked} (g : Good s x) (h : x.at < length s) where
       (step-token g (found-here s x.at e (gapAt x) k h f) (l - headLength) p out next (q ∙ ap (storedIf out x.bytes) (form-record t)))
 
   -- without values, by the kind's number
-  pub step-bare : (k : TokenKind) (e : ℕ) → piece.Token k (cursorAt e) ≡ pieceOf (length s) (scan (length s) (from s x.at)) → values k ≡ []
+  pub step-bare : (k : TokenKind) (e : ℕ) → tokenTo k (cursorAt e) ≡ pieceOf (length s) (scan (length s) (from s x.at)) → values k ≡ []
       → (out next : List ℕ) → next ≡ storedIf out x.bytes (byForm (plainForm (kindNumber k)) x.at e false) → Steps s x out (plainBehind x (hereOf s e)) next
   step-bare k e f v out next q =
       let t : Token = record { kind = k; start = x.at; end = e; cut = false } in

@@ -26,7 +26,7 @@ use Rattle.token.specs.code.Form.{formOf, plainForm, byForm}
 use Rattle.token.specs.code.Keyword.{numberOr}
 use Rattle.token.specs.code.Literal.{literalOf}
 use Rattle.token.specs.code.Names.{hereOf, runTo, nameTo, operatorTo}
-use Rattle.token.specs.code.Piece.{pieceOf, pieceNumber}
+use Rattle.token.specs.code.Piece.{pieceOf, pieceNumber, tokenTo}
 use Rattle.token.specs.code.Quoted.{stringOf}
 use Rattle.token.specs.code.Records.{storedIf}
 use Rattle.token.specs.code.Symbol.{charSymEnd}
@@ -35,7 +35,6 @@ use Rattle.token.specs.declared.kinds.TokenKind.{TokenKind}
 use Rattle.token.specs.declared.kinds.TokenKind.TheVariants as tk
 use Rattle.token.specs.declared.literal.NumberLit.{NumberLit}
 use Rattle.token.specs.declared.names.Here.{Here}
-use Rattle.token.specs.declared.piece.Piece.TheVariants as piece
 use Rattle.token.specs.declared.quoted.Quoted.{Quoted}
 use Rattle.token.specs.declared.walk.Walked.{Walked}
 use Rattle.token.proofs.byte_class.Laws.{class-start, class-sign, class-digit, class-tick, class-keyword}
@@ -70,12 +69,12 @@ or-prefixed n k a r z = rw z
 
 -- a string that is prefixed from i to q, and closed at e
 prefixed-piece : (s : List ℕ) (i q e : ℕ) (k : TokenKind) → i < length s → quote (from s q) ≡ true → e ≤ length s → closeString true (from s q) ≡ closed (from s e)
-    → scan (length s) (from s i) ≡ orPrefixed (length s) k (from s i) (from s q) → piece.Token (tk.Str i e) (cursorAt e) ≡ pieceOf (length s) (scan (length s) (from s i))
+    → scan (length s) (from s i) ≡ orPrefixed (length s) k (from s i) (from s q) → tokenTo (tk.Str i e) (cursorAt e) ≡ pieceOf (length s) (scan (length s) (from s i))
 unfolding pieceOf
 prefixed-piece s i q e k h z l c f =
     sym (ap (pieceOf (length s)) (f ∙ or-prefixed (length s) k (from s i) (from s q) z ∙ ap (prefixedOf (length s) (from s i)) c)
-    ∙ ap (λ y. piece.Token (tk.Str y (place (length s) (from s e))) (cursorAt (place (length s) (from s e)))) (place-from s i (omega arith))
-    ∙ ap (λ y. piece.Token (tk.Str i y) (cursorAt y)) (place-from s e l))
+    ∙ ap (λ y. tokenTo (tk.Str y (place (length s) (from s e))) (cursorAt (place (length s) (from s e)))) (place-from s i (omega arith))
+    ∙ ap (λ y. tokenTo (tk.Str i y) (cursorAt y)) (place-from s e l))
 
 -- ---- operators
 
@@ -245,7 +244,7 @@ module _ {s : List ℕ} {x : Walked} (g : Good s x) (k : not (upToBlank x.class)
             let u = z (rw f (omega arith)) in
             step-bare g word-inside tk.Ident e (word-found s x.at e word-inside start-byte l r u none f) (word-bare none) out next (stored 1 (name-counts ∙ ap (numberOr 1) f))
         go (some j) f =
-            let u : piece.Token (tk.Kw j) (cursorAt e) ≡ pieceOf (length s) (scan (length s) (from s x.at)) =
+            let u : tokenTo (tk.Kw j) (cursorAt e) ≡ pieceOf (length s) (scan (length s) (from s x.at)) =
             token-at s (tk.Kw j) (cursorAt e) (from s e) l refl ∙ ap (pieceOf (length s)) (sym (word-scan s x.at e word-inside start-byte l r (some j) f)) in
             step-bare g word-inside (tk.Kw j) e u (word-bare (some j)) out next (stored (kwNumber j) (name-counts ∙ ap (numberOr 1) f))
 
@@ -294,8 +293,8 @@ module _ {s : List ℕ} {x : Walked} (g : Good s x) where
       let u = string-found s q b r (z ∙ ap (λ y. stringOf y s q) t) n in
       let v : o ≡ r.quotes = f ∙ ap (λ y. cond y 0 r.quotes) t in
       let h : x.at < length s = let i = inside s q (omega arith) in omega arith in
-      let p : piece.Token (tk.Str (x.at + o) (r.end - o)) (cursorAt r.end) ≡ pieceOf (length s) (scan (length s) (from s x.at)) =
-      ap (λ y. piece.Token (tk.Str (x.at + y) (r.end - y)) (cursorAt r.end)) v ∙ ap (λ y. piece.Token (tk.Str (y + r.quotes) (r.end - r.quotes)) (cursorAt r.end)) (sym e)
+      let p : tokenTo (tk.Str (x.at + o) (r.end - o)) (cursorAt r.end) ≡ pieceOf (length s) (scan (length s) (from s x.at)) =
+      ap (λ y. tokenTo (tk.Str (x.at + y) (r.end - y)) (cursorAt r.end)) v ∙ ap (λ y. tokenTo (tk.Str (y + r.quotes) (r.end - r.quotes)) (cursorAt r.end)) (sym e)
       ∙ u.2 ∙ ap (λ y. pieceOf (length s) (scan (length s) (from s y))) e in
       step-valued g h (tk.Str (x.at + o) (r.end - o)) r.end p strLength (str-size _ _) (str-size _ _) out next w
   step-string {q} (Opens.prefixed k l i b c) r z n o f out next w =

@@ -1,14 +1,12 @@
 -- What `digits` answers.
--- `Value` and `Piece` here are the code's enums (`src/digits.rt`, `src/piece.rt`), not the paper's `Value` (`paper/Records`) and `Piece` (`paper/Reading`).
-use Rattle.std.specs.Prelude.{ℕ, zero, suc, Bool, cond, [], ◌∷◌, eqb, leb}
+use Rattle.std.specs.Prelude.{ℕ, zero, suc, Bool, cond, [], ◌∷◌, eqb, leb, Option, Some, None}
 use Rattle.chars.specs.paper.Text.{Text}
 use Rattle.token.specs.paper.Tests.{isDigit, isHexDigit, digitValue}
 use Rattle.token.specs.declared.kinds.TokenKind.TheVariants as tk
 use Rattle.token.specs.declared.cursor.Cursor.{Cursor}
-use Rattle.token.specs.declared.piece.Piece.{Piece}
-use Rattle.token.specs.declared.piece.Piece.TheVariants as piece
-use Rattle.token.specs.declared.digits.Value.{Value}
-use Rattle.token.specs.declared.digits.Value.TheVariants as value
+use Rattle.token.specs.declared.refusal.Refusal.TheVariants as refusal
+use Rattle.token.specs.code.Piece.{PieceAnswer, tokenTo}
+use Rattle.token.specs.code.Refusal.{refusedFor}
 
 -- a digit of base 16, else of base 10
 unfoldable pub digitIn : ℕ → ℕ → Bool
@@ -26,10 +24,10 @@ afterUpTo p (suc m) (c ∷ s) =
     let rest = afterUpTo p m s in
     cond (p c.code) rest (c ∷ s)
 
--- a value of at most 9223372036854775807
-unfoldable pub valueOf : ℕ → Value
-valueOf v = cond (leb v 9223372036854775807) (value.Of v) value.Over
+-- a value of at most 9223372036854775807, or none
+unfoldable pub valueOf : ℕ → Option ℕ
+valueOf v = cond (leb v 9223372036854775807) (Some v) None
 
 -- an IntLit that ends at a cursor, at most 2147483647, else refusal 6 at the number's start
-unfoldable pub intOr : ℕ → ℕ → Cursor → Piece
-intOr start v end = cond (leb v 2147483647) (piece.Token (tk.IntLit v) end) (piece.Refused 6 start)
+unfoldable pub intOr : ℕ → ℕ → Cursor → PieceAnswer
+intOr start v end = cond (leb v 2147483647) (tokenTo (tk.IntLit v) end) (refusedFor refusal.LargeNumber start)

@@ -1,19 +1,19 @@
 -- What `gap` answers.
-use Rattle.std.specs.Prelude.{ℕ, ◌+◌, ◌-◌, ◌*◌, Bool, cond, ◌&&◌, List, length, drop, get_or, eqb, leb}
-use Rattle.std.proofs.Math.Option.{Option, none, some}
+use Rattle.std.specs.Prelude.{ℕ, ◌+◌, ◌-◌, ◌*◌, Bool, cond, ◌&&◌, List, length, drop, get_or, eqb, leb, Option, Some, None}
+use Rattle.std.proofs.Math.Option as math
+use Rattle.std.proofs.Math.Option.{none, some}
 use Rattle.chars.specs.paper.Text.{Text, from, place}
 use Rattle.token.specs.paper.Tests.{begins}
 use Rattle.token.specs.computed.Answer.{close}
-use Rattle.token.specs.declared.gap.Closed.{Closed}
-use Rattle.token.specs.declared.gap.Closed.TheVariants as closed
+use Rattle.token.specs.declared.cursor.Cursor.{Cursor}
 use Rattle.token.specs.declared.gap.Nest.{Nest}
 use Rattle.token.specs.code.Cursor.{cursorAt}
 use Rattle.token.specs.code.Loops.{stepsWhile}
 
--- a block comment's end
-unfoldable pub closedOf : ℕ → Option Text → Closed
-closedOf n none = closed.Open
-closedOf n (some r) = closed.At (cursorAt (place n r))
+-- a block comment's end, or that it is open at the end of script
+unfoldable pub closedOf : ℕ → math.Option Text → Option Cursor
+closedOf n none = None
+closedOf n (some r) = Some (cursorAt (place n r))
 
 -- `/*` at the place i, its two bytes as one number; and four in a row
 abbrev pub opensAt : List ℕ → ℕ → Bool
@@ -43,7 +43,7 @@ unfoldable pub lineEndAfter : List ℕ → ℕ → ℕ
 lineEndAfter s i = cond (begins "\n" (from s i)) (i + 1) (cond (begins "\r\n" (from s i)) (i + 2) i)
 
 -- the place of a text that is left in a script of n bytes; i, where none is
-abbrev pub placeOr : ℕ → ℕ → Option Text → ℕ
+abbrev pub placeOr : ℕ → ℕ → math.Option Text → ℕ
 placeOr n i none = i
 placeOr n i (some r) = place n r
 

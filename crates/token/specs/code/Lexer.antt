@@ -1,5 +1,5 @@
 -- One step of the code's walk: the next token, line end or end of script, past blanks and comments.
-use Rattle.std.specs.Prelude.{ℕ, zero, suc, ◌-◌, Bool, [], ◌∷◌, length}
+use Rattle.std.specs.Prelude.{ℕ, zero, suc, ◌-◌, Bool, [], ◌∷◌, length, Option, Some, None, Result, Ok}
 use Prim.Native.String.{String}
 use Rattle.chars.specs.paper.Text.{Text, place}
 use Rattle.token.specs.computed.Flags.{GapKind, push, cutOf}
@@ -9,10 +9,9 @@ use Rattle.token.specs.declared.gap.Gap.{Gap}
 use Rattle.token.specs.declared.kinds.TokenKind.{TokenKind}
 use Rattle.token.specs.declared.lexer.Next.{Next}
 use Rattle.token.specs.declared.lexer.Next.TheVariants as next
-use Rattle.token.specs.declared.lexer.Passed.{Passed}
-use Rattle.token.specs.declared.lexer.Passed.TheVariants as passed
-use Rattle.token.specs.declared.piece.Piece.{Piece}
-use Rattle.token.specs.declared.piece.Piece.TheVariants as piece
+use Rattle.token.specs.declared.cursor.Cursor.{Cursor}
+use Rattle.token.specs.declared.refusal.Refused.{Refused}
+use Rattle.token.specs.code.Refusal.{refusedBy}
 
 -- a token or a line end, from the text where it starts to the text after it; the end of script; or a refusal
 pub data Sought : Type 0 where
@@ -36,24 +35,35 @@ seek n k g [] = Sought.ends (cutOf g)
 seek n (suc k) g (c ∷ s) = seek n k g s
 seek n zero g (c ∷ s) = forward g (c ∷ s) (λ r h. seek n (length s - length r) h s) (scan n (c ∷ s))
 
+-- what the code's step answers
+abbrev pub NextAnswer : Type 0
+NextAnswer = Result Next Refused
+
+-- a token, a line end or the end of script, as an answer; and past a comment
+abbrev pub nextToken : TokenKind → ℕ → Cursor → Bool → NextAnswer
+nextToken k a e cut = Ok (next.Token k a e cut)
+
+abbrev pub nextLine : ℕ → Cursor → Bool → Gap → NextAnswer
+nextLine a e mark g = Ok (next.LineEnd a e mark g)
+
+abbrev pub nextEnd : Bool → NextAnswer
+nextEnd cut = Ok (next.End cut)
+
+abbrev pub passedTo : Cursor → Gap → Option (Cursor × Gap)
+passedTo e g = Some (e, g)
+
 -- with places
-unfoldable pub nextOf : ℕ → Sought → Next
-nextOf n (Sought.token k a r cut) = next.Token k (place n a) (cursorAt (place n r)) cut
-nextOf n (Sought.lineEnd a r mark g) = next.LineEnd (place n a) (cursorAt (place n r)) mark g
-nextOf n (Sought.ends cut) = next.End cut
-nextOf n (Sought.stuck j q) = next.Refused j (place n q)
+unfoldable pub nextOf : ℕ → Sought → NextAnswer
+nextOf n (Sought.token k a r cut) = nextToken k (place n a) (cursorAt (place n r)) cut
+nextOf n (Sought.lineEnd a r mark g) = nextLine (place n a) (cursorAt (place n r)) mark g
+nextOf n (Sought.ends cut) = nextEnd cut
+nextOf n (Sought.stuck j q) = refusedBy j (place n q)
 
--- past a comment that stands, with the gap after it
-abbrev pub passedOf : ℕ → Gap → Found → Passed
-passedOf n g (Found.gap k r) = passed.To (cursorAt (place n r)) (push k g)
-passedOf n g (Found.token k r) = passed.Open
-passedOf n g (Found.stuck j q) = passed.Open
-
--- A refusal of a piece. The first line stands for a case that cannot come: it is asked of a piece that was refused, so its 3 is no refusal of
--- the script.
-abbrev pub refusedOf : Piece → Next
-refusedOf (piece.Token k c) = next.Refused 3 0
-refusedOf (piece.Refused j a) = next.Refused j a
+-- past a comment that stands, with the gap after it; or that it is open at the end of script
+abbrev pub passedOf : ℕ → Gap → Found → Option (Cursor × Gap)
+passedOf n g (Found.gap k r) = passedTo (cursorAt (place n r)) (push k g)
+passedOf n g (Found.token k r) = None
+passedOf n g (Found.stuck j q) = None
 
 -- the ASCII characters with which a piece other than an identifier or an operator starts
 abbrev pub wordless : String

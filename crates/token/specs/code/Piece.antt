@@ -1,21 +1,31 @@
 -- What `piece` answers: a piece by the places of its texts.
--- `Piece` here is the code's enum (`src/piece.rt`), not the paper's `Piece` (`paper/Reading`).
-use Rattle.std.specs.Prelude.{ℕ}
+use Rattle.std.specs.Prelude.{ℕ, Result, Ok, Err}
 use Rattle.chars.specs.paper.Text.{place}
 use Rattle.token.specs.paper.Kinds.{kindNumber}
 use Rattle.token.specs.computed.Answer.{Found}
-use Rattle.token.specs.declared.piece.Piece.{Piece}
-use Rattle.token.specs.declared.piece.Piece.TheVariants as piece
+use Rattle.token.specs.declared.cursor.Cursor.{Cursor}
+use Rattle.token.specs.declared.kinds.TokenKind.{TokenKind}
+use Rattle.token.specs.declared.refusal.Refusal.TheVariants as refusal
+use Rattle.token.specs.declared.refusal.Refused.{Refused}
 use Rattle.token.specs.code.Cursor.{cursorAt}
+use Rattle.token.specs.code.Refusal.{refusedFor, refusedBy}
 
--- A piece: its token and the cursor after it, or a refusal's number and place. The last line stands for a case that cannot come: where a gap
--- piece stands no token is asked for, so its 3 is no refusal of the script.
-unfoldable pub pieceOf : ℕ → Found → Piece
-pieceOf n (Found.token k r) = piece.Token k (cursorAt (place n r))
-pieceOf n (Found.stuck j q) = piece.Refused j (place n q)
-pieceOf n (Found.gap g r) = piece.Refused 3 (place n r)
+-- what the code's type `Piece` is
+abbrev pub PieceAnswer : Type 0
+PieceAnswer = Result (TokenKind × Cursor) Refused
+
+-- a token and the cursor after it
+abbrev pub tokenTo : TokenKind → Cursor → PieceAnswer
+tokenTo k c = Ok (k, c)
+
+-- A piece: its token and the cursor after it, or a refusal and its place. The last line stands for a case that cannot come: where a gap
+-- piece stands no token is asked for, so it is no refusal of the script.
+unfoldable pub pieceOf : ℕ → Found → PieceAnswer
+pieceOf n (Found.token k r) = tokenTo k (cursorAt (place n r))
+pieceOf n (Found.stuck j q) = refusedBy j (place n q)
+pieceOf n (Found.gap g r) = refusedFor refusal.NoPiece (place n r)
 
 -- the number of a token's kind
-abbrev pub pieceNumber : Piece → ℕ
-pieceNumber (piece.Token k c) = kindNumber k
-pieceNumber (piece.Refused j a) = 0
+abbrev pub pieceNumber : PieceAnswer → ℕ
+pieceNumber (Ok t) = kindNumber t.0
+pieceNumber (Err e) = 0

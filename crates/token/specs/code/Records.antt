@@ -1,16 +1,17 @@
 -- What measuring and writing make of the answer.
-use Rattle.std.specs.Prelude.{ℕ, zero, suc, ◌+◌, ◌-◌, ◌*◌, ◌≤◌, ◌≡◌, Bool, true, false, cond, List, [], ◌∷◌, length, leb}
+use Rattle.std.specs.Prelude.{ℕ, zero, suc, ◌+◌, ◌-◌, ◌*◌, ◌≤◌, ◌≡◌, Bool, true, false, cond, List, [], ◌∷◌, length, take, leb, Result, Ok}
 use Rattle.std.proofs.lemmas.List.Edits.{sets}
 use Rattle.chars.specs.paper.Text.{Text, from, place}
 use Rattle.token.specs.paper.Kinds.{Token}
 use Rattle.token.specs.declared.kinds.TokenKind.TheVariants as tk
 use Rattle.token.specs.computed.Flags.{GapKind, fresh, push, cutOf}
 use Rattle.token.specs.computed.Answer.{Found, scan, Answer, tokenized, refused, prepend}
-use Rattle.token.specs.paper.Records.{recordLength, recordOf, recordBytes}
+use Rattle.token.specs.paper.Records.{recordLength, recordOf, records, recordBytes}
 use Rattle.token.specs.code.Form.{mostLength}
 use Rattle.token.specs.declared.gap.Gap.{Gap}
-use Rattle.token.specs.declared.records.Measured.{Measured}
-use Rattle.token.specs.declared.records.Measured.TheVariants as measured
+use Rattle.token.specs.declared.records.Need.{Need}
+use Rattle.token.specs.declared.refusal.Refused.{Refused}
+use Rattle.token.specs.code.Refusal.{refusedBy}
 
 -- a buffer with these bytes stored at w, where they fit
 unfoldable pub storedIf : List ℕ → ℕ → List ℕ → List ℕ
@@ -24,13 +25,16 @@ abbrev pub eofAt : ℕ → Bool → Token
 eofAt last cut = record { kind = tk.Eof; start = last; end = last; cut = cut }
 
 -- both counts
-abbrev pub total : ℕ → ℕ → Measured
-total c b = measured.Total c b
+abbrev pub need : ℕ → ℕ → Need
+need c b = record { tokens = c; bytes = b }
+
+abbrev pub total : ℕ → ℕ → Result Need Refused
+total c b = Ok (need c b)
 
 -- token count and record bytes after c tokens and b bytes that were counted before, or the refusal
-unfoldable pub measuredOf : ℕ → ℕ → Answer → Measured
-measuredOf c b (tokenized ts) = measured.Total (c + length ts) (b + recordBytes ts)
-measuredOf c b (refused j a) = measured.Refused j a
+unfoldable pub measuredOf : ℕ → ℕ → Answer → Result Need Refused
+measuredOf c b (tokenized ts) = total (c + length ts) (b + recordBytes ts)
+measuredOf c b (refused j a) = refusedBy j a
 
 abbrev pub isTokenized : Answer → Bool
 isTokenized (tokenized ts) = true
@@ -39,6 +43,16 @@ isTokenized (refused j a) = false
 abbrev pub tokensIn : Answer → List Token
 tokensIn (tokenized ts) = ts
 tokensIn (refused j a) = []
+
+-- the answer has tokens, and this is how many, and how many bytes their records have
+pub record Needs (w : Answer) (n : Need) : Type 0 where
+  pub is-tokenized : isTokenized w ≡ true
+  pub tokens : n.tokens ≡ length (tokensIn w)
+  pub bytes : n.bytes ≡ recordBytes (tokensIn w)
+
+-- where the records fit into a buffer, they stand at its start
+abbrev pub Held : Answer → Need → List ℕ → Type 0
+Held w n out = n.bytes ≤ length out → take n.bytes out ≡ records (tokensIn w)
 
 -- the answer has tokens, and their records fit into so many bytes
 pub record Fits (w : Answer) (room : ℕ) : Type 0 where
@@ -106,7 +120,7 @@ abbrev pub trailFrom : List ℕ → State → Trail
 trailFrom s x = trail (length s) 0 x.gap (from s x.at)
 
 -- what is counted in the end
-abbrev pub measuredFrom : List ℕ → State → Measured
+abbrev pub measuredFrom : List ℕ → State → Result Need Refused
 measuredFrom s x = measuredOf x.count x.bytes (answerOf (trailFrom s x))
 
 -- what the buffer is brought to, on a refusal too

@@ -1,5 +1,5 @@
 -- What `string` answers.
-use Rattle.std.specs.Prelude.{ℕ, ◌+◌, ◌-◌, Bool, cond, not, ◌&&◌, List, length, drop, get_or, eqb, leb, ltb}
+use Rattle.std.specs.Prelude.{ℕ, ◌+◌, ◌-◌, Bool, cond, not, ◌&&◌, List, length, drop, get_or, eqb, leb, ltb, Result, Ok}
 use Rattle.chars.specs.paper.Quoted.{oneOf}
 use Rattle.chars.specs.paper.Text.{Text, from, place}
 use Rattle.chars.specs.code.Runs.{eightIn}
@@ -7,27 +7,36 @@ use Rattle.token.specs.paper.Tests.{dollarBrace}
 use Rattle.token.specs.computed.Answer.{Esc, unbroken, broken, exactHexes, afterSlash, Closing, closed, wrong, closePlain, closePrefixed}
 use Rattle.token.specs.declared.kinds.TokenKind.{TokenKind}
 use Rattle.token.specs.declared.kinds.TokenKind.TheVariants as tk
-use Rattle.token.specs.declared.piece.Ended.{Ended}
-use Rattle.token.specs.declared.piece.Ended.TheVariants as ended
+use Rattle.token.specs.declared.cursor.Cursor.{Cursor}
+use Rattle.token.specs.declared.refusal.Refusal.TheVariants as refusal
+use Rattle.token.specs.declared.refusal.Refused.{Refused}
 use Rattle.token.specs.declared.string.Span.{Span}
 use Rattle.token.specs.code.Cursor.{cursorAt}
 use Rattle.token.specs.code.Loops.{stepsWhile}
+use Rattle.token.specs.code.Refusal.{refusedFor, refusedBy}
+
+-- where a part of a piece ends, or why it does not
+abbrev pub EndAnswer : Type 0
+EndAnswer = Result Cursor Refused
+
+abbrev pub endAt : Cursor → EndAnswer
+endAt c = Ok c
 
 -- a string's end
-unfoldable pub endedOf : ℕ → Closing → Ended
-endedOf n (closed r) = ended.At (cursorAt (place n r))
-endedOf n (wrong j q) = ended.Refused j (place n q)
+unfoldable pub endedOf : ℕ → Closing → EndAnswer
+endedOf n (closed r) = endAt (cursorAt (place n r))
+endedOf n (wrong j q) = refusedBy j (place n q)
 
 -- an escape's end, from behind its backslash
-abbrev pub escEnd : ℕ → Text → Esc → Ended
-escEnd n s (unbroken k) = ended.At (cursorAt (place n (drop k s)))
-escEnd n s (broken j q) = ended.Refused j (place n q)
+abbrev pub escEnd : ℕ → Text → Esc → EndAnswer
+escEnd n s (unbroken k) = endAt (cursorAt (place n (drop k s)))
+escEnd n s (broken j q) = refusedBy j (place n q)
 
-unfoldable pub escapeOf : ℕ → Text → Ended
+unfoldable pub escapeOf : ℕ → Text → EndAnswer
 escapeOf n s = escEnd n s (afterSlash s)
 
 -- four hex digits
-unfoldable pub hexesOf : ℕ → Text → Ended
+unfoldable pub hexesOf : ℕ → Text → EndAnswer
 hexesOf n s = escEnd n s (exactHexes 4 0 s)
 
 -- a single string from behind its quote; p: it is prefixed
@@ -42,26 +51,26 @@ unfoldable pub isOrdinary : ℕ → Bool
 isOrdinary c = not (oneOf "\n\"$\\" c)
 
 -- a `$` in a prefixed string
-unfoldable pub dollarOf : ℕ → Text → Ended
-dollarOf n s = cond (dollarBrace s) (ended.Refused 11 (place n s)) (ended.At (cursorAt (place n (drop 1 s))))
+unfoldable pub dollarOf : ℕ → Text → EndAnswer
+dollarOf n s = cond (dollarBrace s) (refusedFor refusal.DollarBrace (place n s)) (endAt (cursorAt (place n (drop 1 s))))
 
 -- one step in a single string, by the byte at the place i: an LF is refused, a `$` of a prefixed string is judged by what follows it, a backslash of a
 -- plain one is passed with its escape, and all else is passed as one byte
-unfoldable pub singleItem : Bool → List ℕ → ℕ → Ended
+unfoldable pub singleItem : Bool → List ℕ → ℕ → EndAnswer
 singleItem p s i =
     let byte = get_or s i 0 in
     let dollar = dollarOf (length s) (from s i) in
     let escape = escapeOf (length s) (from s (i + 1)) in
-    let next = ended.At (cursorAt (i + 1)) in
-    cond (eqb byte 0x0A) (ended.Refused 8 i) (cond (p && eqb byte 0x24) dollar (cond (not p && eqb byte 0x5C) escape next))
+    let next = endAt (cursorAt (i + 1)) in
+    cond (eqb byte 0x0A) (refusedFor refusal.LineFeed i) (cond (p && eqb byte 0x24) dollar (cond (not p && eqb byte 0x5C) escape next))
 
 -- one step in a triple string: a backslash is refused, a `$` of a prefixed string is judged by what follows it, and all else is passed as one byte
-unfoldable pub tripleItem : Bool → List ℕ → ℕ → Ended
+unfoldable pub tripleItem : Bool → List ℕ → ℕ → EndAnswer
 tripleItem p s i =
     let byte = get_or s i 0 in
     let dollar = dollarOf (length s) (from s i) in
-    let next = ended.At (cursorAt (i + 1)) in
-    cond (eqb byte 0x5C) (ended.Refused 10 i) (cond (p && eqb byte 0x24) dollar next)
+    let next = endAt (cursorAt (i + 1)) in
+    cond (eqb byte 0x5C) (refusedFor refusal.BackslashInTriple i) (cond (p && eqb byte 0x24) dollar next)
 
 -- the end of the bytes from a to b without a last quote, if one is left
 unfoldable pub lastOff : List ℕ → ℕ → ℕ → ℕ

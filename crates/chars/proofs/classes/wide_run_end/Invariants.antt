@@ -4,8 +4,8 @@ use Rattle.chars.specs.paper.Text.{from, idChar}
 use Rattle.chars.specs.computed.Runs.{afterRun}
 use Rattle.chars.proofs.classes.wide_run_end.Given as goal
 
-abbrev pub invariant-loop-i : goal.invariant-loop-i
-invariant-loop-i l = afterRun idChar (from l.s l.i) ≡ afterRun idChar (from l.s l.at)
+abbrev pub invariant-loop-here : goal.invariant-loop-here
+invariant-loop-here l = afterRun idChar (from l.s l.i) ≡ afterRun idChar (from l.s l.at)
 
-abbrev pub decreases-loop-i : goal.decreases-loop-i
-decreases-loop-i l = length l.s - l.i
+abbrev pub decreases-loop-here : goal.decreases-loop-here
+decreases-loop-here l = length l.s - l.i

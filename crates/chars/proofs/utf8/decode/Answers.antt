@@ -1,27 +1,20 @@
 -- The laws hold of whatever is decoded.
-use Rattle.std.proofs.Common.{◌∙◌, sym}
-use borrow.Author.Tests.{eq-eqb, ne_eqb}
-use Rattle.chars.specs.code.Utf8.{decodeAt}
-use Rattle.chars.proofs.utf8.Rows.{inside}
+use Rattle.chars.proofs.utf8.Stands.{stands}
 use Rattle.chars.proofs.theorems.Promises.{decoding}
 use Rattle.chars.proofs.theorems.Encodes.{encoding-laws}
 use Rattle.chars.proofs.utf8.decode.Goals as goal
 
-pub returns-then-w-eq0 : goal.returns-then-w-eq0
-unfolding decodeAt
-returns-then-w-eq0 c = record {
-  value = simp (eq-eqb _ _ (sym c.width_at-w.ensures ∙ c.if-w-eq0.true));
-  decoding = decoding _ _;
-  encoding_laws = encoding-laws;
-}
+pub returns-in_err-width-clause-decoding : goal.returns-in_err-width-clause-decoding
+returns-in_err-width-clause-decoding c = decoding _ _
+
+pub returns-in_err-width-clause-encoding_laws : goal.returns-in_err-width-clause-encoding_laws
+returns-in_err-width-clause-encoding_laws c = encoding-laws
 
 pub code_at-requires : goal.code_at-requires
-code_at-requires c = inside _ _ (λ z. c.if-w-eq0.false (c.width_at-w.ensures ∙ z))
+code_at-requires c = (stands _ _ _ c.in_ok-width.ensures).within
 
-pub returns : goal.returns
-unfolding decodeAt
-returns c = record {
-  value = simp (ne_eqb _ _ (λ z. c.if-w-eq0.false (c.width_at-w.ensures ∙ z)), ← c.width_at-w.ensures, ← c.code_at.ensures);
-  decoding = decoding _ _;
-  encoding_laws = encoding-laws;
-}
+pub returns-clause-decoding : goal.returns-clause-decoding
+returns-clause-decoding c = decoding _ _
+
+pub returns-clause-encoding_laws : goal.returns-clause-encoding_laws
+returns-clause-encoding_laws c = encoding-laws

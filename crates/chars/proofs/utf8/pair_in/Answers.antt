@@ -4,7 +4,7 @@ use Rattle.chars.specs.paper.Ranges.{◌to◌}
 use Rattle.chars.proofs.utf8.Rows.{fits-next}
 use Rattle.chars.proofs.utf8.pair_in.Goals as goal
 
-pub returns : goal.returns
-returns c =
+pub returns-then-byte_in : goal.returns-then-byte_in
+returns-then-byte_in c =
     let a = c.args in
-    rw (fits-next a.low a.high (a.low2 to a.high2 ∷ []) a.s.now a.at, ← c.if-not-byte_in.ensures) c.byte_in-2.ensures
+    rw (fits-next a.low a.high (a.low2 to a.high2 ∷ []) a.s.now a.at, ← c.if-byte_in.ensures) c.byte_in-then-byte_in.ensures

@@ -3,6 +3,7 @@ use Rattle.std.proofs.Common.{◌∙◌, sym, arith}
 use Rattle.chars.specs.paper.Utf8.{here, later}
 use Rattle.chars.proofs.theorems.Promises.{valid-laws}
 use Rattle.chars.proofs.utf8.Valid.{valid}
+use Rattle.chars.proofs.utf8.Stands.{stands, nothing}
 use Rattle.chars.proofs.utf8.Widths.{width-within, valid-stop, valid-next, valid-end, valid-ascii, valid-row, valid-rows}
 use Rattle.chars.proofs.utf8.valid_prefix.Goals as goal
 
@@ -22,40 +23,48 @@ loop-i-preserved-then-pair_in c =
     let o = valid-row (later here) c.args.s.now c.loop-i.i c.pair_in.ensures c.if-pair_in.true in
     record { within = o.within; same = o.same ∙ c.loop-i.invariant.same }
 
-pub returns-then-w-eq0 : goal.returns-then-w-eq0
-returns-then-w-eq0 c =
+pub returns-in_default-clause-value : goal.returns-in_default-clause-value
+returns-in_default-clause-value c =
     let s = c.args.s.now in
-    let e = sym (valid-stop s _ c.loop-i-test.true (sym c.width_at-w.ensures ∙ c.if-w-eq0.true)) ∙ c.loop-i.invariant.same in
-    record { value = (e, rw e (valid s)); valid_laws = valid-laws }
+    let e = sym (valid-stop s _ c.loop-i-test.true (nothing s _ c.in_default.ensures)) ∙ c.loop-i.invariant.same in
+    (e, rw e (valid s))
+
+pub returns-in_default-clause-valid_laws : goal.returns-in_default-clause-valid_laws
+returns-in_default-clause-valid_laws c = valid-laws
 
 pub loop-i-smaller-then-w-eq3 : goal.loop-i-smaller-then-w-eq3
 loop-i-smaller-then-w-eq3 c =
     let s = c.args.s.now in
     let a = width-within s c.loop-i.i c.loop-i.invariant.within in
-    let b = c.width_at-w.ensures in
-    let o = valid-rows (later (later (later here))) s _ _ (omega arith) c.skip_threes-i.ensures in
+    let b = stands s c.loop-i.i c.in-Some.w c.in-Some.ensures in
+    let o = valid-rows (later (later (later here))) s _ _ (omega (arith, b.is)) c.skip_threes-i.ensures in
     omega arith
 
 pub loop-i-preserved-then-w-eq3 : goal.loop-i-preserved-then-w-eq3
 loop-i-preserved-then-w-eq3 c =
     let s = c.args.s.now in
     let a = width-within s c.loop-i.i c.loop-i.invariant.within in
-    let b = c.width_at-w.ensures in
-    let o = valid-rows (later (later (later here))) s _ _ (omega arith) c.skip_threes-i.ensures in
-    record { within = o.within; same = o.same ∙ valid-next s _ _ c.loop-i-test.true (sym b) c.if-w-eq0.false ∙ c.loop-i.invariant.same }
+    let b = stands s c.loop-i.i c.in-Some.w c.in-Some.ensures in
+    let o = valid-rows (later (later (later here))) s _ _ (omega (arith, b.is)) c.skip_threes-i.ensures in
+    record { within = o.within; same = o.same ∙ valid-next s _ _ c.loop-i-test.true b.is (λ z. omega (arith, b.least)) ∙ c.loop-i.invariant.same }
 
 pub overflow_add-i-else-w-eq3 : goal.overflow_add-i-else-w-eq3
 overflow_add-i-else-w-eq3 c =
     let a = width-within c.args.s.now c.loop-i.i c.loop-i.invariant.within in
-    let b = c.width_at-w.ensures in
-    omega arith
+    let b = stands c.args.s.now c.loop-i.i c.in-Some.w c.in-Some.ensures in
+    omega (arith, b.is)
+
+pub loop-i-smaller : goal.loop-i-smaller
+loop-i-smaller c =
+    let b = stands c.args.s.now c.loop-i.i c.in-Some.w c.in-Some.ensures in
+    omega (arith, b.least)
 
 pub loop-i-preserved : goal.loop-i-preserved
 loop-i-preserved c =
     let s = c.args.s.now in
     let a = width-within s c.loop-i.i c.loop-i.invariant.within in
-    let b = c.width_at-w.ensures in
-    record { within = omega arith; same = valid-next s _ _ c.loop-i-test.true (sym b) c.if-w-eq0.false ∙ c.loop-i.invariant.same }
+    let b = stands s c.loop-i.i c.in-Some.w c.in-Some.ensures in
+    record { within = omega (arith, b.is); same = valid-next s _ _ c.loop-i-test.true b.is (λ z. omega (arith, b.least)) ∙ c.loop-i.invariant.same }
 
 pub returns : goal.returns
 returns c =

@@ -1,47 +1,45 @@
 -- Each return is a branch of the verdict, and of what the lent buffer then holds.
-use Rattle.std.proofs.Common.{arith, ◌∙◌}
-use Rattle.entry.proofs.host.Laws.{judge-long, judge-invalid, judge-stopped, judge-over, judge-fits, scratch-long, scratch-invalid, scratch-read}
+use Rattle.std.proofs.Common.{◌∙◌}
+use Rattle.entry.specs.code.Refusal.{pieceRefused}
+use Rattle.entry.proofs.host.Laws.{is-err, judge-checked, checked-by, judge-refused, refused-by, judge-read, read-by, scratch-checked, scratch-passed}
 use Rattle.entry.proofs.host.judge.Goals as goal
 
-pub returns-then-script-gt-MOST_BYTES : goal.returns-then-script-gt-MOST_BYTES
-returns-then-script-gt-MOST_BYTES c =
-    let long = c.if-script-gt-MOST_BYTES.true in
-    record { value = judge-long c.args.script.now c.args.room long; scratch_after = scratch-long c.args.script.now c.args.scratch.now long }
+pub returns-in_err-check_text : goal.returns-in_err-check_text
+returns-in_err-check_text c =
+    let script = c.args.script.now in
+    let check = c.in_err-check_text.ensures.value in
+    rw (is-err c.from_residual.result c.in_err-check_text.field-0.0 c.from_residual.ensures.1)
+    (record {
+      value = λ room. checked-by script _ check room;
+      refusal = λ room. judge-checked script _ check room;
+      judged = tt;
+      held = tt;
+      scratch_after = scratch-checked script c.args.scratch.now _ check;
+    })
 
-pub returns-then-valid-script : goal.returns-then-valid-script
-returns-then-valid-script c =
-    let valid = c.valid_prefix-valid.ensures.value.0 in
-    record {
-      value = judge-invalid c.args.script.now c.args.room (omega arith) _ valid c.if-valid-script.true;
-      scratch_after = scratch-invalid c.args.script.now c.args.scratch.now (omega arith) _ valid c.if-valid-script.true;
-    }
+pub returns-in_err-measure : goal.returns-in_err-measure
+returns-in_err-measure c =
+    let script = c.args.script.now in
+    let check = c.in_ok-check_text.ensures.value in
+    let told = c.in_err-measure.ensures in
+    rw (is-err c.from_residual-in_err-measure.result (pieceRefused c.in_err-measure.field-0.0) c.from_residual-in_err-measure.ensures.1)
+    (record {
+      value = λ room. refused-by script _ check _ _ told.refusal room;
+      refusal = λ room. judge-refused script _ check _ _ told.refusal room;
+      judged = tt;
+      held = tt;
+      scratch_after = told.scratch_after ∙ scratch-passed script c.args.scratch.now _ check;
+    })
 
-pub returns-in-Refused : goal.returns-in-Refused
-returns-in-Refused c =
-    let short = c.if-script-gt-MOST_BYTES.false in
-    let valid = c.valid_prefix-valid.ensures.value.0 in
-    let all = c.if-valid-script.false in
+pub returns : goal.returns
+returns c =
+    let script = c.args.script.now in
+    let check = c.in_ok-check_text.ensures.value in
+    let told = c.in_ok-measure.ensures in
     record {
-      value = judge-stopped c.args.script.now c.args.room short _ valid all _ _ c.in-Refused.ensures.value;
-      scratch_after = c.in-Refused.ensures.scratch_after ∙ scratch-read c.args.script.now c.args.scratch.now short _ valid all;
-    }
-
-pub returns-then-room-bytes : goal.returns-then-room-bytes
-returns-then-room-bytes c =
-    let short = c.if-script-gt-MOST_BYTES.false in
-    let valid = c.valid_prefix-valid.ensures.value.0 in
-    let all = c.if-valid-script.false in
-    record {
-      value = judge-over c.args.script.now c.args.room short _ valid all _ _ c.in-Total.ensures.value c.if-room-bytes.true;
-      scratch_after = c.in-Total.ensures.scratch_after ∙ scratch-read c.args.script.now c.args.scratch.now short _ valid all;
-    }
-
-pub returns-in-Total : goal.returns-in-Total
-returns-in-Total c =
-    let short = c.if-script-gt-MOST_BYTES.false in
-    let valid = c.valid_prefix-valid.ensures.value.0 in
-    let all = c.if-valid-script.false in
-    record {
-      value = judge-fits c.args.script.now c.args.room short _ valid all _ _ c.in-Total.ensures.value c.if-room-bytes.false;
-      scratch_after = c.in-Total.ensures.scratch_after ∙ scratch-read c.args.script.now c.args.scratch.now short _ valid all;
+      value = λ room. read-by script _ check _ told.needs room;
+      refusal = tt;
+      judged = judge-read script _ check _ told.needs;
+      held = told.held;
+      scratch_after = told.scratch_after ∙ scratch-passed script c.args.scratch.now _ check;
     }

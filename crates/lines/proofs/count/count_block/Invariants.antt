@@ -1,10 +1,7 @@
 -- The bytes passed are counted.
-use Rattle.std.proofs.Common.{◌≡◌, ◌≤◌, ◌-◌}
-use Rattle.lines.specs.computed.Lines.{part, countIn}
+use Rattle.std.proofs.Common.{◌≡◌, ◌≤◌, take}
+use Rattle.lines.specs.computed.Lines.{countIn}
 use Rattle.lines.proofs.count.count_block.Given as goal
 
-abbrev pub invariant-loop-i : goal.invariant-loop-i
-invariant-loop-i l = record { begun : l.from ≤ l.i; within : l.i ≤ l.to; counted : l.n ≡ countIn l.low l.high (part l.s l.from l.i) }
-
-abbrev pub decreases-loop-i : goal.decreases-loop-i
-decreases-loop-i l = l.to - l.i
+abbrev pub invariant-loop-b : goal.invariant-loop-b
+invariant-loop-b l = record { counted : l.n ≡ countIn l.low l.high (take l.b-index l.block); most : l.n ≤ l.b-index }

@@ -1,10 +1,12 @@
--- The bytes passed are counted, block by block.
-use Rattle.std.proofs.Common.{◌≡◌, ◌≤◌, ◌-◌}
-use Rattle.lines.specs.computed.Lines.{part, countIn}
+-- What is counted with what the blocks to come have is the whole.
+use Rattle.std.proofs.Common.{◌≡◌, ◌+◌}
+use Rattle.std.specs.Slice.Iter.{chunks_rest, chunks_size}
+use Rattle.lines.specs.computed.Lines.{countIn}
 use Rattle.lines.proofs.count.count_in.Given as goal
 
-abbrev pub invariant-loop-i : goal.invariant-loop-i
-invariant-loop-i l = record { begun : l.from ≤ l.i; within : l.i ≤ l.to; counted : l.n ≡ countIn l.low l.high (part l.s l.from l.i) }
-
-abbrev pub decreases-loop-i : goal.decreases-loop-i
-decreases-loop-i l = l.to - l.i
+abbrev pub invariant-loop-block : goal.invariant-loop-block
+invariant-loop-block l =
+    record {
+      blocks : chunks_size l.block-iterator ≡ 224;
+      counted : l.n + countIn l.low l.high (chunks_rest l.block-iterator) ≡ countIn l.low l.high l.s;
+    }

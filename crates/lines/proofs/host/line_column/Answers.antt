@@ -5,14 +5,14 @@ use Rattle.lines.proofs.host.line_column.Goals as goal
 pub returns-then-answer-ne16-clause-line_theorems : goal.returns-then-answer-ne16-clause-line_theorems
 returns-then-answer-ne16-clause-line_theorems c = line_theorems _
 
-pub returns-in-Refused-clause-line_theorems : goal.returns-in-Refused-clause-line_theorems
-returns-in-Refused-clause-line_theorems c = line_theorems _
+pub returns-in-Err-clause-line_theorems : goal.returns-in-Err-clause-line_theorems
+returns-in-Err-clause-line_theorems c = line_theorems _
 
-pub returns-then-not-has_text-clause-line_theorems : goal.returns-then-not-has_text-clause-line_theorems
-returns-then-not-has_text-clause-line_theorems c = line_theorems _
+pub returns-in-Ok-clause-line_theorems : goal.returns-in-Ok-clause-line_theorems
+returns-in-Ok-clause-line_theorems c = line_theorems _
 
-pub returns-then-index-lines-clause-line_theorems : goal.returns-then-index-lines-clause-line_theorems
-returns-then-index-lines-clause-line_theorems c = line_theorems _
+pub returns-in-Ok-2-clause-line_theorems : goal.returns-in-Ok-2-clause-line_theorems
+returns-in-Ok-2-clause-line_theorems c = line_theorems _
 
-pub returns-in-Lines-clause-line_theorems : goal.returns-in-Lines-clause-line_theorems
-returns-in-Lines-clause-line_theorems c = line_theorems _
+pub returns-in-Ok-3-clause-line_theorems : goal.returns-in-Ok-3-clause-line_theorems
+returns-in-Ok-3-clause-line_theorems c = line_theorems _

@@ -6,8 +6,8 @@ use Rattle.rolls.proofs.host.answer_roll.Goals as goal
 pub returns-then-answer-ne16-clause-roll_theorems : goal.returns-then-answer-ne16-clause-roll_theorems
 returns-then-answer-ne16-clause-roll_theorems c = roll-theorems _ (λ i. omega (arith, c.type_inv.roll i))
 
-pub returns-in-Refused-clause-roll_theorems : goal.returns-in-Refused-clause-roll_theorems
-returns-in-Refused-clause-roll_theorems c = roll-theorems _ (λ i. omega (arith, c.type_inv.roll i))
+pub returns-in-Ok-clause-roll_theorems : goal.returns-in-Ok-clause-roll_theorems
+returns-in-Ok-clause-roll_theorems c = roll-theorems _ (λ i. omega (arith, c.type_inv.roll i))
 
-pub returns-in-Tokens-clause-roll_theorems : goal.returns-in-Tokens-clause-roll_theorems
-returns-in-Tokens-clause-roll_theorems c = roll-theorems _ (λ i. omega (arith, c.type_inv.roll i))
+pub returns-in-Err-clause-roll_theorems : goal.returns-in-Err-clause-roll_theorems
+returns-in-Err-clause-roll_theorems c = roll-theorems _ (λ i. omega (arith, c.type_inv.roll i))

@@ -3,14 +3,15 @@ use Rattle.std.proofs.Common.{length, ap, ◌∙◌}
 use Rattle.token.specs.code.Piece.{pieceOf}
 use Rattle.token.proofs.charsym.Laws.{escape-ends, escape-wrong}
 use Rattle.token.proofs.charsym.lex_escaped_char.Goals as goal
+use Rattle.std.proofs.lemmas.Result.{err_from_is_err_and}
 
 pub close_char-requires : goal.close_char-requires
-close_char-requires c = (escape-ends c.args.s.now c.args.c.at _ c.in-At.ensures).0
+close_char-requires c = (escape-ends c.args.s.now c.args.c.at _ c.in_ok-end.ensures).0
 
-pub returns-in-Refused : goal.returns-in-Refused
-returns-in-Refused c = escape-wrong c.args.s.now c.args.c.at _ _ c.in-Refused.ensures
+pub returns-in_err-end : goal.returns-in_err-end
+returns-in_err-end c = let p = err_from_is_err_and c.from_residual.result c.from_residual.ensures.1 in rw (p.1, p.2) (escape-wrong c.args.s.now c.args.c.at _ c.in_err-end.ensures)
 
-pub returns-in-At : goal.returns-in-At
-returns-in-At c =
+pub returns : goal.returns
+returns c =
     let s = c.args.s.now in
-    c.close_char.ensures ∙ ap (pieceOf (length s)) (escape-ends s c.args.c.at _ c.in-At.ensures).1
+    c.close_char.ensures ∙ ap (pieceOf (length s)) (escape-ends s c.args.c.at _ c.in_ok-end.ensures).1

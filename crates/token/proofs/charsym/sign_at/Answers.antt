@@ -14,5 +14,5 @@ returns-in_default c =
 
 pub returns : goal.returns
 returns c =
-    let h = peeked-char c.args.s.now c.args.c.at _ _ c.in-Char.ensures in
+    let h = peeked-char c.args.s.now c.args.c.at _ _ c.in-Some.ensures in
     c.is_op_char.ensures ∙ sym (ap opSign h.text)

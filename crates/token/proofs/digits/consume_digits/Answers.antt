@@ -8,7 +8,7 @@ pub returns-then-not-is_digit : goal.returns-then-not-is_digit
 returns-then-not-is_digit c =
     let kept = c.loop-left.invariant in
     let e = rw c.byte_at.ensures at (sym c.if-not-is_digit.ensures) in
-    (kept.0, kept.1, sym (up-stop _ (digits-ascii _) _ _ _ e) ∙ kept.2)
+    record { within = kept.0; onward = kept.1; rest = sym (up-stop _ (digits-ascii _) _ _ _ e) ∙ kept.2 }
 
 pub loop-left-preserved : goal.loop-left-preserved
 loop-left-preserved c =
@@ -20,4 +20,4 @@ loop-left-preserved c =
 pub returns : goal.returns
 returns c =
     let kept = c.loop-left.invariant in
-    (kept.0, kept.1, sym (up-full _ _ _ c.loop-left-test.false) ∙ kept.2)
+    record { within = kept.0; onward = kept.1; rest = sym (up-full _ _ _ c.loop-left-test.false) ∙ kept.2 }

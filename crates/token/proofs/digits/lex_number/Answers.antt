@@ -5,7 +5,7 @@ use Rattle.token.proofs.digits.Laws.{hex-text, hex-number, dec-number}
 use Rattle.token.proofs.digits.lex_number.Goals as goal
 
 pub number_from-requires : goal.number_from-requires
-number_from-requires c = (omega arith, (hex-text _ _ (sym c.if-hex_ahead.ensures)).0, inr refl)
+number_from-requires c = record { order = omega arith; within = (hex-text _ _ (sym c.if-hex_ahead.ensures)).0; base_in = inr refl }
 
 pub returns-then-hex_ahead : goal.returns-then-hex_ahead
 returns-then-hex_ahead c = c.number_from.ensures ∙ ap (pieceOf (length c.args.s.now)) (hex-number _ _ (sym c.if-hex_ahead.ensures))

@@ -44,4 +44,4 @@ returns c =
     let q = pass-none s i (ltb c.chunks.i i) c.loop-i.invariant.1 (sym c.if-end-i.true ∙ c.id_run_end-end.ensures) (λ e. c.if-byte_at-eq95.false (c.byte_at.ensures ∙ e)) in
     let l : c.chunks.i < i = omega (arith, c.if-chunk-i.false) in
     let u = lt-ltb c.chunks.i i l in
-    (c.consume_signs.ensures.0, c.consume_signs.ensures.1 ∙ sym (q ∙ ap (λ u. cond u (afterRun opSign (from s i)) (from s i)) u) ∙ c.loop-i.invariant.2 ∙ c.chunks.invariant.1)
+    (c.consume_signs.ensures.within, c.consume_signs.ensures.rest ∙ sym (q ∙ ap (λ u. cond u (afterRun opSign (from s i)) (from s i)) u) ∙ c.loop-i.invariant.2 ∙ c.chunks.invariant.1)

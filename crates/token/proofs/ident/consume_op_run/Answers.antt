@@ -15,13 +15,13 @@ returns-then-next-d c =
     let s = c.args.s.now in
     let i = c.loop-d.d.at in
     let e = past-same isOpSign s i (sym c.if-next-d.true ∙ c.sign_end-next.ensures) in
-    (c.loop-d.invariant.0, sym (run-stays freeSign (from s i) (ap (λ z. z && not (opensComment (from s i))) e)) ∙ c.loop-d.invariant.1)
+    record { within = c.loop-d.invariant.0; rest = sym (run-stays freeSign (from s i) (ap (λ z. z && not (opensComment (from s i))) e)) ∙ c.loop-d.invariant.1 }
 
 pub returns-then-opens_comment : goal.returns-then-opens_comment
 returns-then-opens_comment c =
     let s = c.args.s.now in
     let i = c.loop-d.d.at in
-    (c.loop-d.invariant.0, sym (run-stays freeSign (from s i) (ap (λ z. opSign (from s i) && not z) (sym c.if-opens_comment.ensures) ∙ and-false (opSign (from s i)))) ∙ c.loop-d.invariant.1)
+    record { within = c.loop-d.invariant.0; rest = sym (run-stays freeSign (from s i) (ap (λ z. opSign (from s i) && not z) (sym c.if-opens_comment.ensures) ∙ and-false (opSign (from s i)))) ∙ c.loop-d.invariant.1 }
 
 pub loop-d-smaller : goal.loop-d-smaller
 loop-d-smaller c =

@@ -14,7 +14,7 @@ returns-then-next-i c =
     let s = c.args.s.now in
     let i = c.loop-i.i in
     let e = past-same isOpSign s i (sym c.if-next-i.true ∙ c.sign_end-next.ensures) in
-    (c.loop-i.invariant.0, sym (run-stays opSign (from s i) e) ∙ c.loop-i.invariant.1)
+    record { within = c.loop-i.invariant.0; rest = sym (run-stays opSign (from s i) e) ∙ c.loop-i.invariant.1 }
 
 pub loop-i-smaller : goal.loop-i-smaller
 loop-i-smaller c =

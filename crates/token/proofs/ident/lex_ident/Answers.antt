@@ -14,30 +14,31 @@ word_number-requires c =
     let s = c.args.s.now in
     let i = c.args.c.at in
     let e = c.skip_id_rest-end.ensures in
-    left-to s i _ _ c.requires.0 e.0 (e.1 ∙ ap (afterIdent false) c.requires.3) (ident-left (from s i) c.requires.1)
+    let l = left-to s i _ _ c.requires.within e.within (e.rest ∙ ap (afterIdent false) c.requires.rest_is) (ident-left (from s i) c.requires.starts) in
+    record { order = l.0; within = l.1; suffix = l.2 }
 
 pub or_prefixed-requires : goal.or_prefixed-requires
 or_prefixed-requires c =
     let s = c.args.s.now in
     let i = c.args.c.at in
     let e = c.skip_id_rest-end.ensures in
-    let l = left-to s i _ _ c.requires.0 e.0 (e.1 ∙ ap (afterIdent false) c.requires.3) (ident-left (from s i) c.requires.1) in
-    (l.0, l.1)
+    let l = left-to s i _ _ c.requires.within e.within (e.rest ∙ ap (afterIdent false) c.requires.rest_is) (ident-left (from s i) c.requires.starts) in
+    record { order = l.0; within = l.1 }
 
-pub returns-in-Is : goal.returns-in-Is
-returns-in-Is c =
+pub returns-in-Some : goal.returns-in-Some
+returns-in-Some c =
     let s = c.args.s.now in
     let e = c.skip_id_rest-end.ensures in
     let r = from s c.skip_id_rest-end.result.at in
-    let key = key-is _ c.in-Is.k (told-by 1 by-ident _ _ _ c.word_number.ensures c.in-Is.ensures) in
-    let w = scan-word (length s) (from s c.args.c.at) r (some c.in-Is.k) (e.1 ∙ ap (afterIdent false) c.requires.3) key in
-    token-at s (tk.Kw c.in-Is.k) _ r e.0 refl ∙ ap (pieceOf (length s)) (sym w)
+    let key = key-is _ c.in-Some.k (told-by 1 by-ident _ _ _ c.word_number.ensures c.in-Some.ensures) in
+    let w = scan-word (length s) (from s c.args.c.at) r (some c.in-Some.k) (e.rest ∙ ap (afterIdent false) c.requires.rest_is) key in
+    token-at s (tk.Kw c.in-Some.k) _ r e.within refl ∙ ap (pieceOf (length s)) (sym w)
 
-pub returns-in-Not : goal.returns-in-Not
-returns-in-Not c =
+pub returns-in-None : goal.returns-in-None
+returns-in-None c =
     let s = c.args.s.now in
     let e = c.skip_id_rest-end.ensures in
     let r = from s c.skip_id_rest-end.result.at in
-    let key = key-not _ (told-by 1 by-ident _ _ _ c.word_number.ensures c.in-Not.ensures) in
-    let w = scan-word (length s) (from s c.args.c.at) r none (e.1 ∙ ap (afterIdent false) c.requires.3) key in
+    let key = key-not _ (told-by 1 by-ident _ _ _ c.word_number.ensures c.in-None.ensures) in
+    let w = scan-word (length s) (from s c.args.c.at) r none (e.rest ∙ ap (afterIdent false) c.requires.rest_is) key in
     c.or_prefixed.ensures ∙ ap (pieceOf (length s)) (sym w)

@@ -13,30 +13,31 @@ pub run_number-requires : goal.run_number-requires
 run_number-requires c =
     let s = c.args.s.now in
     let e = c.consume_op_run-end.ensures in
-    left-to s c.args.c.at _ _ c.requires e.0 e.1 (run-left freeSign (from s c.args.c.at))
+    let l = left-to s c.args.c.at _ _ c.requires e.within e.rest (run-left freeSign (from s c.args.c.at)) in
+    record { order = l.0; within = l.1; suffix = l.2 }
 
 pub returns-then-opens_comment : goal.returns-then-opens_comment
 returns-then-opens_comment c =
     let s = c.args.s.now in
     let e = c.consume_op_run-end.ensures in
     let r = from s c.consume_op_run-end.result.at in
-    let key = key-is _ c.in-Is.k (told-by 2 by-op _ _ _ c.run_number.ensures c.in-Is.ensures) in
-    let q = scan-run (from s c.args.c.at) r (some c.in-Is.k) e.1 key in
-    token-at s tk.OpId _ r e.0 refl ∙ ap (pieceOf (length s)) (sym (q ∙ run-before r c.in-Is.k (sym c.if-opens_comment.ensures)))
+    let key = key-is _ c.in-Some.k (told-by 2 by-op _ _ _ c.run_number.ensures c.in-Some.ensures) in
+    let q = scan-run (from s c.args.c.at) r (some c.in-Some.k) e.rest key in
+    token-at s tk.OpId _ r e.within refl ∙ ap (pieceOf (length s)) (sym (q ∙ run-before r c.in-Some.k (sym c.if-opens_comment.ensures)))
 
 pub returns-else-opens_comment : goal.returns-else-opens_comment
 returns-else-opens_comment c =
     let s = c.args.s.now in
     let e = c.consume_op_run-end.ensures in
     let r = from s c.consume_op_run-end.result.at in
-    let key = key-is _ c.in-Is.k (told-by 2 by-op _ _ _ c.run_number.ensures c.in-Is.ensures) in
-    let q = scan-run (from s c.args.c.at) r (some c.in-Is.k) e.1 key in
-    token-at s (tk.Kw c.in-Is.k) _ r e.0 refl ∙ ap (pieceOf (length s)) (sym (q ∙ run-alone r c.in-Is.k (sym c.if-opens_comment.ensures)))
+    let key = key-is _ c.in-Some.k (told-by 2 by-op _ _ _ c.run_number.ensures c.in-Some.ensures) in
+    let q = scan-run (from s c.args.c.at) r (some c.in-Some.k) e.rest key in
+    token-at s (tk.Kw c.in-Some.k) _ r e.within refl ∙ ap (pieceOf (length s)) (sym (q ∙ run-alone r c.in-Some.k (sym c.if-opens_comment.ensures)))
 
-pub returns-in-Not : goal.returns-in-Not
-returns-in-Not c =
+pub returns-in-None : goal.returns-in-None
+returns-in-None c =
     let s = c.args.s.now in
     let e = c.consume_op_run-end.ensures in
     let r = from s c.consume_op_run-end.result.at in
-    let key = key-not _ (told-by 2 by-op _ _ _ c.run_number.ensures c.in-Not.ensures) in
-    token-at s tk.OpId _ r e.0 refl ∙ ap (pieceOf (length s)) (sym (scan-run (from s c.args.c.at) r none e.1 key))
+    let key = key-not _ (told-by 2 by-op _ _ _ c.run_number.ensures c.in-None.ensures) in
+    token-at s tk.OpId _ r e.within refl ∙ ap (pieceOf (length s)) (sym (scan-run (from s c.args.c.at) r none e.rest key))

@@ -7,7 +7,11 @@ use Rattle.token.proofs.ident.or_prefixed.Goals as goal
 
 pub lex_prefixed_string-requires : goal.lex_prefixed_string-requires
 lex_prefixed_string-requires c =
-    (c.requires.0, c.requires.1, quote-byte c.args.s.now c.args.c.at ∙ eq-eqb _ 0x22 (sym c.byte_at.ensures ∙ c.if-byte_at-eq34.true))
+    record {
+      order = c.requires.order;
+      within = c.requires.within;
+      opens = quote-byte c.args.s.now c.args.c.at ∙ eq-eqb _ 0x22 (sym c.byte_at.ensures ∙ c.if-byte_at-eq34.true);
+    }
 
 pub returns-then-byte_at-eq34 : goal.returns-then-byte_at-eq34
 returns-then-byte_at-eq34 c =
@@ -19,4 +23,4 @@ pub returns : goal.returns
 returns c =
     let s = c.args.s.now in
     let q = quote-byte s c.args.c.at ∙ ne_eqb _ 0x22 (λ e. c.if-byte_at-eq34.false (c.byte_at.ensures ∙ e)) in
-    token-at s c.args.kind c.args.c _ c.requires.1 refl ∙ ap (pieceOf (length s)) (sym (not-prefixed (length s) c.args.kind (from s c.args.start) (from s c.args.c.at) q))
+    token-at s c.args.kind c.args.c _ c.requires.within refl ∙ ap (pieceOf (length s)) (sym (not-prefixed (length s) c.args.kind (from s c.args.start) (from s c.args.c.at) q))

@@ -10,4 +10,4 @@ lex_word-requires c =
       | in_default-via-then-b-lt48 w ↦ search (tests, rules)
       | in_default-via-else-b-lt48+else-b-lt58 w ↦ search (tests, rules)
     ] in
-    (c.requires.0, unkeyed _ _ k c.requires.1, c.requires.2)
+    record { within = c.requires.within; no_other = unkeyed _ _ k c.requires.no_gap; no_comment = c.requires.no_comment }

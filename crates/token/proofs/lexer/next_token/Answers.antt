@@ -14,10 +14,10 @@ returns-in_default c =
 
 pub loop-e-smaller : goal.loop-e-smaller
 loop-e-smaller c =
-    let w = pass-on c.args.s.now c.skip_blanks-e.result.at c.loop-e.f (omega arith) _ _ (sym c.if-not-opens_comment.ensures) c.in-To.ensures in
+    let w = pass-on c.args.s.now c.skip_blanks-e.result.at c.loop-e.f (omega arith) _ _ (sym c.if-not-opens_comment.ensures) c.in-Some.ensures in
     omega (arith, c.skip_blanks-e.ensures.1)
 
 pub loop-e-preserved : goal.loop-e-preserved
 loop-e-preserved c =
-    let w = pass-on c.args.s.now c.skip_blanks-e.result.at c.loop-e.f (omega arith) _ _ (sym c.if-not-opens_comment.ensures) c.in-To.ensures in
+    let w = pass-on c.args.s.now c.skip_blanks-e.result.at c.loop-e.f (omega arith) _ _ (sym c.if-not-opens_comment.ensures) c.in-Some.ensures in
     grind (arith, past_blanks)

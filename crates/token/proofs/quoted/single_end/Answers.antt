@@ -48,4 +48,4 @@ pub returns : goal.returns
 returns c =
     let s = c.args.s.now in
     let w = c.loop-i.invariant in
-    told-wrong s c.args.at 7 _ _ (single-open c.args.prefixed s _ w.1 c.loop-i-test.false) ∙ ap (closedTo s c.args.at) w.2
+    told-wrong s c.args.at _ _ (single-open c.args.prefixed s _ w.1 c.loop-i-test.false) ∙ ap (closedTo s c.args.at) w.2

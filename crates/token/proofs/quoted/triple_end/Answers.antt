@@ -37,4 +37,4 @@ pub returns : goal.returns
 returns c =
     let s = c.args.s.now in
     let w = c.loop-i.invariant in
-    told-wrong s c.args.at 9 _ _ (triple-open true s _ w.1 c.loop-i-test.false) ∙ ap (closedTo s c.args.at) w.2
+    told-wrong s c.args.at _ _ (triple-open true s _ w.1 c.loop-i-test.false) ∙ ap (closedTo s c.args.at) w.2

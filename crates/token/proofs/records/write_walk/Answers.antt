@@ -9,7 +9,7 @@ use Rattle.token.proofs.records.write_walk.Goals as goal
 
 pub walk_script-requires : goal.walk_script-requires
 unfolding classOf signNumber signOf
-walk_script-requires c = (c.requires.0, classes _ refl refl)
+walk_script-requires c = record { within = c.requires.within; lent = classes _ refl refl }
 
 pub returns : goal.returns
-returns c = c.walk_script.ensures.out_after ∙ begun-fits _ _ c.requires.1
+returns c = c.walk_script.ensures.out_after ∙ begun-fits _ _ c.requires.fits

@@ -9,9 +9,11 @@ returns-then-byte_at-ne34 c =
     let a = c.args in
     let p = c.requires in
     let s = a.s.now in
-    let l = left-all s a.start a.end p.0 p.1 (string-tail _ _ _ p.2 p.3) in
+    let l = left-all s a.start a.end p.order p.within (string-tail _ _ _ p.opens p.closes) in
     ap (tk.Str (a.start + 1)) c.last_off.ensures
-    ∙ left-single s a.start a.end a.start a.end l (string-some _ _ _ p.2 p.3 p.0) (string-byte _ _ _ p.2 p.3) (λ z. c.if-byte_at-ne34.true (c.byte_at.ensures ∙ z))
+    ∙ left-single s a.start a.end a.start a.end l (string-some _ _ _ p.opens p.closes p.order) (string-byte _ _ _ p.opens p.closes) (λ z. c.if-byte_at-ne34.true (c.byte_at.ensures ∙ z))
 
 pub strip_many-requires : goal.strip_many-requires
-strip_many-requires c = let p = c.requires in (p.0, p.1, string-tail _ _ _ p.2 p.3)
+strip_many-requires c =
+    let p = c.requires in
+    record { order = p.order; within = p.within; suffix = string-tail _ _ _ p.opens p.closes }

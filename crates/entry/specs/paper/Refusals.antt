@@ -1,0 +1,10 @@
+-- The numbers of the refusals.
+use Rattle.std.specs.Prelude.{ℕ}
+use Rattle.token.specs.code.Refusal as piece
+use Rattle.entry.specs.declared.refusal.Refusal.{Refusal}
+use Rattle.entry.specs.declared.refusal.Refusal.TheVariants as refusal
+
+abbrev pub refusalNumber : Refusal → ℕ
+refusalNumber refusal.TooLong = 17
+refusalNumber refusal.NotUtf8 = 18
+refusalNumber (refusal.Piece r) = piece.refusalNumber r

@@ -1,0 +1,24 @@
+// What is asked of every script before it is read: its length, and that it is UTF-8.
+ghost use Rattle.std.specs.Prelude.{◌≡◌, ◌≤◌, length, OnOk};
+ghost use Rattle.token.specs.paper.Records.{mostBytes};
+ghost use Rattle.entry.specs.computed.Check.{checkOf};
+
+use crate::refusal::{Refusal, Refused};
+
+pub const MOST_BYTES: usize = 16777216;
+
+/// 17, at 0, where the script is too long; 18, at the length of its longest valid prefix, where it is not UTF-8.
+#[tactic(auto, unfolding(crate::specs::computed::Check::checkOf))]
+pub fn check_text(script: &[u8]) -> Result<(), Refused>
+    ensures value { result ≡ checkOf script.now }
+    ensures in_limit { OnOk result (length script.now ≤ mostBytes) }
+{
+    if MOST_BYTES < script.len() {
+        return Err(Refusal::TooLong.at(0));
+    }
+    let valid = chars::utf8::valid_prefix(script);
+    if valid < script.len() {
+        return Err(Refusal::NotUtf8.at(valid));
+    }
+    Ok(())
+}
