@@ -15,6 +15,7 @@ examples = record {
   lent-25 = refl;
   block-15 = refl;
   lent-27 = refl;
+  bound-met = refl;
   text-21 = refl;
   text-ok = refl;
 }

@@ -3,7 +3,7 @@ use Rattle.std.specs.Prelude.{ℕ, ◌≡◌, true, List, [], ◌∷◌, ◌++�
 use Rattle.words.specs.Words.{blockOf}
 use Rattle.chars.specs.paper.Quoted.{codes}
 use Rattle.chars.specs.computed.Encoded.{script}
-use Rattle.token.specs.paper.Records.{mostBytes}
+use Rattle.token.specs.paper.Records.{mostBytes, mostNeed}
 use Rattle.token.specs.computed.Listing.{holdBy}
 use Rattle.token.specs.computed.Examples.{marked, listingExample, refusalExamples, tieExamples, traps}
 use Rattle.entry.specs.paper.Host.{seen}
@@ -34,6 +34,9 @@ pub record Examples : Type 0 where
       ≡ seen 0
       (13 ∷ 0 ∷ 1 ∷ 0 ∷ 0 ∷ 0 ∷ 0 ∷ 0 ∷ 1 ∷ 0 ∷ 0 ∷ 0 ∷ 0 ∷ 13 ∷ 0 ∷ 18 ∷ 0 ∷ 1 ∷ 0 ∷ 0 ∷ 0 ∷ 1 ∷ 0 ∷ 0 ∷ 0 ∷ 0 ∷ 7 ∷ [])
       (0 ∷ 0 ∷ 0 ∷ 0 ∷ 0 ∷ 0 ∷ 0 ∷ 0 ∷ 2 ∷ 0 ∷ 0 ∷ 0 ∷ 26 ∷ 0 ∷ 0 ∷ 0 ∷ [])
+  -- The bound on the record bytes is met: with nothing lent the empty script is told all 13 of it, and `1` all 30.
+  pub bound-met : map (λ s. hosted s [] (replicate 16 9)) (script "" ∷ script "1" ∷ [])
+      ≡ seen 19 [] (blockOf 19 0 1 (mostNeed 0)) ∷ seen 19 [] (blockOf 19 0 2 (mostNeed 1)) ∷ []
   -- 21: `ab`, 1 to 3
   pub text-21 : textNumber (script "ab") 1 3 ≡ 21
   pub text-ok : tokenText (script "ab") 1 2 ≡ script "b"

@@ -1,7 +1,10 @@
 -- Document 01, "Twelve marked scripts", as one computed check over their list; the listing's example and the refusal table's
 -- examples. `Examples` in `entry` asks for all of them; here they give a wrong definition its first error.
 use Rattle.std.specs.Prelude.{◌≡◌, refl, true, List, [], ◌∷◌, ◌++◌}
-use Rattle.token.specs.computed.Listing.{Example, ◌gives◌, listed, holdBy}
+use Rattle.chars.specs.computed.Encoded.{script}
+use Rattle.token.specs.paper.Records.{mostNeed, values, recordLength, recordBytes}
+use Rattle.words.specs.Words.{le4}
+use Rattle.token.specs.computed.Listing.{Example, ◌gives◌, listed, needed, holdBy}
 
 abbrev pub marked : List Example
 marked =
@@ -91,3 +94,12 @@ traps =
 pub examples-hold : holdBy listed (listingExample ++ refusalExamples ++ tieExamples ++ traps) ≡ true
 unfolding listed
 examples-hold = refl
+
+-- The bound on the record bytes is met: the empty script needs all 13 of it, and `1` all 30. `Examples` in `entry` asks for it too.
+pub none-met : needed (script "") ≡ mostNeed 0
+unfolding needed recordBytes recordLength values le4
+none-met = refl
+
+pub one-met : needed (script "1") ≡ mostNeed 1
+unfolding needed recordBytes recordLength values le4
+one-met = refl

@@ -10,7 +10,7 @@ use Rattle.chars.specs.computed.Runs.{afterRun}
 use Rattle.token.specs.paper.Tests.{same, isDigit, isHexDigit, begins}
 use Rattle.token.specs.paper.Kinds.{wordOf, runOf, kindNumber, Token}
 use Rattle.token.specs.computed.Answer.{codesTo, scanReturn, scanLine, close, scanBlock, readDigits, scanNumber, exactHexes, digitsUpTo, afterSlash, closePlain, closePrefixed, closeTriple, closeString, strip, plainContent, scanString, orPrefixed, afterIdent, scanIdent, scanOperator, scanBacktick, scanCharSym, startOf, signOf, scan, walk, Answer, tokenized, refused, answer}
-use Rattle.token.specs.paper.Records.{Value, one, four, eight, valuesOf, bit}
+use Rattle.token.specs.paper.Records.{Value, one, four, eight, valuesOf, bit, recordBytes}
 
 -- a number in base ten, before the text t; the first argument bounds its digits
 unfoldable pub decimalFor : ℕ → ℕ → List ℕ → List ℕ
@@ -54,6 +54,15 @@ infix 70 ◌gives◌
 unfoldable pub listed : List ℕ → List ℕ
 unfolding alphabetic lowercase uppercase nd alphaNotLetter width codeOf charsAt from isIdStart isIdChar isOpSign isPrintable isDigit isHexDigit begins wordOf runOf afterRun codesTo scanReturn scanLine close scanBlock readDigits scanNumber exactHexes digitsUpTo afterSlash closePlain closePrefixed closeTriple closeString strip plainContent scanString orPrefixed afterIdent scanIdent scanOperator scanBacktick scanCharSym startOf signOf scan walk answer decimalFor shown refusedAt listing
 listed s = listing (answer s)
+
+-- the record bytes of a script; 0 where it is refused. Like `listed` it opens all that it stands on, so that an example is computed.
+abbrev pub needOf : Answer → ℕ
+needOf (tokenized ts) = recordBytes ts
+needOf (refused j a) = 0
+
+unfoldable pub needed : List ℕ → ℕ
+unfolding alphabetic lowercase uppercase nd alphaNotLetter width codeOf charsAt from isIdStart isIdChar isOpSign isPrintable isDigit isHexDigit begins wordOf runOf afterRun codesTo scanReturn scanLine close scanBlock readDigits scanNumber exactHexes digitsUpTo afterSlash closePlain closePrefixed closeTriple closeString strip plainContent scanString orPrefixed afterIdent scanIdent scanOperator scanBacktick scanCharSym startOf signOf scan walk answer decimalFor shown refusedAt listing
+needed s = needOf (answer s)
 
 -- by any way of listing a script
 abbrev pub holdBy : (List ℕ → List ℕ) → List Example → Bool
