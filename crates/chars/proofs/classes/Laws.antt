@@ -1,5 +1,5 @@
 -- The character classes: what excludes what, each computed at the few characters that document 01 names.
-use Prim.Native.Nat.{ℕ, ◌≤◌, ◌<◌}
+use Prim.Native.Nat.{ℕ, ◌^◌, ◌≤◌, ◌<◌}
 use Prim.Native.String.{String}
 use mathlib.Core.Path.{◌≡◌, refl, sym, ap, ◌∙◌}
 use mathlib.Core.Bool.{Bool, true, false, cond, not, ◌&&◌, ◌||◌, and-true, and-false, or-true, or-false}
@@ -12,7 +12,8 @@ use Rattle.chars.specs.paper.Classes.{isIdStart, isIdChar, opSigns, isOpSign, is
 use Rattle.chars.proofs.classes.Ranges.{between-in, between-out, in-between, clear-out, covered-in, only-first}
 use Rattle.chars.specs.promises.Codes.{every}
 use Rattle.chars.specs.promises.Classes.{lowStart, lowId}
-use Rattle.chars.proofs.Carry.{carry}
+use Rattle.chars.proofs.Carry.{carry, each-same}
+use Rattle.std.specs.Char.{is_ascii_alphanumeric}
 
 -- ---- operator signs
 
@@ -70,6 +71,10 @@ byte-start b = below isIdStart lowStart low-start b
 
 pub byte-id : (b : ℕ) → ltb b 0x80 && isIdChar b ≡ ltb b 0x80 && lowId b
 byte-id b = below isIdChar lowId low-id b
+
+-- by std's test
+pub id-byte : (b : ℕ) → b < 2 ^ 8 → ltb b 0x80 && isIdChar b ≡ is_ascii_alphanumeric b || eqb b 0x24
+id-byte b h = byte-id b ∙ each-same (λ x. ltb x 0x80 && lowId x) (λ x. is_ascii_alphanumeric x || eqb x 0x24) 0 256 b refl (omega arith) (omega arith)
 
 -- quoted characters of which none is in a class: ASCII by q, and the double arrow
 quoted-not : (p q : ℕ → Bool) → ((c : ℕ) → c < 0x80 → p c ≡ q c) → p 0x21D2 ≡ false → (t : String)
@@ -137,6 +142,13 @@ module _ (c : ℕ) (h : 0x80 ≤ c) where
   wide-sign e =
       let k = carry (λ x. ltb x 0x80 || eqb x 0x21D2) (codes opSigns) c refl (sym (sign-is c) ∙ e) in
       eqb-true c 0x21D2 (rw (le-ltb c 0x80 h) at k)
+
+  pub wide-none : (c ≡ 0x21D2 → ⊥) → isOpSign c ≡ false
+  wide-none n = go (isOpSign c) refl
+    where
+      go : (b : Bool) → isOpSign c ≡ b → isOpSign c ≡ false
+      go true e = absurd (n (wide-sign e))
+      go false e = e
 
   -- no `$` or `_` is left, so up to U+FFFF the tables decide
   pub wide-start : c ≤ 0xFFFF → (0x24B6 ≤ c → 0x24E9 < c) → isIdStart c ≡ lowercase c || uppercase c

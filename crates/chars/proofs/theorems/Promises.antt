@@ -165,3 +165,6 @@ pub run-laws : RunLaws
 run-laws = record {
   eight-all = eights.eight-all;
 }
+
+-- for contracts of which one is a clause
+pub ruleset told = (text-laws, class-laws)

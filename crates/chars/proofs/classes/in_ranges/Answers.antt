@@ -1,21 +1,20 @@
--- Where the loop ends, the last range that begins at c or below is the one before a.
-use Rattle.std.proofs.Common.{◌≡◌, suc, ◌-◌, ◌*◌, leb, get_or, sym, ap, ◌∙◌, arith}
-use Rattle.chars.proofs.classes.Ranges.{ends-outside, ends-found}
+-- The ranges that begin at c or before come first, and the last of them decides.
+use Rattle.std.proofs.Common.{◌≡◌, ℕ, leb, rules, of_calls, sym, arith}
+use Rattle.std.proofs.lemmas.List.Sorted.{IsPartitionPoint-from_clause}
+use Rattle.chars.proofs.classes.Ranges.{parted, at-last, before-all}
 use Rattle.chars.proofs.classes.in_ranges.Goals as goal
 
-pub returns-then-a-eq0 : goal.returns-then-a-eq0
-returns-then-a-eq0 c =
-    let z : c.loop-a.b ≡ 0 = omega arith in
-    sym (ends-outside c.args.table.now c.args.c c.requires (λ n. rw z at (c.loop-a.invariant.after (omega arith))))
-
-pub returns : goal.returns
-returns c =
+pub returns-then-after-gt0 : goal.returns-then-after-gt0
+returns-then-after-gt0 c =
     let table = c.args.table.now in
-    let k = c.loop-a.a - 1 in
-    let e : suc k ≡ c.loop-a.a = omega arith in
-    let z : suc k ≡ c.loop-a.b = omega arith in
-    let i : c.loop-a.a * 2 - 1 ≡ suc (k * 2) = omega arith in
-    ap (λ n. leb c.args.c (get_or table n 0)) i
-    ∙ sym
-    (ends-found table c.args.c c.requires k (omega arith) (c.loop-a.invariant.before k e)
-    (λ n. rw z (c.loop-a.invariant.after (omega arith))))
+    let p = c.partition_point-after in
+    at-last table c.args.c c.requires p.result p.ensures.bound c.if-after-gt0.true
+    (IsPartitionPoint-from_clause (λ (r : ℕ × ℕ). leb r.0 c.args.c) table p.result p.ensures.partitioned (parted table c.args.c c.requires) (λ a r f k. search (rules, of_calls)))
+
+pub returns-else-after-gt0 : goal.returns-else-after-gt0
+returns-else-after-gt0 c =
+    let table = c.args.table.now in
+    let p = c.partition_point-after in
+    let z : p.result ≡ 0 = omega arith in
+    let q = IsPartitionPoint-from_clause (λ (r : ℕ × ℕ). leb r.0 c.args.c) table p.result p.ensures.partitioned (parted table c.args.c c.requires) (λ a r f k. search (rules, of_calls)) in
+    rw z (sym (before-all table c.args.c c.requires (rw z at q)))

@@ -1,10 +1,9 @@
--- The test agrees with the class at every byte from `a` on.
-use Rattle.std.proofs.Common.{◌&&◌, leb, ltb, refl, sym, ◌∙◌, arith}
-use Rattle.chars.specs.promises.Classes.{lowId}
-use Rattle.chars.proofs.classes.Laws.{byte-id}
-use Rattle.chars.proofs.Carry.{each-same}
+-- The test agrees with the class at every byte.
+use Rattle.std.proofs.Common.{eqb, sym, ap, ◌∙◌, ◌||◌}
+use Rattle.chars.proofs.classes.Laws.{id-byte}
 use Rattle.chars.proofs.classes.is_id_byte.Goals as goal
 
-pub returns-then-b-ge97 : goal.returns-then-b-ge97
-returns-then-b-ge97 c =
-    each-same (λ x. leb x 0x7A) (λ x. ltb x 0x80 && lowId x) 0x61 159 c.args.b refl (omega arith) (omega arith) ∙ sym (byte-id c.args.b)
+pub returns-then-is_ascii_alphanumeric : goal.returns-then-is_ascii_alphanumeric
+returns-then-is_ascii_alphanumeric c =
+    c.if-is_ascii_alphanumeric.true
+    ∙ sym (id-byte c.args.b c.ranges.b.fits ∙ ap (λ z. z || eqb c.args.b 0x24) (sym c.is_ascii_alphanumeric.ensures.value ∙ c.if-is_ascii_alphanumeric.true))
