@@ -3,11 +3,10 @@ ghost use Rattle.std.specs.Prelude.{◌≡◌, cond, ◌≤◌, ◌+◌, ◌-◌
 ghost use Rattle.std.proofs.lemmas.List.Edits.{sets};
 ghost use Rattle.token.specs.computed.Answer.{answer};
 ghost use Rattle.token.specs.paper.Records.{mostBytes, headLength, recordOf, records, recordBytes};
-ghost use Rattle.token.specs.code.ByteClass.{ByteClasses};
 ghost use Rattle.token.specs.code.Records.{storedIf, measuredOf, total, Fits, begun, storedFrom, Standing, Reaches, tokensIn, eofAt};
 ghost use Rattle.token.specs.code.Stand.{stateOf, Whole, standOf};
 
-use crate::byte_class::{CLASSES, class_at};
+use crate::byte_class::Class;
 use crate::cursor::Cursor;
 use crate::form::put_if;
 use crate::gap::Gap;
@@ -73,8 +72,8 @@ fn stand_of(x: Walked) -> Stand
 }
 
 // As far as pieces are recognised from their bytes. While a cut is set, or one may come of a block comment, nothing is.
-fn walk_from(out: &mut [u8], s: &[u8], t: &[u8; 256], start: Stand) -> Stand
-    requires { ByteClasses t.now × (length s.now ≤ mostBytes) × Standing s.now (stateOf start) × Whole start }
+fn walk_from(out: &mut [u8], s: &[u8], start: Stand) -> Stand
+    requires { (length s.now ≤ mostBytes) × Standing s.now (stateOf start) × Whole start }
     ensures { Reaches s.now (stateOf start) out.old (stateOf result) out.new × Whole result }
 {
     let g = start.gap;
@@ -84,10 +83,9 @@ fn walk_from(out: &mut [u8], s: &[u8], t: &[u8; 256], start: Stand) -> Stand
     let x = walk_pieces(
         out,
         s,
-        t,
         Walked {
             at: start.at,
-            class: class_at(s, t, start.at),
+            class: Class::at(s, start.at),
             bytes: start.bytes,
             values: start.values,
             line: came(g.newline, start.bytes),
@@ -99,8 +97,8 @@ fn walk_from(out: &mut [u8], s: &[u8], t: &[u8; 256], start: Stand) -> Stand
 
 // One walk over the script: it counts tokens and record bytes, and stores each record that fits, up to the end of script or to what is refused.
 #[tactic(auto, using(crate::proofs::records::Turns::turns))]
-fn walk_script(out: &mut [u8], s: &[u8], t: &[u8; 256]) -> Measured
-    requires { (length s.now ≤ mostBytes) × ByteClasses t.now }
+fn walk_script(out: &mut [u8], s: &[u8]) -> Measured
+    requires { length s.now ≤ mostBytes }
     ensures value { result ≡ measuredOf 0 0 (answer s.now) }
     ensures out_after { out.new ≡ storedFrom s.now begun out.old }
 {
@@ -112,7 +110,6 @@ fn walk_script(out: &mut [u8], s: &[u8], t: &[u8; 256]) -> Measured
         let w = walk_from(
             out,
             s,
-            t,
             Stand {
                 at: c.at,
                 gap: g,
@@ -150,7 +147,7 @@ pub fn measure(scratch: &mut [u8], s: &[u8]) -> Measured
     ensures value { result ≡ measuredOf 0 0 (answer s.now) }
     ensures scratch_after { scratch.new ≡ storedFrom s.now begun scratch.old }
 {
-    walk_script(scratch, s, &CLASSES)
+    walk_script(scratch, s)
 }
 
 // The records of a script that has tokens, from the buffer's start on: copied, where `scratch` has them, else by another walk.
@@ -171,5 +168,5 @@ fn write_walk(out: &mut [u8], s: &[u8])
     requires { (length s.now ≤ mostBytes) × Fits (answer s.now) (length out.old) }
     ensures { out.new ≡ sets out.old 0 (records (tokensIn (answer s.now))) }
 {
-    walk_script(out, s, &CLASSES);
+    walk_script(out, s);
 }

@@ -4,6 +4,7 @@ use mathlib.Core.Path.{◌≡◌, refl, sym, ◌∙◌, ap}
 use mathlib.Core.Bool.{Bool, true, false, cond, not, ◌&&◌, ◌||◌}
 use mathlib.Core.Logic.{◌⊎◌, inl, inr}
 use mathlib.Core.List.{List}
+use Rattle.std.specs.Prelude.{min}
 use lib.ListN.{length, get_or}
 use lib.Dec.{eqb, leb, ltb}
 use native.Mathlib.Nat.{add-mul, mul-le-mul_right, pow-suc, pow-le-pow_right}
@@ -22,7 +23,7 @@ use Rattle.token.specs.code.ByteClass.{classOf, classAt, digitClass, inWord}
 use Rattle.token.specs.code.Cursor.{cursorAt}
 use Rattle.token.specs.code.Piece.{pieceOf}
 use Rattle.token.specs.code.Digits.{digitIn, digitOf, intOr}
-use Rattle.token.specs.code.Literal.{lesser, numberLit, literalEnd, goesOn, endingBy, literalIn, fullEnd, literalOf}
+use Rattle.token.specs.code.Literal.{numberLit, literalEnd, goesOn, endingBy, literalIn, fullEnd, literalOf}
 use Rattle.token.specs.declared.kinds.TokenKind.{TokenKind}
 use Rattle.token.specs.declared.kinds.TokenKind.TheVariants as tk
 use Rattle.token.specs.declared.piece.Piece.TheVariants as piece
@@ -38,20 +39,12 @@ open text-laws use {place-from, run-place}
 -- ---- the lesser of two
 
 -- what lies below it lies below both
-pub below : (r a b i : ℕ) → r ≡ lesser a b → i < r → (i < a) × (i < b)
-below r a b i e h = go (ltb a b) refl e
-  where
-    go : (t : Bool) → ltb a b ≡ t → r ≡ cond t a b → (i < a) × (i < b)
-    go true q e = let k = ltb-true a b q in (omega arith, omega arith)
-    go false q e = let k = ltb-false a b q in (omega arith, omega arith)
+pub below : (r a b i : ℕ) → r ≡ min a b → i < r → (i < a) × (i < b)
+below r a b i e h = (omega arith, omega arith)
 
 -- what does not, and lies below the first and not above the second, is the second
-at-lesser : (r a b i : ℕ) → r ≡ lesser a b → r ≤ i → i < a → i ≤ b → i ≡ b
-at-lesser r a b i e h k l = go (ltb a b) e
-  where
-    go : (t : Bool) → r ≡ cond t a b → i ≡ b
-    go true e = absurd (omega arith)
-    go false e = omega arith
+at-lesser : (r a b i : ℕ) → r ≡ min a b → r ≤ i → i < a → i ≤ b → i ≡ b
+at-lesser r a b i e h k l = omega arith
 
 -- ---- one digit
 
@@ -211,7 +204,7 @@ module _ (base most : ℕ) (h : (base ≡ 10) ⊎ (base ≡ 16)) (s : List ℕ) 
           ap goesOn e ∙ sym f ∙ ap (endingBy (length s) (start + most)) (x.same ∙ r.same)
 
   -- as many digits as are read, or the end of script
-  pub digits-full : (stop m : ℕ) → stop ≡ lesser (length s) m → m ≡ start + most → stop ≤ i → fullEnd base s v i ≡ literalIn base most s start
+  pub digits-full : (stop m : ℕ) → stop ≡ min (length s) m → m ≡ start + most → stop ≤ i → fullEnd base s v i ≡ literalIn base most s start
   unfolding fullEnd
   digits-full stop m e n k = go (digitIn base (get_or s i 0)) refl
     where
@@ -229,7 +222,7 @@ pub record Onward (base most : ℕ) (s : List ℕ) (start i v d : ℕ) : Type 0 
   pub on : DigitsTo base most s start (i + 1) (v * base + d)
 
 module _ (s : List ℕ) (start i v stop m : ℕ) where
-  pub hex-turn : DigitsTo 16 16 s start i v → stop ≡ lesser (length s) m → m ≤ start + 16 → i < stop
+  pub hex-turn : DigitsTo 16 16 s start i v → stop ≡ min (length s) m → m ≤ start + 16 → i < stop
       → (d : ℕ) → d ≡ digitOf (get_or s i 0) → (d ≡ 16 → ⊥) → Onward 16 16 s start i v d
   hex-turn r q n l d e f =
       let k : i < start + 16 = omega (arith, below stop (length s) m i q l) in
@@ -239,7 +232,7 @@ module _ (s : List ℕ) (start i v stop m : ℕ) where
         on = digits-on 16 16 (inr refl) s start i v r d k t;
       }
 
-  pub dec-turn : DigitsTo 10 19 s start i v → stop ≡ lesser (length s) m → m ≤ start + 19 → i < stop
+  pub dec-turn : DigitsTo 10 19 s start i v → stop ≡ min (length s) m → m ≤ start + 19 → i < stop
       → (b : ℕ) → b ≡ get_or s i 0 → ltb b 0x30 || ltb 0x39 b ≡ false → Onward 10 19 s start i v (b % 16)
   dec-turn r q n l b e f =
       let k : i < start + 19 = omega (arith, below stop (length s) m i q l) in

@@ -1,13 +1,10 @@
 -- What `literal` answers.
-use Rattle.std.specs.Prelude.{ℕ, ◌+◌, Bool, true, false, cond, List, length, get_or, leb, ltb}
+use Rattle.std.specs.Prelude.{ℕ, ◌+◌, Bool, true, false, cond, List, length, get_or, leb}
 use Rattle.chars.specs.paper.Text.{Text, from, place}
 use Rattle.token.specs.paper.Tests.{hexAhead, letterL}
 use Rattle.token.specs.computed.Answer.{Numeral, numeral, readDigits}
 use Rattle.token.specs.code.Digits.{digitIn}
 use Rattle.token.specs.declared.literal.NumberLit.{NumberLit}
-
-abbrev pub lesser : ℕ → ℕ → ℕ
-lesser a b = cond (ltb a b) a b
 
 abbrev pub numberLit : ℕ → ℕ → Bool → NumberLit
 numberLit e v l = record { end = e; value = v; long = l }
