@@ -4,15 +4,15 @@ ghost use Rattle.std.specs.Prelude.{◌≡◌, true, ◌⊎◌, ◌+◌, ◌≤�
 ghost use Rattle.chars.specs.paper.Text.{from};
 ghost use Rattle.token.specs.paper.Tests.{isDigit, digitValue};
 ghost use Rattle.token.specs.code.ByteClass.{classAt};
-ghost use Rattle.token.specs.code.Literal.{literalEnd, fullEnd, literalIn, literalOf};
+ghost use Rattle.token.specs.code.Literal.{Untested, literalEnd, fullEnd, literalIn, literalOf};
 
 use crate::byte_class::Class;
 use crate::cursor::{Cursor, byte_at};
 use crate::digits::{digit_of, hex_ahead};
 
-// Where a number ends, its value, and whether it is a LongLit. Where the value is above the most of its kind, the number is refused, or not
-// recognised: whoever asks tests that, so that the place of the next token does not wait for the value.
-#[derive(Clone, Copy)]
+/// Where a number ends, its value, and whether it is a LongLit. Where the value is above the most of its kind, the number is refused, or not
+/// recognised: whoever asks tests that, so that the place of the next token does not wait for the value.
+#[derive(Clone, Copy, Debug, PartialEq, Eq)]
 pub struct NumberLit {
     pub end: usize,
     pub value: u64,
@@ -20,7 +20,7 @@ pub struct NumberLit {
 }
 
 // Above the most of every kind.
-const ABOVE_ALL: u64 = 18446744073709551615;
+const ABOVE_ALL: u64 = u64::MAX;
 
 // The number whose digits have this value and end at a place: `L` or `l` makes it a LongLit.
 fn literal_end(s: &[u8], v: u64, end: usize) -> NumberLit
@@ -41,25 +41,6 @@ fn literal_end(s: &[u8], v: u64, end: usize) -> NumberLit
     }
 }
 
-// The number of base 16 whose digits begin two bytes on, if they are fewer than 17.
-fn hex_number(s: &[u8], start: usize) -> NumberLit
-    requires { start + 2 ≤ length s.now }
-    ensures { result ≡ literalIn 16 16 s.now (start + 2) }
-{
-    let stop = s.len().min(start + 18);
-    let mut v: u64 = 0;
-    let mut i = start + 2;
-    while i < stop {
-        let d = digit_of(s[i]);
-        if d == 16 {
-            return literal_end(s, v, i);
-        }
-        v = v * 16 + d;
-        i += 1;
-    }
-    full_end(s, v, i, 16)
-}
-
 // The number of as many digits as may be, or of fewer at the end of script. Where a digit more stands there, the value is above every most.
 fn full_end(s: &[u8], v: u64, end: usize, base: u64) -> NumberLit
     requires within { end ≤ length s.now }
@@ -76,23 +57,25 @@ fn full_end(s: &[u8], v: u64, end: usize, base: u64) -> NumberLit
     literal_end(s, v, end)
 }
 
-// The number of base 10 that begins there, if its digits are fewer than 20.
-fn decimal_number(s: &[u8], start: usize) -> NumberLit
-    requires { start ≤ length s.now }
-    ensures { result ≡ literalIn 10 19 s.now start }
+// The number of a base whose digits begin there, of which at most so many are read: so few that no value has to be tested. The base is compiled in:
+// each has its own loop, as fast as one that is written for it.
+fn literal_in<const BASE: u64, const MOST: usize>(s: &[u8], start: usize) -> NumberLit
+    requires within { start ≤ length s.now }
+    requires untested { Untested BASE MOST }
+    ensures { result ≡ literalIn BASE MOST s.now start }
 {
-    let stop = s.len().min(start + 19);
+    let stop = s.len().min(start + MOST);
     let mut v: u64 = 0;
     let mut i = start;
     while i < stop {
-        let b = s[i] as u64;
-        if (b < 0x30) | (0x39 < b) {
+        let d = digit_of(s[i]);
+        if BASE <= d {
             return literal_end(s, v, i);
         }
-        v = v * 10 + b % 16;
+        v = v * BASE + d;
         i += 1;
     }
-    full_end(s, v, i, 10)
+    full_end(s, v, i, BASE)
 }
 
 /// The value of the digit that stands there.
@@ -112,10 +95,10 @@ pub fn literal_at(s: &[u8], class: Class, at: usize) -> NumberLit
     ensures { result ≡ literalOf s.now at }
 {
     if class == Class::DIGIT {
-        return decimal_number(s, at);
+        return literal_in::<10, 19>(s, at);
     }
     if hex_ahead(s, Cursor { at }) {
-        return hex_number(s, at);
+        return literal_in::<16, 16>(s, at + 2);
     }
-    decimal_number(s, at)
+    literal_in::<10, 19>(s, at)
 }
