@@ -1,5 +1,5 @@
 -- One blank, or all that stand there.
-use Rattle.std.proofs.Common.{◌+◌, ℕ, sym, subst, ◌∙◌, arith}
+use Rattle.std.proofs.Common.{◌+◌, ℕ, sym, subst, ◌∙◌}
 use borrow.Author.Tests.{eqb-true, eqb-false, not-true, not-false}
 use Rattle.token.specs.code.Walk.{movedTo, Steps}
 use Rattle.token.proofs.walk.Pieces.{step-one-blank, two-here, step-more-blanks}

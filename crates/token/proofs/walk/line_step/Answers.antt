@@ -1,5 +1,4 @@
 -- The line end's record, and on behind it.
-use Rattle.std.proofs.Common.{refl}
 use Rattle.token.proofs.walk.Pieces.{lf-here, step-line-end}
 use Rattle.token.proofs.walk.line_step.Goals as goal
 
