@@ -3,12 +3,11 @@ ghost use Rattle.std.specs.Prelude.{◌≡◌, cond, ◌≤◌, ◌+◌, ◌-◌
 ghost use Rattle.std.proofs.lemmas.List.Edits.{sets};
 ghost use Rattle.token.specs.computed.Answer.{answer, refused};
 ghost use Rattle.token.specs.paper.Records.{mostBytes, headLength, recordOf, records};
-ghost use Rattle.token.specs.code.ByteClass.{ByteClasses};
 ghost use Rattle.token.specs.code.Records.{storedIf, measuredOf, need, Needs, Held, Fits, begun, storedFrom, Standing, Reaches, tokensIn, eofAt};
 ghost use Rattle.token.specs.code.Refusal.{refusalNumber};
 ghost use Rattle.token.specs.code.Stand.{stateOf, Whole, standOf};
 
-use crate::byte_class::{CLASSES, class_at};
+use crate::byte_class::Class;
 use crate::cursor::Cursor;
 use crate::form::put_if;
 use crate::gap::Gap;
@@ -79,8 +78,7 @@ fn stand_of(x: Walked) -> Stand
 }
 
 // As far as pieces are recognised from their bytes. While a cut is set, or one may come of a block comment, nothing is.
-fn walk_from(out: &mut [u8], s: &[u8], t: &[u8; 256], start: Stand) -> Stand
-    requires lent { ByteClasses t.now }
+fn walk_from(out: &mut [u8], s: &[u8], start: Stand) -> Stand
     requires within { length s.now ≤ mostBytes }
     requires standing { Standing s.now (stateOf start) }
     requires whole { Whole start }
@@ -94,10 +92,9 @@ fn walk_from(out: &mut [u8], s: &[u8], t: &[u8; 256], start: Stand) -> Stand
     let x = walk_pieces(
         out,
         s,
-        t,
         Walked {
             at: start.at,
-            class: class_at(s, t, start.at),
+            class: Class::at(s, start.at),
             bytes: start.bytes,
             values: start.values,
             line: came(g.newline, start.bytes),
@@ -109,9 +106,8 @@ fn walk_from(out: &mut [u8], s: &[u8], t: &[u8; 256], start: Stand) -> Stand
 
 // One walk over the script: it counts tokens and record bytes, and stores each record that fits, up to the end of script or to what is refused.
 #[tactic(auto, using(crate::proofs::records::Turns::turns))]
-fn walk_script(out: &mut [u8], s: &[u8], t: &[u8; 256]) -> Result<Need, Refused>
-    requires within { length s.now ≤ mostBytes }
-    requires lent { ByteClasses t.now }
+fn walk_script(out: &mut [u8], s: &[u8]) -> Result<Need, Refused>
+    requires { length s.now ≤ mostBytes }
     ensures value { result ≡ measuredOf 0 0 (answer s.now) }
     ensures out_after { out.new ≡ storedFrom s.now begun out.old }
 {
@@ -123,7 +119,6 @@ fn walk_script(out: &mut [u8], s: &[u8], t: &[u8; 256]) -> Result<Need, Refused>
         let w = walk_from(
             out,
             s,
-            t,
             Stand {
                 at: c.at,
                 gap: g,
@@ -173,7 +168,7 @@ pub fn measure(scratch: &mut [u8], s: &[u8]) -> Result<Need, Refused>
     ensures scratch_after { scratch.new ≡ storedFrom s.now begun scratch.old }
     ensures held { IfOk result (λ need. Held (answer s.now) need scratch.new) }
 {
-    walk_script(scratch, s, &CLASSES)
+    walk_script(scratch, s)
 }
 
 /// The records of a script that has tokens, from the buffer's start on: copied, where `scratch` has them, else by another walk. `need` and what
@@ -198,5 +193,5 @@ fn write_walk(out: &mut [u8], s: &[u8])
     requires fits { Fits (answer s.now) (length out.old) }
     ensures { out.new ≡ sets out.old 0 (records (tokensIn (answer s.now))) }
 {
-    let _ = walk_script(out, s, &CLASSES); // it has tokens, so nothing is refused, and what they need is known
+    let _ = walk_script(out, s); // it has tokens, so nothing is refused, and what they need is known
 }

@@ -1,20 +1,17 @@
 // The walk over what is recognised from its bytes, as nearly everything is: each record is stored where it fits. Where something else stands, and at
 // the end, it stops, and `lexer::next_token` reads on.
-ghost use Rattle.std.specs.Prelude.{◌≡◌, true, false, cond, List, ℕ, ◌+◌, ◌≤◌, ◌<◌, eqb, length};
+ghost use Rattle.std.specs.Prelude.{◌≡◌, true, false, cond, List, ℕ, ◌+◌, ◌≤◌, ◌<◌, eqb, length, IfSome, IfNone};
 ghost use Rattle.chars.specs.paper.Text.{from};
 ghost use Rattle.token.specs.paper.Tests.{opensBlock, opensComment};
 ghost use Rattle.token.specs.paper.Records.{mostBytes, headLength, lineLength};
 ghost use Rattle.token.specs.code.Records.{storedIf};
 ghost use Rattle.token.specs.code.Form.{byForm, plainForm};
-ghost use Rattle.token.specs.code.ByteClass.{classAt, ByteClasses, blankClass, digitClass, lfClass, crClass, tickClass, keywordClass, upToBlank, isSign, inWord};
+ghost use Rattle.token.specs.code.ByteClass.{classAt, blankClass, digitClass, lfClass, crClass, tickClass, keywordClass, upToBlank, isSign, inWord};
 ghost use Rattle.token.specs.code.Names.{hereOf};
 ghost use Rattle.token.specs.code.Literal.{literalOf};
-ghost use Rattle.token.specs.code.Walk.{Lent, movedTo, plainBehind, valuesBehind, lineBehind, commentBehind, nameNumber, prefixEnd, operatorNumber, beginsName, Good, LeftTo, Opens, Steps};
+ghost use Rattle.token.specs.code.Walk.{movedTo, plainBehind, valuesBehind, lineBehind, commentBehind, nameNumber, prefixEnd, operatorNumber, beginsName, Good, LeftTo, Opens, Steps};
 
-use crate::byte_class::{
-    BACKTICK, BLANK, CR, DIGIT, LF, QUOTE, SLASH, TICK, asks_more, class_at, in_run, in_word,
-    is_op, is_sign, sign_head, starts_keyword, starts_word,
-};
+use crate::byte_class::Class;
 use crate::cursor::{Cursor, byte_at, skip_more};
 use crate::digits::Value;
 use crate::form::{put_head_if, put_int_if, put_line_if, put_long_if, put_plain_if, put_str_if};
@@ -36,13 +33,13 @@ const INT: usize = TokenKind::INT_LIT_LENGTH as usize;
 
 const LONG: usize = TokenKind::LONG_LIT_LENGTH as usize;
 
-// Where a walk stands, while no cut is set and none may come: its place with the class of its byte, the record bytes so far, and how many of them are
-// values. `line` and `mark` are what `bytes` was just behind the last line end and the last comment: these came since the last token exactly if it
-// is so still. So a token changes neither.
-#[derive(Clone, Copy)]
+/// Where a walk stands, while no cut is set and none may come: its place with the class of its byte, the record bytes so far, and how many of them are
+/// values. `line` and `mark` are what `bytes` was just behind the last line end and the last comment: these came since the last token exactly if it
+/// is so still. So a token changes neither.
+#[derive(Clone, Copy, Debug, PartialEq, Eq)]
 pub struct Walked {
     pub at: usize,
-    pub class: u8,
+    pub class: Class,
     pub bytes: usize,
     pub values: usize,
     pub line: usize,
@@ -56,10 +53,7 @@ fn at_place(x: Walked, to: Here) -> Walked
     Walked {
         at: to.at,
         class: to.class,
-        bytes: x.bytes,
-        values: x.values,
-        line: x.line,
-        mark: x.mark,
+        ..x
     }
 }
 
@@ -72,15 +66,15 @@ fn behind(x: Walked, end: Here) -> Walked
         at: end.at,
         class: end.class,
         bytes: x.bytes + HEAD,
-        values: x.values,
-        line: x.line,
-        mark: x.mark,
+        ..x
     }
 }
 
 // Behind a token with values, whose record has this length.
 fn behind_values(x: Walked, end: Here, length: usize) -> Walked
-    requires { (headLength ≤ length) × (x.bytes + length ≤ 18446744073709551615) × (x.values ≤ x.bytes) }
+    requires some { headLength ≤ length }
+    requires room { x.bytes + length ≤ 18446744073709551615 }
+    requires values { x.values ≤ x.bytes }
     ensures { result ≡ valuesBehind x end length }
 {
     Walked {
@@ -88,134 +82,153 @@ fn behind_values(x: Walked, end: Here, length: usize) -> Walked
         class: end.class,
         bytes: x.bytes + length,
         values: x.values + (length - HEAD),
-        line: x.line,
-        mark: x.mark,
+        ..x
     }
 }
 
 // Behind a line end.
-fn behind_line(s: &[u8], t: &[u8; 256], x: Walked, end: usize) -> Walked
-    requires { ByteClasses t.now × (x.bytes + lineLength ≤ 18446744073709551615) × (x.values ≤ x.bytes) }
+fn behind_line(s: &[u8], x: Walked, end: usize) -> Walked
+    requires room { x.bytes + lineLength ≤ 18446744073709551615 }
+    requires values { x.values ≤ x.bytes }
     ensures { result ≡ lineBehind s.now x end }
 {
     Walked {
         at: end,
-        class: class_at(s, t, end),
+        class: Class::at(s, end),
         bytes: x.bytes + LINE,
         values: x.values + (LINE - HEAD),
         line: x.bytes + LINE,
-        mark: x.mark,
+        ..x
     }
 }
 
 // Behind a comment that no cut comes of.
-fn behind_comment(s: &[u8], t: &[u8; 256], x: Walked, end: usize) -> Walked
-    requires { ByteClasses t.now }
+fn behind_comment(s: &[u8], x: Walked, end: usize) -> Walked
     ensures { result ≡ commentBehind s.now x end }
 {
     Walked {
         at: end,
-        class: class_at(s, t, end),
-        bytes: x.bytes,
-        values: x.values,
-        line: x.line,
+        class: Class::at(s, end),
         mark: x.bytes,
+        ..x
     }
 }
 
-// Each of the following is a step: past what stands there, with its record stored where it fits. Where it declines, it stays.
+// Each of the following is a step: past what stands there, with its record stored where it fits. One that can decline answers by None, and stores
+// nothing then.
 
 // Past the blank that stands there and those behind it. Most blanks stand alone.
-fn blank_step(s: &[u8], t: &[u8; 256], x: Walked) -> Walked
-    requires { Lent t.now s.now x × (eqb x.class blankClass ≡ true) }
-    ensures { ((out : List ℕ) → Steps s.now x out result out) × (x.at < result.at) }
+fn blank_step(s: &[u8], x: Walked) -> Walked
+    requires short { length s.now ≤ mostBytes }
+    requires good { Good s.now x }
+    requires blank { eqb x.class.number blankClass ≡ true }
+    ensures on { (out : List ℕ) → Steps s.now x out result out }
+    ensures further { x.at < result.at }
 {
-    let e = class_at(s, t, x.at + 1);
-    if e != BLANK {
+    let class = Class::at(s, x.at + 1);
+    if class != Class::BLANK {
         return at_place(
             x,
             Here {
                 at: x.at + 1,
-                class: e,
+                class,
             },
         );
     }
     let c = skip_more(s, x.at + 2);
-    at_place(x, here_at(s, t, c.at))
+    at_place(x, here_at(s, c.at))
 }
 
 // One of the nine signs.
-fn sign_step(out: &mut [u8], s: &[u8], t: &[u8; 256], x: Walked) -> Walked
-    requires { Lent t.now s.now x × (upToBlank x.class ≡ true) × (eqb x.class blankClass ≡ false) }
-    ensures { Steps s.now x out.old result out.new × (result.at ≡ x.at + 1) }
+fn sign_step(out: &mut [u8], s: &[u8], x: Walked) -> Walked
+    requires short { length s.now ≤ mostBytes }
+    requires good { Good s.now x }
+    requires sign { upToBlank x.class.number ≡ true }
+    requires no_blank { eqb x.class.number blankClass ≡ false }
+    ensures on { Steps s.now x out.old result out.new }
+    ensures further { result.at ≡ x.at + 1 }
 {
-    put_head_if(out, x.bytes, sign_head(x.class), x.at, x.at + 1);
-    behind(x, here_at(s, t, x.at + 1))
+    put_head_if(out, x.bytes, x.class.sign_head(), x.at, x.at + 1);
+    behind(x, here_at(s, x.at + 1))
 }
 
 // An LF.
-fn line_step(out: &mut [u8], s: &[u8], t: &[u8; 256], x: Walked) -> Walked
-    requires { Lent t.now s.now x × (eqb x.class lfClass ≡ true) }
-    ensures { Steps s.now x out.old result out.new × (result.at ≡ x.at + 1) }
+fn line_step(out: &mut [u8], s: &[u8], x: Walked) -> Walked
+    requires short { length s.now ≤ mostBytes }
+    requires good { Good s.now x }
+    requires lf { eqb x.class.number lfClass ≡ true }
+    ensures on { Steps s.now x out.old result out.new }
+    ensures further { result.at ≡ x.at + 1 }
 {
     put_line_if(out, x.bytes, x.at, x.at + 1, x.mark == x.bytes);
-    behind_line(s, t, x, x.at + 1)
+    behind_line(s, x, x.at + 1)
 }
 
 // CR LF.
-fn return_step(out: &mut [u8], s: &[u8], t: &[u8; 256], x: Walked) -> Walked
-    requires { Lent t.now s.now x × (eqb x.class crClass ≡ true) }
-    ensures { Steps s.now x out.old result out.new }
+fn return_step(out: &mut [u8], s: &[u8], x: Walked) -> Option<Walked>
+    requires short { length s.now ≤ mostBytes }
+    requires good { Good s.now x }
+    requires cr { eqb x.class.number crClass ≡ true }
+    ensures on { IfSome result (λ y. Steps s.now x out.old y out.new) }
+    ensures further { IfSome result (λ y. x.at < y.at) }
+    ensures kept { IfNone result (out.new ≡ out.old) }
 {
-    if byte_at(s, x.at + 1) != 0x0A {
-        return x;
+    if byte_at(s, x.at + 1) != b'\n' {
+        return None;
     }
     put_line_if(out, x.bytes, x.at, x.at + 2, x.mark == x.bytes);
-    behind_line(s, t, x, x.at + 2)
+    Some(behind_line(s, x, x.at + 2))
 }
 
 // A block comment. Where a line end of its gap came, a cut may come of it, unless a line end follows past blanks, which is then passed too.
-fn block_step(out: &mut [u8], s: &[u8], t: &[u8; 256], x: Walked) -> Walked
-    requires { Lent t.now s.now x × (opensBlock (from s.now x.at) ≡ true) }
-    ensures { Steps s.now x out.old result out.new }
+fn block_step(out: &mut [u8], s: &[u8], x: Walked) -> Option<Walked>
+    requires short { length s.now ≤ mostBytes }
+    requires good { Good s.now x }
+    requires opened { opensBlock (from s.now x.at) ≡ true }
+    ensures on { IfSome result (λ y. Steps s.now x out.old y out.new) }
+    ensures further { IfSome result (λ y. x.at < y.at) }
+    ensures kept { IfNone result (out.new ≡ out.old) }
 {
     let end = block_end(s, x.at);
     if end == x.at {
-        return x;
+        return None;
     }
     if x.line != x.bytes {
-        return behind_comment(s, t, x, end);
+        return Some(behind_comment(s, x, end));
     }
     let c = Cursor { at: end }.skip_blanks(s);
     let next = line_end_at(s, c.at);
     if next == c.at {
-        return x;
+        return None;
     }
     put_line_if(out, x.bytes, c.at, next, true);
-    behind_line(s, t, x, next)
+    Some(behind_line(s, x, next))
 }
 
 // A comment.
-fn comment_step(out: &mut [u8], s: &[u8], t: &[u8; 256], x: Walked) -> Walked
-    requires { Lent t.now s.now x × (opensComment (from s.now x.at) ≡ true) }
-    ensures { Steps s.now x out.old result out.new }
+fn comment_step(out: &mut [u8], s: &[u8], x: Walked) -> Option<Walked>
+    requires short { length s.now ≤ mostBytes }
+    requires good { Good s.now x }
+    requires opened { opensComment (from s.now x.at) ≡ true }
+    ensures on { IfSome result (λ y. Steps s.now x out.old y out.new) }
+    ensures further { IfSome result (λ y. x.at < y.at) }
+    ensures kept { IfNone result (out.new ≡ out.old) }
 {
-    if byte_at(s, x.at + 1) == 0x2F {
+    if byte_at(s, x.at + 1) == b'/' {
         let end = Cursor { at: x.at }.consume_line_comment(s);
-        return behind_comment(s, t, x, end.at);
+        return Some(behind_comment(s, x, end.at));
     }
-    block_step(out, s, t, x)
+    block_step(out, s, x)
 }
 
 // Does a comment begin with the byte of this class at a place?
-fn is_comment(s: &[u8], e: u8, at: usize) -> bool
-    requires { (at ≤ length s.now) × (e ≡ classAt s.now at) × (length s.now ≤ mostBytes) }
+fn is_comment(s: &[u8], class: Class, at: usize) -> bool
+    requires within { at ≤ length s.now }
+    requires class_is { class.number ≡ classAt s.now at }
+    requires short { length s.now ≤ mostBytes }
     ensures { result ≡ opensComment (from s.now at) }
 {
-    if e != SLASH {
-        return false;
-    }
-    opens_with(byte_at(s, at + 1))
+    class == Class::SLASH && opens_with(byte_at(s, at + 1))
 }
 
 // The kind's number of the operator from `at` to `end`: before a comment it is no keyword.
@@ -224,7 +237,7 @@ fn operator_number(s: &[u8], at: usize, end: Here) -> u16
     requires { LeftTo s.now at end.at }
     ensures { result ≡ operatorNumber s.now at end }
 {
-    if end.class == SLASH {
+    if end.class == Class::SLASH {
         return TokenKind::OP_ID;
     }
     run_number(s, at, end.at)
@@ -232,140 +245,172 @@ fn operator_number(s: &[u8], at: usize, end: Here) -> u16
 
 // Stores an operator's record, where it fits: its keyword is looked for there only.
 fn put_run_if(out: &mut [u8], s: &[u8], w: usize, at: usize, end: Here)
-    requires { LeftTo s.now at end.at × (w + headLength ≤ 18446744073709551615) }
+    requires left { LeftTo s.now at end.at }
+    requires room { w + headLength ≤ 18446744073709551615 }
     ensures { out.new ≡ storedIf out.old w (byForm (plainForm (operatorNumber s.now at end)) at end.at false) }
 {
     if w + HEAD <= out.len() {
         put_plain_if(out, w, operator_number(s, at, end), at, end.at);
-        return;
     }
 }
 
 // An operator.
-fn run_step(out: &mut [u8], s: &[u8], t: &[u8; 256], x: Walked) -> Walked
-    requires { Lent t.now s.now x × (isSign x.class ≡ true) × (opensComment (from s.now x.at) ≡ false) }
-    ensures { Steps s.now x out.old result out.new }
+fn run_step(out: &mut [u8], s: &[u8], x: Walked) -> Option<Walked>
+    requires short { length s.now ≤ mostBytes }
+    requires good { Good s.now x }
+    requires sign { isSign x.class.number ≡ true }
+    requires no_comment { opensComment (from s.now x.at) ≡ false }
+    ensures on { IfSome result (λ y. Steps s.now x out.old y out.new) }
+    ensures further { IfSome result (λ y. x.at < y.at) }
+    ensures kept { IfNone result (out.new ≡ out.old) }
 {
-    let end = operator_end(s, t, x.at, x.at + 1);
-    if end.at == x.at {
-        return x;
-    }
+    let end = operator_end(s, x.at + 1)?;
     put_run_if(out, s, x.bytes, x.at, end);
-    behind(x, end)
+    Some(behind(x, end))
 }
 
 // An operator, or a comment.
-fn op_step(out: &mut [u8], s: &[u8], t: &[u8; 256], x: Walked) -> Walked
-    requires { Lent t.now s.now x × (isSign x.class ≡ true) }
-    ensures { Steps s.now x out.old result out.new }
+fn op_step(out: &mut [u8], s: &[u8], x: Walked) -> Option<Walked>
+    requires short { length s.now ≤ mostBytes }
+    requires good { Good s.now x }
+    requires sign { isSign x.class.number ≡ true }
+    ensures on { IfSome result (λ y. Steps s.now x out.old y out.new) }
+    ensures further { IfSome result (λ y. x.at < y.at) }
+    ensures kept { IfNone result (out.new ≡ out.old) }
 {
     if is_comment(s, x.class, x.at) {
-        return comment_step(out, s, t, x);
+        return comment_step(out, s, x);
     }
-    run_step(out, s, t, x)
+    run_step(out, s, x)
 }
 
 // A number of one digit, as many are.
 fn digit_step(out: &mut [u8], s: &[u8], x: Walked, end: Here) -> Walked
-    requires { (length s.now ≤ mostBytes) × Good s.now x × (eqb x.class digitClass ≡ true) × (end ≡ hereOf s.now (x.at + 1)) × (inWord end.class ≡ false) }
-    ensures { Steps s.now x out.old result out.new }
+    requires short { length s.now ≤ mostBytes }
+    requires good { Good s.now x }
+    requires digit { eqb x.class.number digitClass ≡ true }
+    requires end_is { end ≡ hereOf s.now (x.at + 1) }
+    requires alone { inWord end.class.number ≡ false }
+    ensures on { Steps s.now x out.old result out.new }
+    ensures further { result.at ≡ x.at + 1 }
 {
     put_int_if(out, x.bytes, x.at, end.at, digit_value(s, x.at));
     behind_values(x, end, INT)
 }
 
 // A number that was read, as an IntLit. One that is too large is left.
-fn int_step(out: &mut [u8], s: &[u8], t: &[u8; 256], x: Walked, number: NumberLit) -> Walked
-    requires { Lent t.now s.now x × (eqb x.class digitClass ≡ true) × (number ≡ literalOf s.now x.at) × (number.long ≡ false) }
-    ensures { Steps s.now x out.old result out.new }
+fn int_step(out: &mut [u8], s: &[u8], x: Walked, number: NumberLit) -> Option<Walked>
+    requires short { length s.now ≤ mostBytes }
+    requires good { Good s.now x }
+    requires digit { eqb x.class.number digitClass ≡ true }
+    requires number_is { number ≡ literalOf s.now x.at }
+    requires int { number.long ≡ false }
+    ensures on { IfSome result (λ y. Steps s.now x out.old y out.new) }
+    ensures further { IfSome result (λ y. x.at < y.at) }
+    ensures kept { IfNone result (out.new ≡ out.old) }
 {
     if Value::INT_MOST < number.value {
-        return x;
+        return None;
     }
     put_int_if(out, x.bytes, x.at, number.end, number.value);
-    behind_values(x, here_at(s, t, number.end), INT)
+    Some(behind_values(x, here_at(s, number.end), INT))
 }
 
 // The same as a LongLit.
-fn long_step(out: &mut [u8], s: &[u8], t: &[u8; 256], x: Walked, number: NumberLit) -> Walked
-    requires { Lent t.now s.now x × (eqb x.class digitClass ≡ true) × (number ≡ literalOf s.now x.at) × (number.long ≡ true) }
-    ensures { Steps s.now x out.old result out.new }
+fn long_step(out: &mut [u8], s: &[u8], x: Walked, number: NumberLit) -> Option<Walked>
+    requires short { length s.now ≤ mostBytes }
+    requires good { Good s.now x }
+    requires digit { eqb x.class.number digitClass ≡ true }
+    requires number_is { number ≡ literalOf s.now x.at }
+    requires long { number.long ≡ true }
+    ensures on { IfSome result (λ y. Steps s.now x out.old y out.new) }
+    ensures further { IfSome result (λ y. x.at < y.at) }
+    ensures kept { IfNone result (out.new ≡ out.old) }
 {
     if Value::LONG_MOST < number.value {
-        return x;
+        return None;
     }
     put_long_if(out, x.bytes, x.at, number.end, number.value);
-    behind_values(x, here_at(s, t, number.end), LONG)
+    Some(behind_values(x, here_at(s, number.end), LONG))
 }
 
 // A number.
-fn number_step(out: &mut [u8], s: &[u8], t: &[u8; 256], x: Walked) -> Walked
-    requires { Lent t.now s.now x × (eqb x.class digitClass ≡ true) }
-    ensures { Steps s.now x out.old result out.new }
+fn number_step(out: &mut [u8], s: &[u8], x: Walked) -> Option<Walked>
+    requires short { length s.now ≤ mostBytes }
+    requires good { Good s.now x }
+    requires digit { eqb x.class.number digitClass ≡ true }
+    ensures on { IfSome result (λ y. Steps s.now x out.old y out.new) }
+    ensures further { IfSome result (λ y. x.at < y.at) }
+    ensures kept { IfNone result (out.new ≡ out.old) }
 {
-    let next = here_at(s, t, x.at + 1);
-    if !in_word(next.class) {
-        return digit_step(out, s, x, next);
+    let next = here_at(s, x.at + 1);
+    if !next.class.in_word() {
+        return Some(digit_step(out, s, x, next));
     }
     let number = literal_at(s, next.class, x.at);
     if number.long {
-        return long_step(out, s, t, x, number);
+        return long_step(out, s, x, number);
     }
-    int_step(out, s, t, x, number)
+    int_step(out, s, x, number)
 }
 
 // A character or a symbol.
-fn char_sym_step(out: &mut [u8], s: &[u8], t: &[u8; 256], x: Walked) -> Walked
-    requires { Lent t.now s.now x × (eqb x.class tickClass ≡ true) }
-    ensures { Steps s.now x out.old result out.new }
+fn char_sym_step(out: &mut [u8], s: &[u8], x: Walked) -> Option<Walked>
+    requires short { length s.now ≤ mostBytes }
+    requires good { Good s.now x }
+    requires tick { eqb x.class.number tickClass ≡ true }
+    ensures on { IfSome result (λ y. Steps s.now x out.old y out.new) }
+    ensures further { IfSome result (λ y. x.at < y.at) }
+    ensures kept { IfNone result (out.new ≡ out.old) }
 {
-    let end = char_sym_end(s, t, x.at);
-    if end == x.at {
-        return x;
-    }
+    let end = char_sym_end(s, x.at)?;
     put_plain_if(out, x.bytes, TokenKind::CHAR_SYM, x.at, end);
-    behind(x, here_at(s, t, end))
+    Some(behind(x, here_at(s, end)))
 }
 
-// The kind's number of the word or backtick from `at` to `end`, whose first byte has the class e.
+// The kind's number of the word or backtick from `at` to `end`, whose first byte has this class.
 #[tactic(auto, unfolding(crate::specs::code::Walk::nameNumber))]
-fn name_number(s: &[u8], e: u8, at: usize, end: usize) -> u16
-    requires { eqb e keywordClass ≡ true → LeftTo s.now at end }
-    ensures { result ≡ nameNumber s.now e at end }
+fn name_number(s: &[u8], class: Class, at: usize, end: usize) -> u16
+    requires { eqb class.number keywordClass ≡ true → LeftTo s.now at end }
+    ensures { result ≡ nameNumber s.now class.number at end }
 {
-    if starts_keyword(e) {
+    if class == Class::KEYWORD {
         return word_number(s, at, end);
     }
-    if e == BACKTICK {
+    if class == Class::BACKTICK {
         return TokenKind::BACKTICK_ID;
     }
     TokenKind::IDENT
 }
 
 // Stores a word's record, where it fits: its keyword is looked for there only.
-fn put_word_if(out: &mut [u8], s: &[u8], e: u8, w: usize, at: usize, end: usize)
-    requires { (eqb e keywordClass ≡ true → LeftTo s.now at end) × (w + headLength ≤ 18446744073709551615) }
-    ensures { out.new ≡ storedIf out.old w (byForm (plainForm (nameNumber s.now e at end)) at end false) }
+fn put_word_if(out: &mut [u8], s: &[u8], class: Class, w: usize, at: usize, end: usize)
+    requires left { eqb class.number keywordClass ≡ true → LeftTo s.now at end }
+    requires room { w + headLength ≤ 18446744073709551615 }
+    ensures { out.new ≡ storedIf out.old w (byForm (plainForm (nameNumber s.now class.number at end)) at end false) }
 {
     if w + HEAD <= out.len() {
-        put_plain_if(out, w, name_number(s, e, at, end), at, end);
-        return;
+        put_plain_if(out, w, name_number(s, class, at, end), at, end);
     }
 }
 
-// Where the identifier or backtick ends that begins there with a byte of the class e; of a quote, where it stands.
+// Where the identifier or backtick ends that begins there with a byte of this class; of a quote, where it stands.
 #[tactic(auto, unfolding(crate::specs::code::Walk::prefixEnd))]
-fn prefix_end(s: &[u8], t: &[u8; 256], e: u8, at: usize) -> Here
-    requires { ByteClasses t.now × (at < length s.now) × (length s.now ≤ mostBytes) × (e ≡ classAt s.now at) × (beginsName e ≡ true) }
-    ensures { result ≡ prefixEnd s.now e at }
+fn prefix_end(s: &[u8], class: Class, at: usize) -> Option<Here>
+    requires within { at < length s.now }
+    requires short { length s.now ≤ mostBytes }
+    requires class_is { class.number ≡ classAt s.now at }
+    requires begins { beginsName class.number ≡ true }
+    ensures { result ≡ prefixEnd s.now class.number at }
 {
-    if e == QUOTE {
-        return Here { at: at, class: e };
+    if class == Class::QUOTE {
+        return Some(Here { at, class });
     }
-    if e == BACKTICK {
-        return here_at(s, t, backtick_end(s, at));
+    if class == Class::BACKTICK {
+        let end = backtick_end(s, at)?;
+        return Some(here_at(s, end));
     }
-    name_end(s, t, at, word_end(s, t, at + 1))
+    name_end(s, at, word_end(s, at + 1))
 }
 
 // How far the content of a string stands from its start and its end: a prefixed one's is all its text.
@@ -376,105 +421,101 @@ fn content_off(prefixed: bool, quotes: usize) -> usize
 }
 
 // A string whose opening stands at `mark`, plain or prefixed by what stands before it.
-fn string_step(out: &mut [u8], s: &[u8], t: &[u8; 256], x: Walked, mark: usize) -> Walked
-    requires { Lent t.now s.now x × Opens s.now x mark }
-    ensures { Steps s.now x out.old result out.new }
+fn string_step(out: &mut [u8], s: &[u8], x: Walked, mark: usize) -> Option<Walked>
+    requires short { length s.now ≤ mostBytes }
+    requires good { Good s.now x }
+    requires opened { Opens s.now x mark }
+    ensures on { IfSome result (λ y. Steps s.now x out.old y out.new) }
+    ensures further { IfSome result (λ y. x.at < y.at) }
+    ensures kept { IfNone result (out.new ≡ out.old) }
 {
     let prefixed = x.at < mark;
-    let string = string_at(s, t, mark, prefixed);
-    if string.end == mark {
-        return x;
-    }
+    let string = string_at(s, mark, prefixed)?;
     let off = content_off(prefixed, string.quotes);
     put_str_if(out, x.bytes, x.at, string.end, x.at + off, string.end - off);
-    behind_values(x, here_at(s, t, string.end), TEXT)
+    Some(behind_values(x, here_at(s, string.end), TEXT))
 }
 
 // An identifier, keyword or backtick, or a string, prefixed by one or plain.
-fn name_step(out: &mut [u8], s: &[u8], t: &[u8; 256], x: Walked) -> Walked
-    requires { Lent t.now s.now x × (beginsName x.class ≡ true) }
-    ensures { Steps s.now x out.old result out.new }
+fn name_step(out: &mut [u8], s: &[u8], x: Walked) -> Option<Walked>
+    requires short { length s.now ≤ mostBytes }
+    requires good { Good s.now x }
+    requires begins { beginsName x.class.number ≡ true }
+    ensures on { IfSome result (λ y. Steps s.now x out.old y out.new) }
+    ensures further { IfSome result (λ y. x.at < y.at) }
+    ensures kept { IfNone result (out.new ≡ out.old) }
 {
-    let end = prefix_end(s, t, x.class, x.at);
+    let end = prefix_end(s, x.class, x.at)?;
     let number = name_number(s, x.class, x.at, end.at);
-    if (end.class == QUOTE) & (number <= TokenKind::BACKTICK_ID) {
-        return string_step(out, s, t, x, end.at);
-    }
-    if end.at == x.at {
-        return x;
+    if end.class == Class::QUOTE && number <= TokenKind::BACKTICK_ID {
+        return string_step(out, s, x, end.at);
     }
     put_plain_if(out, x.bytes, number, x.at, end.at);
-    behind(x, end)
+    Some(behind(x, end))
 }
 
 // An id start, a backtick or a quote?
-fn begins_name(e: u8) -> bool
-    ensures { result ≡ beginsName e }
+fn begins_name(class: Class) -> bool
+    ensures { result ≡ beginsName class.number }
 {
-    if e == BACKTICK {
-        return true;
-    }
-    if e == QUOTE {
-        return true;
-    }
-    if is_sign(e) {
-        return false;
-    }
-    starts_word(e)
+    class == Class::BACKTICK || class == Class::QUOTE || !class.is_sign() && class.starts_word()
 }
 
 // The others, each by its class; and words and operators again, of which the byte behind them makes more.
-fn other_step(out: &mut [u8], s: &[u8], t: &[u8; 256], x: Walked) -> Walked
-    requires { Lent t.now s.now x }
-    ensures { Steps s.now x out.old result out.new }
+fn other_step(out: &mut [u8], s: &[u8], x: Walked) -> Option<Walked>
+    requires short { length s.now ≤ mostBytes }
+    requires good { Good s.now x }
+    ensures on { IfSome result (λ y. Steps s.now x out.old y out.new) }
+    ensures further { IfSome result (λ y. x.at < y.at) }
+    ensures kept { IfNone result (out.new ≡ out.old) }
 {
-    if is_op(x.class) {
-        return op_step(out, s, t, x);
+    if x.class.is_op() {
+        return op_step(out, s, x);
     }
-    if x.class == CR {
-        return return_step(out, s, t, x);
+    if x.class == Class::CR {
+        return return_step(out, s, x);
     }
-    if x.class == TICK {
-        return char_sym_step(out, s, t, x);
+    if x.class == Class::TICK {
+        return char_sym_step(out, s, x);
     }
     if begins_name(x.class) {
-        return name_step(out, s, t, x);
+        return name_step(out, s, x);
     }
-    x
+    None
 }
 
 // As far as blanks, signs, words, LFs, runs of operator signs and numbers stand there of which no byte behind them makes more, as most pieces are.
-fn walk_words(out: &mut [u8], s: &[u8], t: &[u8; 256], start: Walked) -> Walked
-    requires { Lent t.now s.now start }
+fn walk_words(out: &mut [u8], s: &[u8], start: Walked) -> Walked
+    requires short { length s.now ≤ mostBytes }
+    requires good { Good s.now start }
     ensures { Steps s.now start out.old result out.new }
 {
     let mut x = start;
     loop {
-        if x.class == BLANK {
-            x = blank_step(s, t, x);
-        } else if is_sign(x.class) {
-            x = sign_step(out, s, t, x);
-        } else if starts_word(x.class) {
-            let end = word_end(s, t, x.at + 1);
-            if asks_more(end.class) {
+        if x.class == Class::BLANK {
+            x = blank_step(s, x);
+        } else if x.class.is_sign() {
+            x = sign_step(out, s, x);
+        } else if x.class.starts_word() {
+            let end = word_end(s, x.at + 1);
+            if end.class.asks_more() {
                 return x;
             }
             put_word_if(out, s, x.class, x.bytes, x.at, end.at);
             x = behind(x, end);
-        } else if x.class == LF {
-            x = line_step(out, s, t, x);
-        } else if in_run(x.class) {
-            let end = run_end(s, t, x.at + 1);
-            if asks_more(end.class) {
+        } else if x.class == Class::LF {
+            x = line_step(out, s, x);
+        } else if x.class.in_run() {
+            let end = run_end(s, x.at + 1);
+            if end.class.asks_more() {
                 return x;
             }
             put_run_if(out, s, x.bytes, x.at, end);
             x = behind(x, end);
-        } else if x.class == DIGIT {
-            let y = number_step(out, s, t, x);
-            if y.at == x.at {
-                return y;
-            }
+        } else if x.class == Class::DIGIT {
+            let Some(y) = number_step(out, s, x) else {
+                return x;
+            };
             x = y;
         } else {
             return x;
@@ -482,18 +523,18 @@ fn walk_words(out: &mut [u8], s: &[u8], t: &[u8; 256], start: Walked) -> Walked
     }
 }
 
-// The same, and between them every other piece that is recognised from its bytes.
-pub fn walk_pieces(out: &mut [u8], s: &[u8], t: &[u8; 256], start: Walked) -> Walked
-    requires { Lent t.now s.now start }
+/// The same, and between them every other piece that is recognised from its bytes.
+pub fn walk_pieces(out: &mut [u8], s: &[u8], start: Walked) -> Walked
+    requires short { length s.now ≤ mostBytes }
+    requires good { Good s.now start }
     ensures { Steps s.now start out.old result out.new }
 {
     let mut x = start;
     loop {
-        let y = walk_words(out, s, t, x);
-        let z = other_step(out, s, t, y);
-        if z.at == y.at {
-            return z;
-        }
+        let y = walk_words(out, s, x);
+        let Some(z) = other_step(out, s, y) else {
+            return y;
+        };
         x = z;
     }
 }

@@ -17,7 +17,7 @@ use Rattle.chars.proofs.theorems.Promises.{code_laws, class-laws}
 use Rattle.token.proofs.Classes.{byte-sign}
 use Rattle.token.specs.computed.Answer.{signOf}
 use Rattle.token.specs.code.Ascii.{signNumber}
-use Rattle.token.specs.code.ByteClass.{classOf, ByteClasses, blankClass, crClass, tickClass, backtickClass, lfClass, digitClass, keywordClass, quoteClass, wideClass, slashClass, upToBlank, startsWord, inWord, isSign, inRun, isOrdinary}
+use Rattle.token.specs.code.ByteClass.{classOf, blankClass, crClass, tickClass, backtickClass, lfClass, digitClass, keywordClass, quoteClass, wideClass, slashClass, upToBlank, startsWord, inWord, isSign, inRun, isOrdinary}
 open code_laws use {agree, carry, carry-span, no-member, every-sub}
 open class-laws use {byte-id, byte-start}
 
@@ -35,8 +35,8 @@ check-at p a (x ∷ t) (suc i) b q e h = check-at p (suc a) t i b (omega arith) 
 abbrev isTable : List ℕ → Bool
 isTable t = checks (λ b x. eqb x (classOf b)) 0 t
 
-pub classes : (t : List ℕ) → length t ≡ 256 → isTable t ≡ true → ByteClasses t
-classes t n e = record { each = λ b h. eqb-true (get_or t b 0) (classOf b) (check-at (λ b x. eqb x (classOf b)) 0 t b b (omega arith) e (omega arith)) }
+pub classes : (t : List ℕ) → length t ≡ 256 → isTable t ≡ true → (b : ℕ) → b < 256 → get_or t b 0 ≡ classOf b
+classes t n e b h = eqb-true (get_or t b 0) (classOf b) (check-at (λ b x. eqb x (classOf b)) 0 t b b (omega arith) e (omega arith))
 
 -- ---- a test of a class is a test of the byte: computed at each code of ASCII, and at the one class past it
 

@@ -1,14 +1,15 @@
 -- Numbers read from their bytes: digits are counted, so that no value is tested on the way.
 use Prim.Native.Nat.{ℕ, suc, ◌+◌, ◌*◌, ◌-◌, ◌%◌, ◌^◌, ◌≤◌, ◌<◌}
 use mathlib.Core.Path.{◌≡◌, refl, sym, ◌∙◌, ap}
-use mathlib.Core.Bool.{Bool, true, false, cond, not, ◌&&◌, ◌||◌}
+use mathlib.Core.Bool.{Bool, true, false, cond, not, ◌&&◌}
 use mathlib.Core.Logic.{◌⊎◌, inl, inr}
 use mathlib.Core.List.{List}
+use Rattle.std.specs.Prelude.{min}
 use lib.ListN.{length, get_or}
-use lib.Dec.{eqb, leb, ltb}
+use lib.Dec.{eqb, leb}
 use native.Mathlib.Nat.{add-mul, mul-le-mul_right, pow-suc, pow-le-pow_right}
 use native.Mathlib.Omega.{arith}
-use borrow.Author.Tests.{ltb-true, ltb-false, leb-true, le-leb, lt-leb, eq-eqb, eqb-true}
+use borrow.Author.Tests.{ltb-true, leb-true, le-leb, lt-leb, eq-eqb, eqb-true}
 use Rattle.chars.specs.paper.Quoted.{between, codes, oneOf}
 use Rattle.chars.specs.paper.Text.{from, place, headIs}
 use Rattle.chars.specs.computed.Runs.{afterRun}
@@ -22,13 +23,13 @@ use Rattle.token.specs.code.ByteClass.{classOf, classAt, digitClass, inWord}
 use Rattle.token.specs.code.Cursor.{cursorAt}
 use Rattle.token.specs.code.Piece.{pieceOf, tokenTo}
 use Rattle.token.specs.code.Digits.{digitIn, digitOf, intOr}
-use Rattle.token.specs.code.Literal.{lesser, numberLit, literalEnd, goesOn, endingBy, literalIn, fullEnd, literalOf}
+use Rattle.token.specs.code.Literal.{Untested, numberLit, literalEnd, goesOn, endingBy, literalIn, fullEnd, literalOf}
 use Rattle.token.specs.declared.kinds.TokenKind.{TokenKind}
 use Rattle.token.specs.declared.kinds.TokenKind.TheVariants as tk
 use Rattle.token.specs.declared.literal.NumberLit.{NumberLit}
 use Rattle.token.proofs.byte_class.Laws.{class-digit}
 use Rattle.token.proofs.cursor.Bytes.{any-byte, ascii-list}
-use Rattle.token.proofs.digits.Laws.{digits-ascii, class-at, digit-value, digit_under, digit-stops, base-some, read-next, read-stop, hex_bytes, hex-number, dec-number, long-piece, int-piece}
+use Rattle.token.proofs.digits.Laws.{digits-ascii, class-at, digit-value, digit_under, digit-taken, digit-stops, base-some, read-next, read-stop, hex_bytes, hex-number, dec-number, long-piece, int-piece}
 use Rattle.token.proofs.lexer.Laws.{number_at}
 use Rattle.token.proofs.theorems.Numbers.{valueAfter, digitsOf, read-is}
 open code_laws use {carry-not, carry-span, no-member, in-between, between-in, between-out}
@@ -37,20 +38,12 @@ open text-laws use {place-from, run-place}
 -- ---- the lesser of two
 
 -- what lies below it lies below both
-pub below : (r a b i : ℕ) → r ≡ lesser a b → i < r → (i < a) × (i < b)
-below r a b i e h = go (ltb a b) refl e
-  where
-    go : (t : Bool) → ltb a b ≡ t → r ≡ cond t a b → (i < a) × (i < b)
-    go true q e = let k = ltb-true a b q in (omega arith, omega arith)
-    go false q e = let k = ltb-false a b q in (omega arith, omega arith)
+pub below : (r a b i : ℕ) → r ≡ min a b → i < r → (i < a) × (i < b)
+below r a b i e h = (omega arith, omega arith)
 
 -- what does not, and lies below the first and not above the second, is the second
-at-lesser : (r a b i : ℕ) → r ≡ lesser a b → r ≤ i → i < a → i ≤ b → i ≡ b
-at-lesser r a b i e h k l = go (ltb a b) e
-  where
-    go : (t : Bool) → r ≡ cond t a b → i ≡ b
-    go true e = absurd (omega arith)
-    go false e = omega arith
+at-lesser : (r a b i : ℕ) → r ≡ min a b → r ≤ i → i < a → i ≤ b → i ≡ b
+at-lesser r a b i e h k l = omega arith
 
 -- ---- one digit
 
@@ -66,17 +59,6 @@ value-under base b h e =
     let l = ltb-true (digitOf b) base (digit_under base b h ∙ e) in
     omega arith
 
-pub hex-taken : (s : List ℕ) (i d : ℕ) → d ≡ digitOf (get_or s i 0) → (d ≡ 16 → ⊥) → Taken 16 s i d
-unfolding digitOf
-hex-taken s i d e n = go (digitIn 16 (get_or s i 0)) refl e
-  where
-    go : (t : Bool) → digitIn 16 (get_or s i 0) ≡ t → d ≡ cond t (digitValue (get_or s i 0)) 16 → Taken 16 s i d
-    go true q e = record { digit = q; value = e }
-    go false q e = absurd (n e)
-
-pub hex-stops : (s : List ℕ) (i d : ℕ) → d ≡ digitOf (get_or s i 0) → d ≡ 16 → digitIn 16 (get_or s i 0) ≡ false
-hex-stops s i d e q = digit-stops 16 (get_or s i 0) (inr refl) (omega arith)
-
 -- of a digit of base 10 the value is the byte's low half
 digits-low : every (λ b. eqb (b % 16) (digitValue b)) (span 0x30 10) ≡ true
 digits-low = refl
@@ -87,31 +69,24 @@ low-value b e =
     let k = in-between 0x30 0x39 b e in
     eqb-true (b % 16) (digitValue b) (carry-span (λ b. eqb (b % 16) (digitValue b)) 0x30 10 b digits-low k.0 (omega arith))
 
-module _ (s : List ℕ) (i b : ℕ) (e : b ≡ get_or s i 0) where
-  pub dec-taken : ltb b 0x30 || ltb 0x39 b ≡ false → Taken 10 s i (b % 16)
-  unfolding digitIn isDigit
-  dec-taken q =
-      let n = or-neither (ltb b 0x30) (ltb 0x39 b) q in
-      let k = ltb-false b 0x30 n.0 in
-      let l = ltb-false 0x39 b n.1 in
-      let d = between-in 0x30 0x39 (get_or s i 0) (omega arith) (omega arith) in
-      record { digit = d; value = ap (λ x. x % 16) e ∙ low-value (get_or s i 0) d }
-
-  pub dec-stops : ltb b 0x30 || ltb 0x39 b ≡ true → digitIn 10 (get_or s i 0) ≡ false
-  unfolding digitIn isDigit
-  dec-stops q = go (ltb b 0x30) (ltb 0x39 b) refl refl q
-    where
-      go : (x y : Bool) → ltb b 0x30 ≡ x → ltb 0x39 b ≡ y → x || y ≡ true → between 0x30 0x39 (get_or s i 0) ≡ false
-      go true y f g q = let k = ltb-true b 0x30 f in between-out 0x30 0x39 (get_or s i 0) (λ l. absurd (omega arith))
-      go false true f g q = let k = ltb-true 0x39 b g in between-out 0x30 0x39 (get_or s i 0) (λ l. omega arith)
-      go false false f g q = clash q
-
 -- 16 digits of base 16, and 19 of base 10, need no test
-pub hex-room : 16 ^ 16 ≤ 18446744073709551616
+hex-room : 16 ^ 16 ≤ 18446744073709551616
 hex-room = leb-true (16 ^ 16) 18446744073709551616 refl
 
-pub dec-room : 10 ^ 19 ≤ 18446744073709551616
+dec-room : 10 ^ 19 ≤ 18446744073709551616
 dec-room = leb-true (10 ^ 19) 18446744073709551616 refl
+
+pub base-is : {base most : ℕ} → Untested base most → (base ≡ 10) ⊎ (base ≡ 16)
+base-is (inl x) = inl x.0
+base-is (inr x) = inr x.0
+
+pub most-few : {base most : ℕ} → Untested base most → most ≤ 19
+most-few (inl x) = omega (arith, x.1)
+most-few (inr x) = omega (arith, x.1)
+
+room : (base most : ℕ) → Untested base most → base ^ most ≤ 18446744073709551616
+room base most (inl x) = rw (x.0, x.1) dec-room
+room base most (inr x) = rw (x.0, x.1) hex-room
 
 -- ---- where digits end
 
@@ -210,7 +185,7 @@ module _ (base most : ℕ) (h : (base ≡ 10) ⊎ (base ≡ 16)) (s : List ℕ) 
           ap goesOn e ∙ sym f ∙ ap (endingBy (length s) (start + most)) (x.same ∙ r.same)
 
   -- as many digits as are read, or the end of script
-  pub digits-full : (stop m : ℕ) → stop ≡ lesser (length s) m → m ≡ start + most → stop ≤ i → fullEnd base s v i ≡ literalIn base most s start
+  pub digits-full : (stop m : ℕ) → stop ≡ min (length s) m → m ≡ start + most → stop ≤ i → fullEnd base s v i ≡ literalIn base most s start
   unfolding fullEnd
   digits-full stop m e n k = go (digitIn base (get_or s i 0)) refl
     where
@@ -227,25 +202,18 @@ pub record Onward (base most : ℕ) (s : List ℕ) (start i v d : ℕ) : Type 0 
   pub fits : v * base + d < 18446744073709551616
   pub on : DigitsTo base most s start (i + 1) (v * base + d)
 
-module _ (s : List ℕ) (start i v stop m : ℕ) where
-  pub hex-turn : DigitsTo 16 16 s start i v → stop ≡ lesser (length s) m → m ≤ start + 16 → i < stop
-      → (d : ℕ) → d ≡ digitOf (get_or s i 0) → (d ≡ 16 → ⊥) → Onward 16 16 s start i v d
-  hex-turn r q n l d e f =
-      let k : i < start + 16 = omega (arith, below stop (length s) m i q l) in
-      let t = hex-taken s i d e f in
-      record {
-        fits = digits-fit 16 16 (inr refl) s start i v r d k t 18446744073709551616 hex-room;
-        on = digits-on 16 16 (inr refl) s start i v r d k t;
-      }
+module _ (base most : ℕ) (h : Untested base most) (s : List ℕ) (i d : ℕ) (e : d ≡ digitOf (get_or s i 0)) where
+  pub no-digit : base ≤ d → digitIn base (get_or s i 0) ≡ false
+  no-digit l = digit-stops base (get_or s i 0) (base-is h) (omega arith)
 
-  pub dec-turn : DigitsTo 10 19 s start i v → stop ≡ lesser (length s) m → m ≤ start + 19 → i < stop
-      → (b : ℕ) → b ≡ get_or s i 0 → ltb b 0x30 || ltb 0x39 b ≡ false → Onward 10 19 s start i v (b % 16)
-  dec-turn r q n l b e f =
-      let k : i < start + 19 = omega (arith, below stop (length s) m i q l) in
-      let t = dec-taken s i b e f in
+  pub turn : (start v stop m : ℕ) → DigitsTo base most s start i v → stop ≡ min (length s) m → m ≤ start + most → i < stop → d < base → Onward base most s start i v d
+  turn start v stop m r q n l k =
+      let j : i < start + most = omega (arith, below stop (length s) m i q l) in
+      let f = digit-taken base (get_or s i 0) (base-is h) (omega arith) in
+      let t : Taken base s i d = record { digit = f; value = e ∙ digit-value (get_or s i 0) base f } in
       record {
-        fits = digits-fit 10 19 (inl refl) s start i v r (b % 16) k t 18446744073709551616 dec-room;
-        on = digits-on 10 19 (inl refl) s start i v r (b % 16) k t;
+        fits = digits-fit base most (base-is h) s start i v r d j t 18446744073709551616 (room base most h);
+        on = digits-on base most (base-is h) s start i v r d j t;
       }
 
 -- ---- the number's end

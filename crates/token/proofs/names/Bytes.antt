@@ -4,6 +4,8 @@ use mathlib.Core.Path.{◌≡◌, refl, sym, ◌∙◌, ap}
 use mathlib.Core.Bool.{Bool, true, false, cond, not, ◌&&◌, ◌||◌, or-false}
 use mathlib.Core.List.{List}
 use native.Mathlib.Omega.{arith}
+use Rattle.std.specs.Prelude.{Some, None}
+use Rattle.std.proofs.lemmas.Option.{same_Some, none-some}
 use lib.ListN.{length, get_or, get_or-eq_default}
 use lib.Dec.{eqb, ltb}
 use borrow.Author.Tests.{ltb-true, ltb-false, ne_eqb}
@@ -13,7 +15,7 @@ use Rattle.token.specs.computed.Answer.{signOf}
 use Rattle.token.specs.code.Ascii.{signNumber}
 use Rattle.token.specs.code.Loops.{stepsWhile}
 use Rattle.token.specs.code.ByteClass.{classOf, classAt, otherClass, wideClass, slashClass, inWord, inRun}
-use Rattle.token.specs.code.Names.{hereOf, declined, bytesTo, runTo, freeAt, nameTo, nameEnd, operatorTo, operatorFrom}
+use Rattle.token.specs.code.Names.{hereOf, narrowHere, bytesTo, runTo, freeAt, nameTo, nameEnd, operatorTo, operatorFrom}
 use Rattle.token.specs.declared.names.Here.{Here}
 use Rattle.token.proofs.Loops.{Going, going-on, going-stop, steps-keep}
 
@@ -125,32 +127,44 @@ module _ (s : List ℕ) (start : ℕ) (end : Here) (q : end ≡ hereOf s (runTo 
 -- r is the end e with its class, and no character past ASCII stands there
 pub record Stops (s : List ℕ) (e : ℕ) (r : Here) : Type 0 where
   pub place : r.at ≡ e
-  pub class-is : r.class ≡ classAt s r.at
+  pub class-is : r.class.number ≡ classAt s r.at
   pub narrow : eqb (classAt s r.at) wideClass ≡ false
 
--- an answer that does not decline: at another place than the start, or of another class
-pub moved : (start : ℕ) (r : Here) → (r.at ≡ start → ⊥) → r ≡ declined start → ⊥
-moved start r n q = n (ap (λ (x : Here). x.at) q)
-
-pub classed : (start : ℕ) (r : Here) → (r.class ≡ wideClass → ⊥) → r ≡ declined start → ⊥
-classed start r n q = n (ap (λ (x : Here). x.class) q)
-
-stops : (s : List ℕ) (start e : ℕ) (r : Here) (b : Bool) → eqb (classAt s e) wideClass ≡ b → r ≡ cond b (declined start) (hereOf s e) → (r ≡ declined start → ⊥)
-    → Stops s e r
-stops s start e r true w q n = absurd (n q)
-stops s start e r false w q n =
-    let p : r.at ≡ e = ap (λ (x : Here). x.at) q in
+stops : (s : List ℕ) (e : ℕ) (r : Here) (b : Bool) → eqb (classAt s e) wideClass ≡ b → Some r ≡ cond b None (Some (hereOf s e)) → Stops s e r
+stops s e r true w q = absurd (none-some r (sym q))
+stops s e r false w q =
+    let h : r ≡ hereOf s e = same_Some r (hereOf s e) q in
+    let p : r.at ≡ e = ap (λ (x : Here). x.at) h in
     record {
       place = p;
-      class-is = ap (λ (x : Here). x.class) q ∙ ap (classAt s) (sym p);
+      class-is = ap (λ (x : Here). x.class.number) h ∙ ap (classAt s) (sym p);
       narrow = ap (λ x. eqb (classAt s x) wideClass) p ∙ w;
     }
 
-module _ (s : List ℕ) (start : ℕ) (r : Here) where
-  pub name-stops : r ≡ nameEnd s start → (r ≡ declined start → ⊥) → Stops s (nameTo s start) r
+module _ (s : List ℕ) (r : Here) where
+  pub name-stops : (start : ℕ) → Some r ≡ nameEnd s start → Stops s (nameTo s start) r
   unfolding nameEnd
-  name-stops q n = stops s start (nameTo s start) r _ refl q n
+  name-stops start q = stops s (nameTo s start) r _ refl q
 
-  pub operator-stops : (from : ℕ) → r ≡ operatorFrom s start from → (r ≡ declined start → ⊥) → Stops s (operatorTo s from) r
+  pub operator-stops : (from : ℕ) → Some r ≡ operatorFrom s from → Stops s (operatorTo s from) r
   unfolding operatorFrom
-  operator-stops from q n = stops s start (operatorTo s from) r _ refl q n
+  operator-stops from q = stops s (operatorTo s from) r _ refl q
+
+-- where the free signs end
+module _ (s : List ℕ) (from i : ℕ) (q : i ≡ operatorTo s from) (r : Here) (e : r ≡ hereOf s i) where
+  told : eqb (classAt s i) wideClass ≡ eqb r.class.number wideClass
+  told = ap (λ (x : Here). eqb x.class.number wideClass) (sym e)
+
+  pub operator-some : eqb r.class.number wideClass ≡ false → Some r ≡ operatorFrom s from
+  unfolding operatorFrom
+  operator-some w =
+      let n = told ∙ w in
+      let z : narrowHere s i ≡ Some (hereOf s i) = rw n in
+      ap Some e ∙ sym z ∙ ap (narrowHere s) q
+
+  pub operator-none : eqb r.class.number wideClass ≡ true → None ≡ operatorFrom s from
+  unfolding operatorFrom
+  operator-none w =
+      let n = told ∙ w in
+      let z : narrowHere s i ≡ None = rw n in
+      sym z ∙ ap (narrowHere s) q

@@ -4,6 +4,8 @@ use mathlib.Core.Path.{◌≡◌, refl, sym, ◌∙◌, ap}
 use mathlib.Core.Bool.{Bool, true, false, cond, ◌&&◌}
 use mathlib.Core.Logic.{◌⊎◌, inl, inr, ⊎_elim}
 use mathlib.Core.List.{List, [], ◌∷◌}
+use Rattle.std.specs.Prelude.{Option, Some, None}
+use Rattle.std.proofs.lemmas.Option.{same_Some, none-some}
 use lib.ListN.{length, drop, get_or, get_or-eq_default}
 use lib.Dec.{eqb, ltb}
 use native.Mathlib.Omega.{arith}
@@ -20,7 +22,7 @@ use Rattle.token.specs.computed.Answer.{Closing, closed, wrong, closeTriple, clo
 use Rattle.token.specs.code.Cursor.{cursorAt}
 use Rattle.token.specs.code.Piece.{pieceOf, tokenTo}
 use Rattle.token.specs.code.String.{endedOf, closeSingle, endAt}
-use Rattle.token.specs.code.Quoted.{closedTo, stringOf, tickedTo, backtickEnd}
+use Rattle.token.specs.code.Quoted.{closedTo, openedBy, stringOf, tickedTo, backtickEnd}
 use Rattle.token.specs.declared.quoted.Quoted.{Quoted}
 use Rattle.token.specs.declared.kinds.TokenKind.{TokenKind}
 use Rattle.token.specs.declared.kinds.TokenKind.TheVariants as tk
@@ -208,68 +210,27 @@ triple-plain (c ∷ t) r e = go (threeQuotes (c ∷ t)) (backslash (c ∷ t)) (d
 
 -- ---- the string whose first quote stands at a place
 
-module _ (s : List ℕ) (at : ℕ) where
-  closed-some : (w : Closing) → (closedTo s at w ≡ at → ⊥) → (q : Text) × (w ≡ closed q) × (closedTo s at w ≡ place (length s) q)
-  unfolding closedTo
-  closed-some (closed q) n = (q, refl, refl)
-  closed-some (wrong j q) n = absurd (n refl)
+closed-some : (s : List ℕ) (w : Closing) (e : ℕ) → Some e ≡ closedTo s w → (q : Text) × (w ≡ closed q) × (e ≡ place (length s) q)
+unfolding closedTo
+closed-some s (closed q) e z = (q, refl, same_Some e (place (length s) q) z)
+closed-some s (wrong j q) e z = absurd (none-some e (sym z))
 
-  -- a string that ends past b has this end, and one that does not is refused
-  moved : (b : ℕ) (w : Closing) (e : ℕ) → e ≡ closedTo s b w → (e ≡ b → ⊥) → e ≡ closedTo s at w
-  unfolding closedTo
-  moved b (closed q) e z n = z
-  moved b (wrong j q) e z n = absurd (n z)
+opened-some : (n : ℕ) (o : Option ℕ) (r : Quoted) → openedBy n o ≡ Some r → (e : ℕ) × (Some e ≡ o) × (record { end = e; quotes = n } ≡ r)
+opened-some n None r z = absurd (none-some r z)
+opened-some n (Some e) r z = (e, refl, same_Some (record { end = e; quotes = n }) r z)
 
-  unmoved : (b : ℕ) (w : Closing) → ((q : Text) → w ≡ closed q → b < place (length s) q) → (e : ℕ) → e ≡ closedTo s b w → e ≡ b → at ≡ closedTo s at w
-  unfolding closedTo
-  unmoved b (closed q) l e z y = let h = l q refl in absurd (omega arith)
-  unmoved b (wrong j q) l e z y = refl
+module _ (s : List ℕ) (at : ℕ) (p : Bool) where
+  pub is-fourth : threeQuotes (from s at) ≡ true → get_or s (at + 3) 0 ≡ 0x22 → None ≡ stringOf p s at
+  unfolding stringOf
+  is-fourth t b = rw (t, b)
 
-  single-later : (p : Bool) (b : ℕ) → b ≤ length s → (q : Text) → closeSingle p (from s b) ≡ closed q → b < place (length s) q
-  single-later p b h q c =
-      let k = single-closed p s b h q c in
-      let e : place (length s) q ≡ k.at + 1 = ap (place (length s)) (sym k.is) ∙ place-from s (k.at + 1) (let w = k.within in omega arith) in
-      let o = k.on in
-      omega arith
+  pub is-triple : threeQuotes (from s at) ≡ true → (get_or s (at + 3) 0 ≡ 0x22 → ⊥) → openedBy 3 (closedTo s (closeTriple true (from s (at + 3)))) ≡ stringOf p s at
+  unfolding stringOf
+  is-triple t n = rw (t, ne_eqb (get_or s (at + 3) 0) 0x22 n)
 
-  triple-later : (b : ℕ) → b ≤ length s → (q : Text) → closeTriple true (from s b) ≡ closed q → b < place (length s) q
-  triple-later b h q c =
-      let k = triple-closed true s b h q c in
-      let e : place (length s) q ≡ k.end = ap (place (length s)) (sym k.is) ∙ place-from s k.end k.within in
-      let o = k.on in
-      let a = k.apart in
-      omega arith
-
-  module _ (p : Bool) where
-    abbrev openedBy : ℕ → ℕ → Quoted
-    openedBy n e = record { end = e; quotes = n }
-
-    pub is-fourth : threeQuotes (from s at) ≡ true → get_or s (at + 3) 0 ≡ 0x22 → openedBy 3 at ≡ stringOf p s at
-    unfolding stringOf
-    is-fourth t b = rw (t, b)
-
-    is-triple : threeQuotes (from s at) ≡ true → (get_or s (at + 3) 0 ≡ 0x22 → ⊥) → openedBy 3 (closedTo s at (closeTriple true (from s (at + 3)))) ≡ stringOf p s at
-    unfolding stringOf
-    is-triple t n = rw (t, ne_eqb (get_or s (at + 3) 0) 0x22 n)
-
-    is-single : threeQuotes (from s at) ≡ false → openedBy 1 (closedTo s at (closeSingle p (from s (at + 1)))) ≡ stringOf p s at
-    unfolding stringOf
-    is-single t = rw t
-
-    module _ (e : ℕ) where
-      pub triple-ended : threeQuotes (from s at) ≡ true → (get_or s (at + 3) 0 ≡ 0x22 → ⊥) → e ≡ closedTo s (at + 3) (closeTriple true (from s (at + 3))) → (e ≡ at + 3 → ⊥)
-          → openedBy 3 e ≡ stringOf p s at
-      triple-ended t n q m = ap (openedBy 3) (moved (at + 3) _ e q m) ∙ is-triple t n
-
-      pub triple-refused : at + 3 ≤ length s → threeQuotes (from s at) ≡ true → (get_or s (at + 3) 0 ≡ 0x22 → ⊥) → e ≡ closedTo s (at + 3) (closeTriple true (from s (at + 3)))
-          → e ≡ at + 3 → openedBy 3 at ≡ stringOf p s at
-      triple-refused h t n q m = ap (openedBy 3) (unmoved (at + 3) _ (triple-later (at + 3) h) e q m) ∙ is-triple t n
-
-      pub single-ended : threeQuotes (from s at) ≡ false → e ≡ closedTo s (at + 1) (closeSingle p (from s (at + 1))) → (e ≡ at + 1 → ⊥) → openedBy 1 e ≡ stringOf p s at
-      single-ended t q m = ap (openedBy 1) (moved (at + 1) _ e q m) ∙ is-single t
-
-      pub single-refused : at + 1 ≤ length s → threeQuotes (from s at) ≡ false → e ≡ closedTo s (at + 1) (closeSingle p (from s (at + 1))) → e ≡ at + 1 → openedBy 1 at ≡ stringOf p s at
-      single-refused h t q m = ap (openedBy 1) (unmoved (at + 1) _ (single-later p (at + 1) h) e q m) ∙ is-single t
+  pub is-single : threeQuotes (from s at) ≡ false → openedBy 1 (closedTo s (closeSingle p (from s (at + 1)))) ≡ stringOf p s at
+  unfolding stringOf
+  is-single t = rw t
 
 -- ---- a string that was recognised
 
@@ -279,30 +240,27 @@ data Recognised (p : Bool) (s : List ℕ) (i : ℕ) : Quoted → Type 0 where
   triple : threeQuotes (from s i) ≡ true → (get_or s (i + 3) 0 ≡ 0x22 → ⊥) → (q : Text) (k : TripleClosed s (i + 3) q) → closeTriple true (from s (i + 3)) ≡ closed q
       → Recognised p s i (record { end = k.end; quotes = 3 })
 
-recognised : (p : Bool) (s : List ℕ) (i : ℕ) → get_or s i 0 ≡ 0x22 → (r : Quoted) → r ≡ stringOf p s i → (r.end ≡ i → ⊥) → Recognised p s i r
-recognised p s i b r z n = go (threeQuotes (from s i)) (eqb (get_or s (i + 3) 0) 0x22) refl refl
+recognised : (p : Bool) (s : List ℕ) (i : ℕ) → get_or s i 0 ≡ 0x22 → (r : Quoted) → Some r ≡ stringOf p s i → Recognised p s i r
+recognised p s i b r z = go (threeQuotes (from s i)) (eqb (get_or s (i + 3) 0) 0x22) refl refl
   where
-    off : (m e : ℕ) → record { end = e; quotes = m } ≡ r → (e ≡ i → ⊥)
-    off m e q x = n (ap (λ (y : Quoted). y.end) (sym q) ∙ x)
-
     go : (x y : Bool) → threeQuotes (from s i) ≡ x → eqb (get_or s (i + 3) 0) 0x22 ≡ y → Recognised p s i r
-    go true true t f = absurd (off 3 i (is-fourth s i p t (eqb-true (get_or s (i + 3) 0) 0x22 f) ∙ sym z) refl)
+    go true true t f = absurd (none-some r (is-fourth s i p t (eqb-true (get_or s (i + 3) 0) 0x22 f) ∙ sym z))
     go true false t f =
         let m = eqb-false (get_or s (i + 3) 0) 0x22 f in
-        let y = is-triple s i p t m ∙ sym z in
-        let c = closed-some s i _ (off 3 _ y) in
+        let o = opened-some 3 _ r (is-triple s i p t m ∙ sym z) in
+        let c = closed-some s _ o.0 o.1 in
         let h = (three-in s i t).0 in
         let k = triple-closed true s (i + 3) (omega arith) c.0 c.1 in
         let e = c.2 ∙ ap (place (length s)) (sym k.is) ∙ place-from s k.end k.within in
-        rw (sym y ∙ ap (λ j. record { end = j; quotes = 3 }) e) (Recognised.triple t m c.0 k c.1)
+        rw (sym o.2 ∙ ap (λ j. record { end = j; quotes = 3 }) e) (Recognised.triple t m c.0 k c.1)
     go false y t f =
-        let y = is-single s i p t ∙ sym z in
-        let c = closed-some s i _ (off 1 _ y) in
+        let o = opened-some 1 _ r (is-single s i p t ∙ sym z) in
+        let c = closed-some s _ o.0 o.1 in
         let h = inside s i (omega arith) in
         let k = single-closed p s (i + 1) (omega arith) c.0 c.1 in
         let w = k.within in
         let e = c.2 ∙ ap (place (length s)) (sym k.is) ∙ place-from s (k.at + 1) (omega arith) in
-        rw (sym y ∙ ap (λ j. record { end = j; quotes = 1 }) e) (Recognised.single t c.0 k c.1)
+        rw (sym o.2 ∙ ap (λ j. record { end = j; quotes = 1 }) e) (Recognised.single t c.0 k c.1)
 
 -- what it says of the scanner: the string is closed there
 record ClosedAt (p : Bool) (s : List ℕ) (i e : ℕ) : Type 0 where
@@ -360,8 +318,8 @@ StringFound s i r =
     (i < r.end) × (r.end ≤ length s)
     × (tokenTo (tk.Str (i + r.quotes) (r.end - r.quotes)) (cursorAt r.end) ≡ pieceOf (length s) (scan (length s) (from s i)))
 
-pub string-found : (s : List ℕ) (i : ℕ) → get_or s i 0 ≡ 0x22 → (r : Quoted) → r ≡ stringOf false s i → (r.end ≡ i → ⊥) → StringFound s i r
-string-found s i b r z n = go r (recognised false s i b r z n)
+pub string-found : (s : List ℕ) (i : ℕ) → get_or s i 0 ≡ 0x22 → (r : Quoted) → Some r ≡ stringOf false s i → StringFound s i r
+string-found s i b r z = go r (recognised false s i b r z)
   where
     go : (r : Quoted) → Recognised false s i r → StringFound s i r
     go _ (Recognised.single t q k c) =
@@ -401,24 +359,24 @@ string-found s i b r z n = go r (recognised false s i b r z n)
             }
 
 -- a prefixed string that is recognised is closed there
-pub prefixed-closed : (s : List ℕ) (i : ℕ) → get_or s i 0 ≡ 0x22 → (r : Quoted) → r ≡ stringOf true s i → (r.end ≡ i → ⊥)
+pub prefixed-closed : (s : List ℕ) (i : ℕ) → get_or s i 0 ≡ 0x22 → (r : Quoted) → Some r ≡ stringOf true s i
     → (i < r.end) × (r.end ≤ length s) × (closeString true (from s i) ≡ closed (from s r.end))
-prefixed-closed s i b r z n = go r (recognised true s i b r z n)
+prefixed-closed s i b r z = go r (recognised true s i b r z)
   where
     go : (r : Quoted) → Recognised true s i r → (i < r.end) × (r.end ≤ length s) × (closeString true (from s i) ≡ closed (from s r.end))
     go _ (Recognised.single t q k c) = let x = single-at true s i b q t k c in (x.on, x.within, x.is)
     go _ (Recognised.triple t m q k c) = let x = triple-at true s i b q t k c in (x.on, x.within, x.is)
 
 -- no more quotes open it than it has bytes
-pub quotes-within : (p : Bool) (s : List ℕ) (i : ℕ) → get_or s i 0 ≡ 0x22 → (r : Quoted) → r ≡ stringOf p s i → (r.end ≡ i → ⊥) → r.quotes ≤ r.end
-quotes-within p s i b r z n = go r (recognised p s i b r z n)
+pub quotes-within : (p : Bool) (s : List ℕ) (i : ℕ) → get_or s i 0 ≡ 0x22 → (r : Quoted) → Some r ≡ stringOf p s i → r.quotes ≤ r.end
+quotes-within p s i b r z = go r (recognised p s i b r z)
   where
     go : (r : Quoted) → Recognised p s i r → r.quotes ≤ r.end
     go _ (Recognised.single t q k c) = omega arith
     go _ (Recognised.triple t m q k c) = let a = k.apart in omega arith
 
-pub quotes-few : (p : Bool) (s : List ℕ) (i : ℕ) → get_or s i 0 ≡ 0x22 → (r : Quoted) → r ≡ stringOf p s i → (r.end ≡ i → ⊥) → r.quotes ≤ 3
-quotes-few p s i b r z n = go r (recognised p s i b r z n)
+pub quotes-few : (p : Bool) (s : List ℕ) (i : ℕ) → get_or s i 0 ≡ 0x22 → (r : Quoted) → Some r ≡ stringOf p s i → r.quotes ≤ 3
+quotes-few p s i b r z = go r (recognised p s i b r z)
   where
     go : (r : Quoted) → Recognised p s i r → r.quotes ≤ 3
     go _ (Recognised.single t q k c) = omega arith
@@ -430,21 +388,21 @@ module _ (s : List ℕ) (at : ℕ) where
   pub ticks-past : (i r : ℕ) → i ≤ r → r ≤ length s → NeitherOf 0x60 0x60 s i r → afterRun notBacktick (from s r) ≡ afterRun notBacktick (from s i)
   ticks-past = all-past (afterRun notBacktick) s (Neither 0x60 0x60) (λ k h o. tick-on s k h o.0)
 
-  pub tick-empty : get_or s (at + 1) 0 ≡ 0x60 → at ≡ backtickEnd s at
+  pub tick-empty : get_or s (at + 1) 0 ≡ 0x60 → None ≡ backtickEnd s at
   unfolding backtickEnd
   tick-empty b = rw b
 
-  pub tick-ended : (i : ℕ) → i < length s → get_or s i 0 ≡ 0x60 → (get_or s (at + 1) 0 ≡ 0x60 → ⊥) → afterRun notBacktick (from s i) ≡ afterRun notBacktick (from s (at + 1)) → i + 1 ≡ backtickEnd s at
+  pub tick-ended : (i : ℕ) → i < length s → get_or s i 0 ≡ 0x60 → (get_or s (at + 1) 0 ≡ 0x60 → ⊥) → afterRun notBacktick (from s i) ≡ afterRun notBacktick (from s (at + 1)) → Some (i + 1) ≡ backtickEnd s at
   unfolding backtickEnd
-  tick-ended i h b n q = rw (ne_eqb (get_or s (at + 1) 0) 0x60 n) (ap (tickedTo at) (sym (tick-off s i h b) ∙ q))
+  tick-ended i h b n q = rw (ne_eqb (get_or s (at + 1) 0) 0x60 n) (ap tickedTo (sym (tick-off s i h b) ∙ q))
 
-  pub tick-open : (i : ℕ) → length s ≤ i → afterRun notBacktick (from s i) ≡ afterRun notBacktick (from s (at + 1)) → at ≡ backtickEnd s at
+  pub tick-open : (i : ℕ) → length s ≤ i → afterRun notBacktick (from s i) ≡ afterRun notBacktick (from s (at + 1)) → None ≡ backtickEnd s at
   unfolding backtickEnd
   tick-open i h q = go (eqb (get_or s (at + 1) 0) 0x60)
     where
-      go : (x : Bool) → at ≡ cond x at (tickedTo at (afterRun notBacktick (from s (at + 1))))
+      go : (x : Bool) → None ≡ cond x None (tickedTo (afterRun notBacktick (from s (at + 1))))
       go true = refl
-      go false = ap (tickedTo at) (sym (tick-end s i h) ∙ q)
+      go false = ap tickedTo (sym (tick-end s i h) ∙ q)
 
 -- the loop keeps in mind whether a backtick stands behind the first, once it is past that place
 module _ (s : List ℕ) (at i : ℕ) (h : at + 1 ≤ i) where
@@ -484,7 +442,7 @@ tick-run s (suc n) i h = go (ltb i (length s)) (eqb (get_or s i 0) 0x60) refl re
         let q = tick-on s i l (eqb-false (get_or s i 0) 0x60 f) in
         ⊎_elim (λ z. inl (sym q ∙ z)) (λ (k : TickAt s (i + 1)). inr (record { at = k.at; on = let o = k.on in omega arith; within = k.within; is = sym q ∙ k.is })) (below (omega arith))
 
-tick-is : (s : List ℕ) (i : ℕ) (t : Text) → eqb (get_or s (i + 1) 0) 0x60 ≡ false → afterRun notBacktick (from s (i + 1)) ≡ t → backtickEnd s i ≡ tickedTo i t
+tick-is : (s : List ℕ) (i : ℕ) (t : Text) → eqb (get_or s (i + 1) 0) 0x60 ≡ false → afterRun notBacktick (from s (i + 1)) ≡ t → backtickEnd s i ≡ tickedTo t
 unfolding backtickEnd
 tick-is s i t f q = rw (f, q)
 
@@ -494,8 +452,8 @@ BacktickFound s i e =
     (i < e) × (e ≤ length s) × (scan (length s) (from s i) ≡ scanBacktick (length s) (from s i))
     × (scanBacktick (length s) (from s i) ≡ orPrefixed (length s) tk.BacktickId (from s i) (from s e))
 
-pub backtick-found : (s : List ℕ) (i : ℕ) → get_or s i 0 ≡ 0x60 → (e : ℕ) → e ≡ backtickEnd s i → (e ≡ i → ⊥) → BacktickFound s i e
-backtick-found s i b e z n = go (eqb (get_or s (i + 1) 0) 0x60) refl
+pub backtick-found : (s : List ℕ) (i : ℕ) → get_or s i 0 ≡ 0x60 → (e : ℕ) → Some e ≡ backtickEnd s i → BacktickFound s i e
+backtick-found s i b e z = go (eqb (get_or s (i + 1) 0) 0x60) refl
   where
     any : isAny "`" (from s i) ≡ true
     any = any-byte "`" refl s i ∙ ap (oneOf "`") b
@@ -504,15 +462,15 @@ backtick-found s i b e z n = go (eqb (get_or s (i + 1) 0) 0x60) refl
     h = inside s i (omega arith)
 
     go : (x : Bool) → eqb (get_or s (i + 1) 0) 0x60 ≡ x → BacktickFound s i e
-    go true f = absurd (n (z ∙ sym (tick-empty s i (eqb-true (get_or s (i + 1) 0) 0x60 f))))
+    go true f = absurd (none-some e (tick-empty s i (eqb-true (get_or s (i + 1) 0) 0x60 f) ∙ sym z))
     go false f = ⊎_elim none some (tick-run s (length s) (i + 1) (omega arith))
       where
         none : afterRun notBacktick (from s (i + 1)) ≡ [] → BacktickFound s i e
-        none q = absurd (n (z ∙ tick-is s i [] f q))
+        none q = absurd (none-some e (sym (z ∙ tick-is s i [] f q)))
 
         some : TickAt s (i + 1) → BacktickFound s i e
         some k =
-            let y = z ∙ tick-is s i _ f k.is in
+            let y : e ≡ k.at + 1 = same_Some e (k.at + 1) (z ∙ tick-is s i _ f k.is) in
             let o = k.on in
             let w = k.within in (
               omega arith,

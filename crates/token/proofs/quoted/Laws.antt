@@ -1,16 +1,18 @@
 -- Strings and backticks from their bytes: what the code's definitions say, and what they say of the scanner.
 use Prim.Native.Nat.{ℕ, suc, ◌+◌, ◌≤◌, ◌<◌}
 use mathlib.Core.Path.{◌≡◌, refl, sym, ◌∙◌, ap}
-use mathlib.Core.Bool.{Bool, true, false, cond, ◌&&◌, and-false, or-false}
+use mathlib.Core.Bool.{Bool, true, false, cond, ◌&&◌, ◌||◌, or-false}
 use mathlib.Core.List.{List, [], ◌∷◌}
-use lib.ListN.{length, drop, get_or, get_or-eq_default}
+use Rattle.std.specs.Prelude.{Option, Some, None}
+use Rattle.std.proofs.lemmas.Option.{same_Some, none-some}
+use lib.ListN.{length, drop, get_or}
 use lib.Dec.{eqb}
 use native.Mathlib.Omega.{arith}
 use borrow.Author.Tests.{eq-eqb, ne_eqb, eqb-true, eqb-false}
 use Rattle.chars.specs.paper.Quoted.{codes, oneOf}
 use Rattle.chars.specs.paper.Text.{Char, Text, from, place}
 use Rattle.chars.specs.code.Runs.{NoneOf}
-use Rattle.chars.proofs.Bools.{clash}
+use Rattle.chars.proofs.Bools.{clash, or-neither}
 use Rattle.chars.proofs.theorems.Promises.{text-laws}
 use Rattle.token.specs.paper.Tests.{isDigit, isHexDigit, isAny, digit, threeQuotes}
 use Rattle.token.specs.paper.Shapes.{tripleChar}
@@ -18,7 +20,7 @@ use Rattle.token.specs.computed.Answer.{Esc, unbroken, broken, exactHexes, digit
 use Rattle.token.specs.code.Cursor.{cursorAt}
 use Rattle.token.specs.code.ByteClass as bytes
 use Rattle.token.specs.code.String.{endedOf, escEnd, escapeOf, closeSingle, isOrdinary, dollarOf, singleItem, EndAnswer, endAt}
-use Rattle.token.specs.code.Quoted.{decimalEnd, unicodeEnd, codedEnd, escapeEnd, backslashEnd, dollarEnd, itemEnd, closedTo}
+use Rattle.token.specs.code.Quoted.{decimalEnd, unicodeEnd, codedEnd, escapeEnd, backslashEnd, dollarEnd, itemEnd, tripleRefused, closedTo}
 use Rattle.token.specs.declared.cursor.Cursor.{Cursor}
 use Rattle.token.proofs.Base.{zero-one}
 use Rattle.token.proofs.byte_class.Laws.{class-ordinary}
@@ -40,30 +42,24 @@ told-ordinary b q w = sym (class-ordinary b) ∙ ap bytes.isOrdinary (sym q) ∙
 -- ---- by its bytes: where an escape ends, and what does not stand for itself
 
 module _ (s : List ℕ) (at : ℕ) where
-  decimal-none : isDigit (get_or s (at + 1) 0) ≡ false → at ≡ decimalEnd s at
+  decimal-none : isDigit (get_or s (at + 1) 0) ≡ false → None ≡ decimalEnd s at
   unfolding decimalEnd
   decimal-none a = rw a
 
-  decimal-one : isDigit (get_or s (at + 1) 0) ≡ true → isDigit (get_or s (at + 2) 0) ≡ false → at + 2 ≡ decimalEnd s at
+  decimal-one : isDigit (get_or s (at + 1) 0) ≡ true → isDigit (get_or s (at + 2) 0) ≡ false → Some (at + 2) ≡ decimalEnd s at
   unfolding decimalEnd
   decimal-one a b = rw (a, b)
 
-  decimal-two : isDigit (get_or s (at + 1) 0) ≡ true → isDigit (get_or s (at + 2) 0) ≡ true → isDigit (get_or s (at + 3) 0) ≡ false → at + 3 ≡ decimalEnd s at
+  decimal-two : isDigit (get_or s (at + 1) 0) ≡ true → isDigit (get_or s (at + 2) 0) ≡ true → isDigit (get_or s (at + 3) 0) ≡ false → Some (at + 3) ≡ decimalEnd s at
   unfolding decimalEnd
   decimal-two a b c = rw (a, b, c)
 
-  decimal-three : isDigit (get_or s (at + 1) 0) ≡ true → isDigit (get_or s (at + 2) 0) ≡ true → isDigit (get_or s (at + 3) 0) ≡ true → at + 4 ≡ decimalEnd s at
+  decimal-three : isDigit (get_or s (at + 1) 0) ≡ true → isDigit (get_or s (at + 2) 0) ≡ true → isDigit (get_or s (at + 3) 0) ≡ true → Some (at + 4) ≡ decimalEnd s at
   unfolding decimalEnd
   decimal-three a b c = rw (a, b, c)
 
-  pub unicode-short : length s ≤ at + 5 → at ≡ unicodeEnd s at
-  unfolding unicodeEnd
-  unicode-short h =
-      let z : isHexDigit (get_or s (at + 5) 0) ≡ false = ap isHexDigit (get_or-eq_default s 0 h) ∙ hex-ascii.nul in
-      rw (z, and-false)
-
   unicode-is : {a b c d : Bool} (x : Bool) → isHexDigit (get_or s (at + 2) 0) ≡ a → isHexDigit (get_or s (at + 3) 0) ≡ b → isHexDigit (get_or s (at + 4) 0) ≡ c
-      → isHexDigit (get_or s (at + 5) 0) ≡ d → ((a && b) && c) && d ≡ x → cond x (at + 6) at ≡ unicodeEnd s at
+      → isHexDigit (get_or s (at + 5) 0) ≡ d → ((a && b) && c) && d ≡ x → cond x (Some (at + 6)) None ≡ unicodeEnd s at
   unfolding unicodeEnd
   unicode-is x p q r t e = rw (p, q, r, t, e)
 
@@ -75,7 +71,7 @@ module _ (s : List ℕ) (at : ℕ) where
   unfolding codedEnd
   coded-decimal n = rw (ne_eqb (get_or s (at + 1) 0) 0x75 n)
 
-  escape-one : oneOf "btnfr'\"]" (get_or s (at + 1) 0) ≡ true → at + 2 ≡ escapeEnd s at
+  escape-one : oneOf "btnfr'\"]" (get_or s (at + 1) 0) ≡ true → Some (at + 2) ≡ escapeEnd s at
   unfolding escapeEnd
   escape-one e = rw e
 
@@ -84,7 +80,7 @@ module _ (s : List ℕ) (at : ℕ) where
   escape-coded e = rw e
 
   module _ (p : Bool) where
-    slash-prefixed : p ≡ true → at + 1 ≡ backslashEnd p s at
+    slash-prefixed : p ≡ true → Some (at + 1) ≡ backslashEnd p s at
     unfolding backslashEnd
     slash-prefixed e = rw e
 
@@ -92,15 +88,15 @@ module _ (s : List ℕ) (at : ℕ) where
     unfolding backslashEnd
     slash-escape e = rw e
 
-    dollar-plain : p ≡ false → at + 1 ≡ dollarEnd p s at
+    dollar-plain : p ≡ false → Some (at + 1) ≡ dollarEnd p s at
     unfolding dollarEnd
     dollar-plain e = rw e
 
-    dollar-braced : p ≡ true → get_or s (at + 1) 0 ≡ 0x7B → at ≡ dollarEnd p s at
+    dollar-braced : p ≡ true → get_or s (at + 1) 0 ≡ 0x7B → None ≡ dollarEnd p s at
     unfolding dollarEnd
     dollar-braced e b = rw (e, b)
 
-    dollar-lone : p ≡ true → (get_or s (at + 1) 0 ≡ 0x7B → ⊥) → at + 1 ≡ dollarEnd p s at
+    dollar-lone : p ≡ true → (get_or s (at + 1) 0 ≡ 0x7B → ⊥) → Some (at + 1) ≡ dollarEnd p s at
     unfolding dollarEnd
     dollar-lone e n = rw (e, ne_eqb (get_or s (at + 1) 0) 0x7B n)
 
@@ -112,23 +108,25 @@ module _ (s : List ℕ) (at : ℕ) where
     unfolding itemEnd
     item-dollar b e = rw e
 
-    item-none : (b : ℕ) → (b ≡ 0x5C → ⊥) → (b ≡ 0x24 → ⊥) → at ≡ itemEnd p s at b
+    item-none : (b : ℕ) → (b ≡ 0x5C → ⊥) → (b ≡ 0x24 → ⊥) → None ≡ itemEnd p s at b
     unfolding itemEnd
     item-none b n m = rw (ne_eqb b 0x5C n, ne_eqb b 0x24 m)
 
--- ---- an escape ends where the scanner finds its end, and at its backslash where the scanner refuses it
+-- ---- an escape ends where the scanner finds its end, and nowhere where the scanner refuses it
 
 -- e is the end of an escape whose backslash stands at a place, by what the scanner finds behind that
-abbrev pub EscapeEnds : List ℕ → ℕ → ℕ → Esc → Type 0
-EscapeEnds s at e (unbroken k) = (e ≡ at + 1 + k) × (e ≤ length s) × (from s e ≡ drop k (from s (at + 1)))
-EscapeEnds s at e (broken j q) = e ≡ at
+abbrev pub EscapeEnds : List ℕ → ℕ → Option ℕ → Esc → Type 0
+EscapeEnds s at (Some e) (unbroken k) = (e ≡ at + 1 + k) × (e ≤ length s) × (from s e ≡ drop k (from s (at + 1)))
+EscapeEnds s at (Some e) (broken j q) = ⊥
+EscapeEnds s at None (unbroken k) = ⊥
+EscapeEnds s at None (broken j q) = Unit {0}
 
-module _ (s : List ℕ) (at e : ℕ) (x : Esc) where
-  ends-at : (n k : ℕ) → x ≡ unbroken k → n ≡ e → n ≡ at + 1 + k → n ≤ length s → from s n ≡ drop k (from s (at + 1)) → EscapeEnds s at e x
+module _ (s : List ℕ) (at : ℕ) (e : Option ℕ) (x : Esc) where
+  ends-at : (n k : ℕ) → x ≡ unbroken k → Some n ≡ e → n ≡ at + 1 + k → n ≤ length s → from s n ≡ drop k (from s (at + 1)) → EscapeEnds s at e x
   ends-at n k z q p h r = rw (z, ← q) (p, h, r)
 
-  ends-not : (j : ℕ) (t : Text) → x ≡ broken j t → at ≡ e → EscapeEnds s at e x
-  ends-not j t z p = rw z (sym p)
+  ends-not : (j : ℕ) (t : Text) → x ≡ broken j t → None ≡ e → EscapeEnds s at e x
+  ends-not j t z p = rw (z, ← p) tt
 
 -- past one ASCII character
 module _ (s : List ℕ) (i j : ℕ) (next : j ≡ i + 1) (b : (1 ≤ get_or s i 0) × (get_or s i 0 < 0x80)) where
@@ -155,7 +153,7 @@ unfolding digitsUpTo
 digits-full k t = refl
 
 module _ (s : List ℕ) (at : ℕ) where
-  abbrev Ends : ℕ → Esc → Type 0
+  abbrev Ends : Option ℕ → Esc → Type 0
   Ends e x = EscapeEnds s at e x
 
   -- of digits
@@ -284,98 +282,107 @@ module _ {A : Type 0} (f : Text → A) (test : Text → Bool) (w : Walk f test) 
   ordinary-past i r l h n = sym (walk-run f test w (from s r)) ∙ ap f (skip-past s i r l h n) ∙ walk-run f test w (from s i)
 
 -- the answer by the full reader's
-module _ (s : List ℕ) (at : ℕ) where
-  pub told-closed : (c : Cursor) (w : Closing) → endAt c ≡ endedOf (length s) w → c.at ≡ closedTo s at w
+module _ (s : List ℕ) where
+  pub told-closed : (c : Cursor) (w : Closing) → endAt c ≡ endedOf (length s) w → Some c.at ≡ closedTo s w
   unfolding endedOf closedTo
-  told-closed c (closed q) e = let x : c ≡ cursorAt (place (length s) q) = cc in ap (λ (d : Cursor). d.at) x
+  told-closed c (closed q) e = let x : c ≡ cursorAt (place (length s) q) = cc in ap (λ (d : Cursor). Some d.at) x
   told-closed c (wrong j q) e = zero-one (cc)
 
-  pub told-wrong : (e : Refused) (w : Closing) → Err e ≡ endedOf (length s) w → at ≡ closedTo s at w
+  pub told-wrong : (e : Refused) (w : Closing) → Err e ≡ endedOf (length s) w → None ≡ closedTo s w
   unfolding endedOf closedTo
   told-wrong r (closed q) e = zero-one (cc)
   told-wrong r (wrong k q) e = refl
 
-  wrong-at : (w : Closing) (j : ℕ) (q : Text) → w ≡ wrong j q → at ≡ closedTo s at w
+  wrong-at : (w : Closing) (j : ℕ) (q : Text) → w ≡ wrong j q → None ≡ closedTo s w
   unfolding closedTo
-  wrong-at w j q e = sym (ap (closedTo s at) e)
+  wrong-at w j q e = sym (ap (closedTo s) e)
 
--- where a step ends; its own place, where it is refused
-abbrev stepEnd : ℕ → EndAnswer → ℕ
-stepEnd i (Ok c) = c.at
-stepEnd i (Err e) = i
+-- where a step ends; none, where it is refused
+abbrev stepEnd : EndAnswer → Option ℕ
+stepEnd (Ok c) = Some c.at
+stepEnd (Err e) = None
 
 module _ (s : List ℕ) (f : Text → Closing) (i : ℕ) where
-  step-goes : (r : EndAnswer) (e : ℕ) → Onward s f i r → e ≡ stepEnd i r → (e ≡ i → ⊥) → (i < e) × (e ≤ length s) × (f (from s e) ≡ f (from s i))
+  step-goes : (r : EndAnswer) (e : ℕ) → Onward s f i r → Some e ≡ stepEnd r → (i < e) × (e ≤ length s) × (f (from s e) ≡ f (from s i))
   unfolding Onward
-  step-goes (Ok c) e o q n = rw q o
-  step-goes (Err w) e o q n = absurd (n q)
+  step-goes (Ok c) e o q = let h : e ≡ c.at = same_Some e c.at q in rw h o
+  step-goes (Err w) e o q = absurd (none-some e (sym q))
 
-  step-stops : (r : EndAnswer) (at : ℕ) → Onward s f i r → stepEnd i r ≡ i → at ≡ closedTo s at (f (from s i))
+  step-stops : (r : EndAnswer) → Onward s f i r → None ≡ stepEnd r → None ≡ closedTo s (f (from s i))
   unfolding Onward
-  step-stops (Ok c) at o q = absurd (let h = o.0 in omega arith)
-  step-stops (Err e) at o q = told-wrong s at e (f (from s i)) o
+  step-stops (Ok c) o q = absurd (none-some c.at q)
+  step-stops (Err e) o q = told-wrong s e (f (from s i)) o
 
-escape-step : (s : List ℕ) (i e : ℕ) (x : Esc) → EscapeEnds s i e x → e ≡ stepEnd i (escEnd (length s) (from s (i + 1)) x)
-escape-step s i e (unbroken k) h = sym (ap (place (length s)) (sym h.2) ∙ place-from s e h.1)
-escape-step s i e (broken j q) h = h
+escape-step : (s : List ℕ) (i : ℕ) (e : Option ℕ) (x : Esc) → EscapeEnds s i e x → e ≡ stepEnd (escEnd (length s) (from s (i + 1)) x)
+escape-step s i (Some e) (unbroken k) h = ap Some (sym (ap (place (length s)) (sym h.2) ∙ place-from s e h.1))
+escape-step s i (Some e) (broken j q) h = absurd h
+escape-step s i None (unbroken k) h = absurd h
+escape-step s i None (broken j q) h = refl
 
-escape-is : (s : List ℕ) (i : ℕ) → escapeEnd s i ≡ stepEnd i (escapeOf (length s) (from s (i + 1)))
+escape-is : (s : List ℕ) (i : ℕ) → escapeEnd s i ≡ stepEnd (escapeOf (length s) (from s (i + 1)))
 unfolding escapeOf
 escape-is s i = escape-step s i _ (afterSlash (from s (i + 1))) (escape-end s i)
 
 -- neither ordinary nor a quote
 module _ (p : Bool) (s : List ℕ) (i : ℕ) (h : i < length s) (o : isOrdinary (get_or s i 0) ≡ false) (n : get_or s i 0 ≡ 0x22 → ⊥) where
-  dollar-step : get_or s i 0 ≡ 0x24 → p ≡ true → dollarEnd p s i ≡ stepEnd i (dollarOf (length s) (from s i))
+  dollar-step : get_or s i 0 ≡ 0x24 → p ≡ true → dollarEnd p s i ≡ stepEnd (dollarOf (length s) (from s i))
   dollar-step b e = go (eqb (get_or s (i + 1) 0) 0x7B) refl
     where
       any : isAny "$" (from s i) ≡ true
       any = any-byte "$" refl s i ∙ ap (oneOf "$") b
 
-      go : (x : Bool) → eqb (get_or s (i + 1) 0) 0x7B ≡ x → dollarEnd p s i ≡ stepEnd i (dollarOf (length s) (from s i))
-      go true q = let k = eqb-true (get_or s (i + 1) 0) 0x7B q in sym (dollar-braced s i p e k) ∙ ap (stepEnd i) (dollar-brace s i h any k)
-      go false q = let k = eqb-false (get_or s (i + 1) 0) 0x7B q in sym (dollar-lone s i p e k) ∙ ap (stepEnd i) (dollar-alone s i h any k)
+      go : (x : Bool) → eqb (get_or s (i + 1) 0) 0x7B ≡ x → dollarEnd p s i ≡ stepEnd (dollarOf (length s) (from s i))
+      go true q = let k = eqb-true (get_or s (i + 1) 0) 0x7B q in sym (dollar-braced s i p e k) ∙ ap stepEnd (dollar-brace s i h any k)
+      go false q = let k = eqb-false (get_or s (i + 1) 0) 0x7B q in sym (dollar-lone s i p e k) ∙ ap stepEnd (dollar-alone s i h any k)
 
-  item-step : itemEnd p s i (get_or s i 0) ≡ stepEnd i (singleItem p s i)
+  item-step : itemEnd p s i (get_or s i 0) ≡ stepEnd (singleItem p s i)
   item-step = go p (eqb (get_or s i 0) 0x0A) (eqb (get_or s i 0) 0x24) (eqb (get_or s i 0) 0x5C) refl refl refl refl
     where
-      go : (r x y z : Bool) → p ≡ r → eqb (get_or s i 0) 0x0A ≡ x → eqb (get_or s i 0) 0x24 ≡ y → eqb (get_or s i 0) 0x5C ≡ z → itemEnd p s i (get_or s i 0) ≡ stepEnd i (singleItem p s i)
+      go : (r x y z : Bool) → p ≡ r → eqb (get_or s i 0) 0x0A ≡ x → eqb (get_or s i 0) 0x24 ≡ y → eqb (get_or s i 0) 0x5C ≡ z → itemEnd p s i (get_or s i 0) ≡ stepEnd (singleItem p s i)
       go r true y z e l d k =
           let b = eqb-true (get_or s i 0) 0x0A l in
-          sym (item-none s i p _ (λ q. absurd (omega arith)) (λ q. absurd (omega arith))) ∙ ap (stepEnd i) (single-item-newline p s i b)
+          sym (item-none s i p _ (λ q. absurd (omega arith)) (λ q. absurd (omega arith))) ∙ ap stepEnd (single-item-newline p s i b)
       go true false true z e l d k =
           let b = eqb-true (get_or s i 0) 0x24 d in
-          sym (item-dollar s i p _ b) ∙ dollar-step b e ∙ ap (stepEnd i) (single-item-dollar p s i e b)
+          sym (item-dollar s i p _ b) ∙ dollar-step b e ∙ ap stepEnd (single-item-dollar p s i e b)
       go false false true z e l d k =
           let b = eqb-true (get_or s i 0) 0x24 d in
-          sym (item-dollar s i p _ b) ∙ sym (dollar-plain s i p e) ∙ ap (stepEnd i) (single-item-lone p s i e b)
+          sym (item-dollar s i p _ b) ∙ sym (dollar-plain s i p e) ∙ ap stepEnd (single-item-lone p s i e b)
       go true false false true e l d k =
           let b = eqb-true (get_or s i 0) 0x5C k in
-          sym (item-slash s i p _ b) ∙ sym (slash-prefixed s i p e) ∙ ap (stepEnd i) (single-item-slash p s i e b)
+          sym (item-slash s i p _ b) ∙ sym (slash-prefixed s i p e) ∙ ap stepEnd (single-item-slash p s i e b)
       go false false false true e l d k =
           let b = eqb-true (get_or s i 0) 0x5C k in
-          sym (item-slash s i p _ b) ∙ sym (slash-escape s i p e) ∙ escape-is s i ∙ ap (stepEnd i) (single-item-escape p s i e b)
+          sym (item-slash s i p _ b) ∙ sym (slash-escape s i p e) ∙ escape-is s i ∙ ap stepEnd (single-item-escape p s i e b)
       go r false false false e l d k =
           clash (sym o ∙ other-ordinary (get_or s i 0) (eqb-false (get_or s i 0) 0x0A l, n, eqb-false (get_or s i 0) 0x24 d, eqb-false (get_or s i 0) 0x5C k))
 
   item-onward : Onward s (closeSingle p) i (singleItem p s i)
   item-onward = single-step s i h (no-quote s i n) p (singleItem p s i) refl
 
-  pub item-goes : (e : ℕ) → e ≡ itemEnd p s i (get_or s i 0) → (e ≡ i → ⊥) → (i < e) × (e ≤ length s) × (closeSingle p (from s e) ≡ closeSingle p (from s i))
-  item-goes e q m = step-goes s (closeSingle p) i (singleItem p s i) e item-onward (q ∙ item-step) m
+  pub item-goes : (e : ℕ) → Some e ≡ itemEnd p s i (get_or s i 0) → (i < e) × (e ≤ length s) × (closeSingle p (from s e) ≡ closeSingle p (from s i))
+  item-goes e q = step-goes s (closeSingle p) i (singleItem p s i) e item-onward (q ∙ item-step)
 
-  pub item-stops : (e : ℕ) → e ≡ itemEnd p s i (get_or s i 0) → e ≡ i → (at : ℕ) → at ≡ closedTo s at (closeSingle p (from s i))
-  item-stops e q m at = step-stops s (closeSingle p) i (singleItem p s i) at item-onward (sym item-step ∙ sym q ∙ m)
+  pub item-stops : None ≡ itemEnd p s i (get_or s i 0) → None ≡ closedTo s (closeSingle p (from s i))
+  item-stops q = step-stops s (closeSingle p) i (singleItem p s i) item-onward (q ∙ item-step)
 
 -- in a triple, where no three quotes stand
 module _ (s : List ℕ) (i : ℕ) where
-  pub triple-slashed : (at : ℕ) → get_or s i 0 ≡ 0x5C → at ≡ closedTo s at (closeTriple true (from s i))
-  triple-slashed at b = wrong-at s at _ 10 (from s i) (strings.triple-slash true (from s i) (slash-byte s i ∙ eq-eqb (get_or s i 0) 0x5C b))
+  triple-slashed : get_or s i 0 ≡ 0x5C → None ≡ closedTo s (closeTriple true (from s i))
+  triple-slashed b = wrong-at s _ 10 (from s i) (strings.triple-slash true (from s i) (slash-byte s i ∙ eq-eqb (get_or s i 0) 0x5C b))
 
-  pub triple-braced : (at : ℕ) → eqb (get_or s i 0) 0x24 && eqb (get_or s (i + 1) 0) 0x7B ≡ true → at ≡ closedTo s at (closeTriple true (from s i))
-  triple-braced at b = wrong-at s at _ 11 (from s i) (strings.triple-dollar (from s i) (brace-byte s i ∙ b))
+  triple-braced : eqb (get_or s i 0) 0x24 && eqb (get_or s (i + 1) 0) 0x7B ≡ true → None ≡ closedTo s (closeTriple true (from s i))
+  triple-braced b = wrong-at s _ 11 (from s i) (strings.triple-dollar (from s i) (brace-byte s i ∙ b))
 
-  pub triple-goes : i < length s → threeQuotes (from s i) ≡ false → (get_or s i 0 ≡ 0x5C → ⊥) → eqb (get_or s i 0) 0x24 && eqb (get_or s (i + 1) 0) 0x7B ≡ false
-      → closeTriple true (from s (i + 1)) ≡ closeTriple true (from s i)
-  triple-goes h t n d =
+  pub triple-stops : tripleRefused s i ≡ true → None ≡ closedTo s (closeTriple true (from s i))
+  triple-stops e = go (eqb (get_or s i 0) 0x5C) refl e
+    where
+      go : (x : Bool) → eqb (get_or s i 0) 0x5C ≡ x → x || (eqb (get_or s i 0) 0x24 && eqb (get_or s (i + 1) 0) 0x7B) ≡ true → None ≡ closedTo s (closeTriple true (from s i))
+      go true f k = triple-slashed (eqb-true (get_or s i 0) 0x5C f)
+      go false f k = triple-braced k
+
+  pub triple-goes : i < length s → threeQuotes (from s i) ≡ false → tripleRefused s i ≡ false → closeTriple true (from s (i + 1)) ≡ closeTriple true (from s i)
+  triple-goes h t e =
+      let n = or-neither (eqb (get_or s i 0) 0x5C) (eqb (get_or s i 0) 0x24 && eqb (get_or s (i + 1) 0) 0x7B) e in
       walk-on (closeTriple true) (tripleChar true) (triples true) s i h
-      (triple-test s i h t true (slash-byte s i ∙ ne_eqb (get_or s i 0) 0x5C n) (λ z. brace-byte s i ∙ d))
+      (triple-test s i h t true (slash-byte s i ∙ n.0) (λ z. brace-byte s i ∙ n.1))

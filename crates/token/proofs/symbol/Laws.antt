@@ -3,6 +3,8 @@ use Prim.Native.Nat.{ℕ, ◌+◌, ◌≤◌, ◌<◌}
 use mathlib.Core.Path.{◌≡◌, refl, sym, ◌∙◌, ap}
 use mathlib.Core.Bool.{Bool, true, false, cond, not, ◌&&◌, ◌||◌, and-true, and-false, and_comm}
 use mathlib.Core.List.{List, ◌∷◌}
+use Rattle.std.specs.Prelude.{Option, Some, None}
+use Rattle.std.proofs.lemmas.Option.{same_Some, none-some}
 use lib.ListN.{length, drop, get_or}
 use lib.Dec.{eqb, ltb}
 use native.Mathlib.Omega.{arith}
@@ -22,13 +24,14 @@ use Rattle.token.specs.code.Charsym.{escapedChar, symbolOf}
 use Rattle.token.specs.code.ByteClass.{classOf, classAt, wideClass, upToBlank, startsWord, isSign}
 use Rattle.token.specs.code.Names.{nameEnd, operatorFrom}
 use Rattle.token.specs.code.Quoted.{escapeEnd}
-use Rattle.token.specs.code.Symbol.{plainByte, endsChar, escapedCharEnd, operatorSymbolEnd, nameSymbolEnd, semiEnd, charSymBy, charSymEnd}
+use Rattle.token.specs.code.Symbol.{plainByte, endsChar, closedChar, behindTick, placeOf, escapedCharEnd, operatorSymbolEnd, nameSymbolEnd, semiEnd, charSymBy, charSymEnd}
+use Rattle.token.specs.declared.names.Here as names
 use Rattle.token.specs.declared.kinds.TokenKind.TheVariants as tk
 use Rattle.token.proofs.Classes.{no-sign, no-start, sign-byte}
 use Rattle.token.proofs.byte_class.Laws.{class-start, class-sign, class-wide}
 use Rattle.token.proofs.cursor.Bytes.{inside, past, one-byte}
 use Rattle.token.proofs.cursor.Laws.{Here}
-use Rattle.token.proofs.names.Bytes.{class-inside, moved, name-stops, operator-stops}
+use Rattle.token.proofs.names.Bytes.{class-inside, name-stops, operator-stops}
 use Rattle.token.proofs.names.Laws.{name-rest, free-rest}
 use Rattle.token.proofs.quoted.Laws.{EscapeEnds, escape-end}
 use Rattle.token.proofs.string.Escapes.{same-place}
@@ -84,13 +87,16 @@ no-comment s i e h k r n = go (opensComment (from s i)) refl
 abbrev Ends : List ℕ → ℕ → ℕ → Type 0
 Ends s at e = (at < e) × (e ≤ length s) × (tokenTo tk.CharSym (cursorAt e) ≡ pieceOf (length s) (scanCharSym (from s at)))
 
-abbrev Good : List ℕ → ℕ → ℕ → Type 0
-Good s at e = (e ≡ at → ⊥) → Ends s at e
+abbrev Good : List ℕ → ℕ → Option ℕ → Type 0
+Good s at o = (e : ℕ) → Some e ≡ o → Ends s at e
 
-declines : (s : List ℕ) (at : ℕ) → Good s at at
-declines s at n = absurd (n refl)
+declines : (s : List ℕ) (at : ℕ) → Good s at None
+declines s at e q = absurd (none-some e (sym q))
 
-pick : (P : ℕ → Type 0) (b : Bool) (x y : ℕ) → (b ≡ true → P x) → (b ≡ false → P y) → P (cond b x y)
+at-end-of : (s : List ℕ) (at n : ℕ) → Ends s at n → Good s at (Some n)
+at-end-of s at n h e q = let z : e ≡ n = same_Some e n q in rw z h
+
+pick : (P : Option ℕ → Type 0) (b : Bool) (x y : Option ℕ) → (b ≡ true → P x) → (b ≡ false → P y) → P (cond b x y)
 pick P true x y f g = f refl
 pick P false x y f g = g refl
 
@@ -127,14 +133,9 @@ module _ (s : List ℕ) (at : ℕ) (h : at < length s) (q : get_or s at 0 ≡ 0x
       (omega arith, omega (arith, t.0), ap (λ j. tokenTo tk.CharSym (cursorAt j)) z ∙ char-piece s (at + 1) byte (at + 2) (behind i b) (from s at) text f g)
 
   -- an escaped one
-  abbrev end : ℕ
-  end = escapeEnd s (at + 1)
-
   escaped-ends : byte ≡ 0x5C → Good s at (escapedCharEnd s at)
   unfolding escapedCharEnd
-  escaped-ends w =
-      pick (Good s at) (not (eqb end (at + 1)) && eqb (get_or s end 0) 0x27) (end + 1) at (λ o n. closes (and-both (not (eqb end (at + 1))) (eqb (get_or s end 0) 0x27) o))
-      (λ o. declines s at)
+  escaped-ends w = by (escapeEnd s (at + 1)) (escape-end s (at + 1))
     where
       i : at + 1 < length s
       i = inside s (at + 1) (omega arith)
@@ -145,16 +146,21 @@ module _ (s : List ℕ) (at : ℕ) (h : at < length s) (q : get_or s at 0 ≡ 0x
       two : at + 1 + 1 ≡ at + 2
       two = omega arith
 
-      go : (a : Esc) → EscapeEnds s (at + 1) end a → (end ≡ at + 1 → ⊥) → (at < end) × (escapedOf (from s (at + 1 + 1)) a ≡ tickNext (from s end))
-      go (unbroken k) x n = (omega (arith, x.0), ap tickNext (sym x.2))
-      go (broken j r) x n = absurd (n x)
+      go : (end : ℕ) (a : Esc) → EscapeEnds s (at + 1) (Some end) a → (at < end) × (escapedOf (from s (at + 1 + 1)) a ≡ tickNext (from s end))
+      go end (unbroken k) x = (omega (arith, x.0), ap tickNext (sym x.2))
+      go end (broken j r) x = absurd x
 
-      closes : (not (eqb end (at + 1)) ≡ true) × (eqb (get_or s end 0) 0x27 ≡ true) → Ends s at (end + 1)
-      closes k =
-          let g = go (afterSlash (from s (at + 1 + 1))) (escape-end s (at + 1)) (eqb-false end (at + 1) (not-true (eqb end (at + 1)) k.0)) in
-          let t = past-tick s end k.1 in
+      closes : (end : ℕ) → EscapeEnds s (at + 1) (Some end) (afterSlash (from s (at + 1 + 1))) → eqb (get_or s end 0) 0x27 ≡ true → Ends s at (end + 1)
+      closes end x k =
+          let g = go end (afterSlash (from s (at + 1 + 1))) x in
+          let t = past-tick s end k in
           let f : scanCharSym (from s at) ≡ tickNext (from s end) = escape ∙ ap (λ j. escapedChar (from s j)) (sym two) ∙ g.1 in
-          (omega (arith, g.0), t.0, tick-closes s end k.1 ∙ ap (pieceOf (length s)) (sym f))
+          (omega (arith, g.0), t.0, tick-closes s end k ∙ ap (pieceOf (length s)) (sym f))
+
+      by : (o : Option ℕ) → EscapeEnds s (at + 1) o (afterSlash (from s (at + 1 + 1))) → Good s at (closedChar s o)
+      by None x = declines s at
+      by (Some end) x =
+          pick (Good s at) (eqb (get_or s end 0) 0x27) (Some (end + 1)) None (λ o. at-end-of s at (end + 1) (closes end x o)) (λ o. declines s at)
 
   module _ (z : endsChar s at byte ≡ false) where
     -- a symbol
@@ -166,8 +172,8 @@ module _ (s : List ℕ) (at : ℕ) (h : at < length s) (q : get_or s at 0 ≡ 0x
     semi-ends : byte ≡ 0x3B → Good s at (semiEnd s at)
     unfolding semiEnd
     semi-ends w =
-        pick (Good s at) (isSign (classAt s (at + 2)) || eqb (classAt s (at + 2)) wideClass) at (at + 2) (λ o. declines s at)
-        (λ o n. free (or-neither (isSign (classAt s (at + 2))) (eqb (classAt s (at + 2)) wideClass) o))
+        pick (Good s at) (isSign (classAt s (at + 2)) || eqb (classAt s (at + 2)) wideClass) None (Some (at + 2)) (λ o. declines s at)
+        (λ o. at-end-of s at (at + 2) (free (or-neither (isSign (classAt s (at + 2))) (eqb (classAt s (at + 2)) wideClass) o)))
       where
         free : (isSign (classAt s (at + 2)) ≡ false) × (eqb (classAt s (at + 2)) wideClass ≡ false) → Ends s at (at + 2)
         free k =
@@ -180,37 +186,38 @@ module _ (s : List ℕ) (at : ℕ) (h : at < length s) (q : get_or s at 0 ≡ 0x
 
     name-ends : upToBlank (classOf byte) ≡ false → startsWord (classOf byte) ≡ true → Good s at (nameSymbolEnd s at)
     unfolding nameSymbolEnd
-    name-ends u v = pick (Good s at) (eqb (nameEnd s (at + 1)).at (at + 1)) at (nameEnd s (at + 1)).at (λ o. declines s at) (λ o n. named (eqb-false _ _ o))
+    name-ends u v = by (nameEnd s (at + 1)) refl
       where
-        named : ((nameEnd s (at + 1)).at ≡ at + 1 → ⊥) → Ends s at (nameEnd s (at + 1)).at
-        named n =
+        named : (r : names.Here) → Some r ≡ nameEnd s (at + 1) → Ends s at r.at
+        named r n =
             let k : ltb byte 0x80 && isIdStart byte ≡ true =
             sym (class-start byte) ∙ ap (λ x. not x && startsWord (classOf byte)) u ∙ v in
             let b = and-both (ltb byte 0x80) (isIdStart byte) k in
             let l = ltb-true byte 0x80 b.0 in
             let i = class-inside s (at + 1) startsWord refl v in
             let f = ne_eqb byte 0x5C (λ x. clash (sym (no-start "\\" refl byte (ap (oneOf "\\") x)) ∙ b.1)) in
-            let t = name-stops s (at + 1) (nameEnd s (at + 1)) refl (moved (at + 1) (nameEnd s (at + 1)) n) in
-            let m = name-rest s (at + 1) i (nameEnd s (at + 1)).at t.place t.narrow in
+            let t = name-stops s r (at + 1) n in
+            let m = name-rest s (at + 1) i r.at t.place t.narrow in
             let two : at + 1 + 1 ≡ at + 2 = omega arith in (
               omega (arith, m.0),
               m.1,
               sym-token s _ _ _ m.1 (m.2 ∙ ap (λ j. afterIdent false (from s j)) two) (no-char i l f ∙ word-is s (at + 1) byte (at + 2) (behind i l) b.1),
             )
 
+        by : (o : Option names.Here) → o ≡ nameEnd s (at + 1) → Good s at (placeOf o)
+        by None q = declines s at
+        by (Some r) q = at-end-of s at r.at (named r q)
+
     operator-ends : (byte ≡ 0x5C → ⊥) → isSign (classOf byte) ≡ true → Good s at (operatorSymbolEnd s at)
     unfolding operatorSymbolEnd
-    operator-ends w o =
-        pick (Good s at) (eqb (operatorFrom s (at + 1) (at + 1)).at (at + 1)) at (operatorFrom s (at + 1) (at + 1)).at (λ x. declines s at)
-        (λ x n. signs (eqb-false _ _ x))
+    operator-ends w o = by (operatorFrom s (at + 1)) refl
       where
-        signs : ((operatorFrom s (at + 1) (at + 1)).at ≡ at + 1 → ⊥) → Ends s at (operatorFrom s (at + 1) (at + 1)).at
-        signs n =
+        signs : (r : names.Here) → Some r ≡ operatorFrom s (at + 1) → (r.at ≡ at + 1 → ⊥) → Ends s at r.at
+        signs r q n =
             let b = and-both (ltb byte 0x80) (isOpSign byte) (sym (class-sign byte) ∙ o) in
             let l = ltb-true byte 0x80 b.0 in
             let i = class-inside s (at + 1) isSign refl o in
-            let r = operatorFrom s (at + 1) (at + 1) in
-            let t = operator-stops s (at + 1) r (at + 1) refl (moved (at + 1) r n) in
+            let t = operator-stops s r (at + 1) q in
             let m = free-rest s (at + 1) r.at t.place (omega arith) t.narrow in
             let c = no-comment s (at + 1) r.at (omega arith) m.1 m.2 n in (
               omega (arith, m.0),
@@ -218,10 +225,15 @@ module _ (s : List ℕ) (at : ℕ) (h : at < length s) (q : get_or s at 0 ≡ 0x
               sym-token s _ _ _ m.1 m.2 (no-char i l (ne_eqb byte 0x5C w) ∙ run-is s (at + 1) byte (at + 2) (behind i l) (sign-no-start byte b.1) b.1 c),
             )
 
+        by : (a : Option names.Here) → a ≡ operatorFrom s (at + 1) → Good s at (behindTick at a)
+        by None q = declines s at
+        by (Some r) q =
+            pick (Good s at) (eqb r.at (at + 1)) None (Some r.at) (λ x. declines s at) (λ x. at-end-of s at r.at (signs r q (eqb-false _ _ x)))
+
   all-ends : Good s at (charSymEnd s at)
   unfolding charSymEnd charSymBy
   all-ends =
-      pick (Good s at) (endsChar s at byte) _ _ (λ e n. plain-ends e)
+      pick (Good s at) (endsChar s at byte) _ _ (λ e. at-end-of s at (at + 3) (plain-ends e))
       (λ z. pick (Good s at) (upToBlank (classOf byte)) _ _
       (λ u. pick (Good s at) (eqb byte 0x3B) _ _ (λ w. semi-ends z (eqb-true byte 0x3B w)) (λ w. declines s at))
       (λ u. pick (Good s at) (startsWord (classOf byte)) _ _ (λ v. name-ends z u v)
@@ -230,9 +242,9 @@ module _ (s : List ℕ) (at : ℕ) (h : at < length s) (q : get_or s at 0 ≡ 0x
 
 -- ---- for whoever walks
 
-pub symbol-found : (s : List ℕ) (at e : ℕ) → at < length s → get_or s at 0 ≡ 0x27 → e ≡ charSymEnd s at → (e ≡ at → ⊥)
+pub symbol-found : (s : List ℕ) (at e : ℕ) → at < length s → get_or s at 0 ≡ 0x27 → Some e ≡ charSymEnd s at
     → (at < e) × (e ≤ length s) × (tokenTo tk.CharSym (cursorAt e) ≡ pieceOf (length s) (scan (length s) (from s at)))
-symbol-found s at e h q p n =
-    let g = all-ends s at h q (λ z. n (p ∙ z)) in
+symbol-found s at e h q p =
+    let g = all-ends s at h q e p in
     let f : scan (length s) (from s at) ≡ scanCharSym (from s at) = charsym-at s at h (tick-byte s at ∙ eq-eqb (get_or s at 0) 0x27 q) in
-    (omega (arith, g.0), omega (arith, g.1), ap (λ j. tokenTo tk.CharSym (cursorAt j)) p ∙ g.2 ∙ ap (pieceOf (length s)) (sym f))
+    (g.0, g.1, g.2 ∙ ap (pieceOf (length s)) (sym f))

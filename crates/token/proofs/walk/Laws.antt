@@ -44,7 +44,7 @@ made-is i b {p} {q} {u} {v} {m} {n} e f h = ap (λ z. made i b z q m) e ∙ ap (
 
 -- where the walk reaches a state, and the code's numbers make it
 module _ {s : List ℕ} {x : Walked} {out next : List ℕ} {z : State} (r : Reaches s (stateAt x) out z next) where
-  pub steps-to : (y : Walked) → stateAt y ≡ z → y.class ≡ classAt s y.at → y.bytes ≡ headLength * countAt y + y.values → y.line ≤ y.bytes + 1 → y.mark ≤ y.bytes + 1
+  pub steps-to : (y : Walked) → stateAt y ≡ z → y.class.number ≡ classAt s y.at → y.bytes ≡ headLength * countAt y + y.values → y.line ≤ y.bytes + 1 → y.mark ≤ y.bytes + 1
       → Steps s x out y next
   steps-to y e c w l m =
       let k = subst (λ v. Reaches s (stateAt x) out v next) (sym e) r in
@@ -55,7 +55,7 @@ module _ {s : List ℕ} {x : Walked} {out next : List ℕ} {z : State} (r : Reac
 module _ {s : List ℕ} {x : Walked} (g : Good s x) where
   pub step-token : {t : Token} {e : ℕ} → Turn s x.at (gapAt x) t e fresh → (k : ℕ) → headLength + k ≡ recordLength t.kind → (out next : List ℕ)
       → next ≡ storedIf out x.bytes (recordOf t)
-      → Steps s x out (record { at = e; class = classAt s e; bytes = x.bytes + (headLength + k); values = x.values + k; line = x.line; mark = x.mark }) next
+      → Steps s x out (record { at = e; class = record { number = classAt s e }; bytes = x.bytes + (headLength + k); values = x.values + k; line = x.line; mark = x.mark }) next
   step-token {t} {e} u k p out next q =
       let n = one-more x.bytes x.values (countAt x) k g.whole in
       let r = reach-turn (reach-start g.stands) u fresh refl (headLength + k) p next q in

@@ -77,7 +77,7 @@ module _ {s : List ℕ} {x : Walked} (g : Good s x) (h : x.at < length s) where
   step-valued k e f l p r out next q =
       let t : Token = record { kind = k; start = x.at; end = e; cut = false } in
       let z : headLength + (l - headLength) ≡ l = p ∙ sym r in
-      subst (λ n. Steps s x out (record { at = e; class = classAt s e; bytes = x.bytes + n; values = x.values + (l - headLength); line = x.line; mark = x.mark }) next) z
+      subst (λ n. Steps s x out (record { at = e; class = record { number = classAt s e }; bytes = x.bytes + n; values = x.values + (l - headLength); line = x.line; mark = x.mark }) next) z
       (step-token g (found-here s x.at e (gapAt x) k h f) (l - headLength) p out next (q ∙ ap (storedIf out x.bytes) (form-record t)))
 
   -- without values, by the kind's number
@@ -85,7 +85,7 @@ module _ {s : List ℕ} {x : Walked} (g : Good s x) (h : x.at < length s) where
       → (out next : List ℕ) → next ≡ storedIf out x.bytes (byForm (plainForm (kindNumber k)) x.at e false) → Steps s x out (plainBehind x (hereOf s e)) next
   step-bare k e f v out next q =
       let t : Token = record { kind = k; start = x.at; end = e; cut = false } in
-      subst (λ n. Steps s x out (record { at = e; class = classAt s e; bytes = x.bytes + headLength; values = n; line = x.line; mark = x.mark }) next) (add-zero x.values)
+      subst (λ n. Steps s x out (record { at = e; class = record { number = classAt s e }; bytes = x.bytes + headLength; values = n; line = x.line; mark = x.mark }) next) (add-zero x.values)
       (step-token g (found-here s x.at e (gapAt x) k h f) 0 (bare-length k v) out next (q ∙ ap (storedIf out x.bytes) (sym (bare-record t v))))
 
   -- recognised from its ASCII bytes
@@ -111,21 +111,21 @@ plain-head h k start end cut e = head-fields h headLength k start end cut (omega
 
 module _ {s : List ℕ} {x : Walked} (g : Good s x) where
   -- one of the nine signs
-  pub sign-here : upToBlank x.class ≡ true → eqb x.class blankClass ≡ false → oneOf "()[]{},;." (get_or s x.at 0) ≡ true
+  pub sign-here : upToBlank x.class.number ≡ true → eqb x.class.number blankClass ≡ false → oneOf "()[]{},;." (get_or s x.at 0) ≡ true
   sign-here a b =
       let u = sym (class-signs (get_or s x.at 0)) ∙ ap upToBlank (sym g.class) ∙ a in
       let v = sym (class-blank (get_or s x.at 0)) ∙ ap (λ e. eqb e blankClass) (sym g.class) ∙ b in
       or-first (oneOf "()[]{},;." (get_or s x.at 0)) (oneOf " \t" (get_or s x.at 0)) u v
 
-  pub step-sign : upToBlank x.class ≡ true → eqb x.class blankClass ≡ false → (out next : List ℕ)
-      → next ≡ storedIf out x.bytes (headBytes (headLength + 32768 * x.class) x.at (x.at + 1) false) → Steps s x out (plainBehind x (hereOf s (x.at + 1))) next
+  pub step-sign : upToBlank x.class.number ≡ true → eqb x.class.number blankClass ≡ false → (out next : List ℕ)
+      → next ≡ storedIf out x.bytes (headBytes (headLength + 32768 * x.class.number) x.at (x.at + 1) false) → Steps s x out (plainBehind x (hereOf s (x.at + 1))) next
   step-sign a b out next q =
       let o = sign-here a b in
       let h = sign-inside s x.at o in
       let n = class-number (get_or s x.at 0) o in
       let c = g.class in
       let m = signNumber (get_or s x.at 0) in
-      let z : headLength + 32768 * x.class ≡ headNumber headLength m = omega (arith, n, c) in
+      let z : headLength + 32768 * x.class.number ≡ headNumber headLength m = omega (arith, n, c) in
       step-ascii g h (x.at + 1) (AsciiToken.sign o refl) m (sign-number s x.at (x.at + 1) h o) out next (q ∙ ap (storedIf out x.bytes) (plain-head _ m x.at (x.at + 1) false z))
 
   -- blanks
@@ -164,13 +164,13 @@ module _ {s : List ℕ} {x : Walked} (g : Good s x) where
       step-line g (record { walked = w; on = omega arith; within = d.within }) out next (q ∙ ap (storedIf out x.bytes) (form-record t))
 
   -- the byte, from a test of its class
-  pub by-class : (f : ℕ → Bool) {b : Bool} → f x.class ≡ b → f (classAt s x.at) ≡ b
+  pub by-class : (f : ℕ → Bool) {b : Bool} → f x.class.number ≡ b → f (classAt s x.at) ≡ b
   by-class f e = sym (ap f g.class) ∙ e
 
-  blank-here : eqb x.class blankClass ≡ true → oneOf " \t" (get_or s x.at 0) ≡ true
+  blank-here : eqb x.class.number blankClass ≡ true → oneOf " \t" (get_or s x.at 0) ≡ true
   blank-here e = sym (class-blank (get_or s x.at 0)) ∙ by-class (λ z. eqb z blankClass) e
 
-  pub step-one-blank : eqb x.class blankClass ≡ true → (classAt s (x.at + 1) ≡ blankClass → ⊥) → (out : List ℕ) → Steps s x out (movedTo x (hereOf s (x.at + 1))) out
+  pub step-one-blank : eqb x.class.number blankClass ≡ true → (classAt s (x.at + 1) ≡ blankClass → ⊥) → (out : List ℕ) → Steps s x out (movedTo x (hereOf s (x.at + 1))) out
   step-one-blank e n out =
       let o = one-blank s x.at (blank-here e) (sym (class-blank (get_or s (x.at + 1) 0)) ∙ ne_eqb (classAt s (x.at + 1)) blankClass n) in
       step-blanks (x.at + 1) (omega arith) o.0 o.1 out
@@ -178,21 +178,21 @@ module _ {s : List ℕ} {x : Walked} (g : Good s x) where
   blank-next : classAt s (x.at + 1) ≡ blankClass → oneOf " \t" (get_or s (x.at + 1) 0) ≡ true
   blank-next e = sym (class-blank (get_or s (x.at + 1) 0)) ∙ eq-eqb (classAt s (x.at + 1)) blankClass e
 
-  pub two-here : eqb x.class blankClass ≡ true → classAt s (x.at + 1) ≡ blankClass → x.at + 2 ≤ length s
+  pub two-here : eqb x.class.number blankClass ≡ true → classAt s (x.at + 1) ≡ blankClass → x.at + 2 ≤ length s
   two-here e f = (two-blanks s x.at (blank-here e) (blank-next f)).0
 
-  pub step-more-blanks : eqb x.class blankClass ≡ true → classAt s (x.at + 1) ≡ blankClass → (k : ℕ) → k ≤ length s → x.at + 2 ≤ k
+  pub step-more-blanks : eqb x.class.number blankClass ≡ true → classAt s (x.at + 1) ≡ blankClass → (k : ℕ) → k ≤ length s → x.at + 2 ≤ k
       → from s k ≡ afterRun (isAny " \t") (from s (x.at + 2)) → (out : List ℕ) → Steps s x out (movedTo x (hereOf s k)) out
   step-more-blanks e f k w l q out = step-blanks k (omega arith) w (q ∙ (two-blanks s x.at (blank-here e) (blank-next f)).1) out
 
   -- line ends
-  pub lf-here : eqb x.class lfClass ≡ true → GapTo s GapKind.lineEnd x.at (x.at + 1)
+  pub lf-here : eqb x.class.number lfClass ≡ true → GapTo s GapKind.lineEnd x.at (x.at + 1)
   lf-here e =
       let b = or-first (eqb (get_or s x.at 0) 0x0A) false (sym (class-lf (get_or s x.at 0)) ∙ by-class (λ z. eqb z lfClass) e) refl in
       let q = line-end-lf s x.at b in
       rw (sym q) at (line-end-found s x.at (λ z. absurd (omega (arith, q, z))))
 
-  pub cr-here : eqb x.class crClass ≡ true → get_or s (x.at + 1) 0 ≡ 0x0A → GapTo s GapKind.lineEnd x.at (x.at + 2)
+  pub cr-here : eqb x.class.number crClass ≡ true → get_or s (x.at + 1) 0 ≡ 0x0A → GapTo s GapKind.lineEnd x.at (x.at + 2)
   cr-here e n =
       let b = or-first (eqb (get_or s x.at 0) 0x0D) false (sym (class-cr (get_or s x.at 0)) ∙ by-class (λ z. eqb z crClass) e) refl in
       let z : get_or s x.at 0 ≡ 0x0D = eqb-true (get_or s x.at 0) 0x0D b in

@@ -1,13 +1,16 @@
 -- Identifiers, keywords, backticks and strings, by the class of the first byte: where they end, whether they prefix a string, and the step past them.
 use Prim.Native.Nat.{ℕ, ◌+◌, ◌≤◌, ◌<◌}
 use mathlib.Core.Path.{◌≡◌, refl, sym, ◌∙◌, ap}
-use mathlib.Core.Bool.{Bool, true, false, not, ◌&&◌, ◌||◌}
+use mathlib.Core.Bool.{Bool, true, false, not, ◌&&◌, ◌||◌, and-false}
+use mathlib.Core.Logic.{◌⊎◌, inl, inr}
 use mathlib.Core.List.{List}
 use mathlib.Core.Option.{Option, none, some}
+use Rattle.std.specs.Prelude.{Some}
+use Rattle.std.proofs.lemmas.Option.{same_Some}
 use lib.ListN.{length, get_or}
 use lib.Dec.{eqb, leb}
 use native.Mathlib.Omega.{arith}
-use borrow.Author.Tests.{eqb-true, eqb-false, eq-eqb, leb-true, le-leb}
+use borrow.Author.Tests.{eqb-true, eqb-false, eq-eqb, leb-true, le-leb, lt-leb}
 use Rattle.chars.specs.paper.Text.{from}
 use Rattle.chars.proofs.Bools.{clash, and-both}
 use Rattle.chars.proofs.theorems.Promises.{text-laws}
@@ -19,8 +22,9 @@ use Rattle.token.specs.code.ByteClass.{classAt, quoteClass, backtickClass, keywo
 use Rattle.token.specs.code.Cursor.{cursorAt}
 use Rattle.token.specs.code.Form.{plainForm, byForm}
 use Rattle.token.specs.code.Keyword.{numberOr}
-use Rattle.token.specs.code.Names.{nameTo, nameEnd}
+use Rattle.token.specs.code.Names.{hereOf, nameTo, nameEnd}
 use Rattle.token.specs.code.Piece.{pieceOf}
+use Rattle.token.specs.code.Quoted.{backtickEnd}
 use Rattle.token.specs.code.Records.{storedIf}
 use Rattle.token.specs.code.Walk.{Good, plainBehind, Steps, beginsName, nameNumber, prefixEnd, LeftTo, Opens}
 use Rattle.token.specs.declared.kinds.Kw.{Kw}
@@ -30,11 +34,11 @@ use Rattle.token.specs.declared.names.Here.{Here}
 use Rattle.token.specs.declared.walk.Walked.{Walked}
 use Rattle.token.proofs.byte_class.Laws.{class-quote, class-backtick}
 use Rattle.token.proofs.ident.Laws.{token-at, not-prefixed}
-use Rattle.token.proofs.names.Bytes.{Stops, class-inside, name-stops, moved, classed}
+use Rattle.token.proofs.names.Bytes.{Stops, class-inside, name-stops}
 use Rattle.token.proofs.names.Laws.{name-rest, quote-class}
 use Rattle.token.proofs.names.Ascii.{word-scan}
 use Rattle.token.proofs.quoted.Found.{backtick-found}
-use Rattle.token.proofs.walk.Numbers.{prefix-quote, prefix-backtick, prefix-name, name-backtick}
+use Rattle.token.proofs.walk.Numbers.{prefix-quote, prefix-backtick, prefix-name, name-backtick, name-quote, found-some}
 use Rattle.token.proofs.walk.Pieces.{by-class, step-bare}
 use Rattle.token.proofs.walk.Words.{oneOf, behind-here, start-byte, word-inside, word-leaves, name-counts, step-name}
 open text-laws use {suffix-refl}
@@ -42,6 +46,11 @@ open text-laws use {suffix-refl}
 and-first : (a b : Bool) → a && b ≡ false → b ≡ true → a ≡ false
 and-first true b e f = clash (sym e ∙ f)
 and-first false b e f = refl
+
+-- a name is no string's opening: no quote stands behind it, or it is a keyword
+pub no-opening : (a : Bool) (j : ℕ) {r : Bool} → r ≡ a → ((r ≡ true) × (3 < j)) ⊎ (r ≡ false) → a && leb j 3 ≡ false
+no-opening a j e (inl x) = rw (lt-leb j 3 x.1) (and-false a)
+no-opening a j e (inr y) = rw (sym e ∙ y)
 
 -- with which of the three it begins
 data Begins (k : ℕ) : Type 0 where
@@ -82,95 +91,115 @@ few (some j) l = let a = keyword-above j in absurd (omega arith)
 at-of : {e h : Here} → e ≡ h → e.at ≡ h.at
 at-of q = ap (λ (z : Here). z.at) q
 
-class-of : {e h : Here} → e ≡ h → e.class ≡ h.class
-class-of q = ap (λ (z : Here). z.class) q
+class-of : {e h : Here} → e ≡ h → e.class.number ≡ h.class.number
+class-of q = ap (λ (z : Here). z.class.number) q
 
 quote-here : (s : List ℕ) (i : ℕ) → eqb (classAt s i) quoteClass ≡ true → get_or s i 0 ≡ 0x22
 quote-here s i e = oneOf 0x22 (sym (class-quote (get_or s i 0)) ∙ e)
 
-module _ {s : List ℕ} {x : Walked} (g : Good s x) (k : beginsName x.class ≡ true) where
+module _ {s : List ℕ} {x : Walked} (g : Good s x) (k : beginsName x.class.number ≡ true) where
   pub name-inside : x.at < length s
   name-inside = class-inside s x.at beginsName refl (by-class g beginsName k)
 
-  tick : x.class ≡ backtickClass → get_or s x.at 0 ≡ 0x60
-  tick c = oneOf 0x60 (sym (class-backtick (get_or s x.at 0)) ∙ by-class g (λ y. eqb y backtickClass) (eq-eqb x.class backtickClass c))
+  tick : x.class.number ≡ backtickClass → get_or s x.at 0 ≡ 0x60
+  tick c = oneOf 0x60 (sym (class-backtick (get_or s x.at 0)) ∙ by-class g (λ y. eqb y backtickClass) (eq-eqb x.class.number backtickClass c))
 
-  module _ (e : Here) (q : e ≡ prefixEnd s x.class x.at) where
+  module _ (e : Here) (q : Some e ≡ prefixEnd s x.class.number x.at) where
     -- where it begins with a letter
-    module _ (n : x.class ≡ quoteClass → ⊥) (m : x.class ≡ backtickClass → ⊥) (w : not (upToBlank x.class) && startsWord x.class ≡ true) where
-      named : e ≡ nameEnd s x.at
-      named = q ∙ sym (prefix-name s x.class x.at n m)
+    module _ (n : x.class.number ≡ quoteClass → ⊥) (m : x.class.number ≡ backtickClass → ⊥) (w : not (upToBlank x.class.number) && startsWord x.class.number ≡ true) where
+      named : Some e ≡ nameEnd s x.at
+      named = q ∙ sym (prefix-name s x.class.number x.at n m)
 
       rests : Stops s (nameTo s x.at) e → (x.at < e.at) × (e.at ≤ length s) × (from s e.at ≡ afterIdent false (from s (x.at + 1)))
       rests st = name-rest s x.at (word-inside g w) e.at st.place st.narrow
 
-      left : (b : Bool) → eqb e.at x.at ≡ b → LeftTo s x.at e.at
-      left true f = rw (eqb-true e.at x.at f) (omega arith, g.stands.within, suffix-refl (from s x.at))
-      left false f = let r = rests (name-stops s x.at e named (moved x.at e (eqb-false e.at x.at f))) in word-leaves g w e.at r.1 r.2
+      left : LeftTo s x.at e.at
+      left = let r = rests (name-stops s e x.at named) in word-leaves g w e.at r.1 r.2
 
-    pub name-left : eqb x.class keywordClass ≡ true → LeftTo s x.at e.at
-    name-left f = go (begins x.class k)
+    quote-is : x.class.number ≡ quoteClass → e ≡ record { at = x.at; class = record { number = x.class.number } }
+    quote-is c = same_Some e (record { at = x.at; class = record { number = x.class.number } }) (q ∙ sym (prefix-quote s x.class.number x.at c))
+
+    ticks : (x.class.number ≡ quoteClass → ⊥) → x.class.number ≡ backtickClass → (Some e.at ≡ backtickEnd s x.at) × (e ≡ hereOf s e.at)
+    ticks n c = found-some s (backtickEnd s x.at) e (q ∙ sym (prefix-backtick s x.class.number x.at n c))
+
+    pub name-left : eqb x.class.number keywordClass ≡ true → LeftTo s x.at e.at
+    name-left f = go (begins x.class.number k)
       where
-        is : x.class ≡ keywordClass
-        is = eqb-true x.class keywordClass f
+        is : x.class.number ≡ keywordClass
+        is = eqb-true x.class.number keywordClass f
 
-        go : Begins x.class → LeftTo s x.at e.at
+        go : Begins x.class.number → LeftTo s x.at e.at
         go (Begins.quoted c) = absurd (omega (arith, is, c))
         go (Begins.ticked n c) = absurd (omega (arith, is, c))
-        go (Begins.lettered n m w) = left n m w (eqb e.at x.at) refl
+        go (Begins.lettered n m w) = left n m w
 
-    module _ (j : ℕ) (z : j ≡ nameNumber s x.class x.at e.at) where
+    module _ (j : ℕ) (z : j ≡ nameNumber s x.class.number x.at e.at) where
       -- a string's opening stands behind it, or it is one
-      pub name-opens : eqb e.class quoteClass && leb j 3 ≡ true → Opens s x e.at
-      name-opens f = go (begins x.class k)
+      pub name-opens : eqb e.class.number quoteClass && leb j 3 ≡ true → Opens s x e.at
+      name-opens f = go (begins x.class.number k)
         where
-          both : (eqb e.class quoteClass ≡ true) × (leb j 3 ≡ true)
-          both = and-both (eqb e.class quoteClass) (leb j 3) f
+          both : (eqb e.class.number quoteClass ≡ true) × (leb j 3 ≡ true)
+          both = and-both (eqb e.class.number quoteClass) (leb j 3) f
 
-          is-quote : e.class ≡ quoteClass
-          is-quote = eqb-true e.class quoteClass both.0
+          is-quote : e.class.number ≡ quoteClass
+          is-quote = eqb-true e.class.number quoteClass both.0
 
-          byte : e.class ≡ classAt s e.at → get_or s e.at 0 ≡ 0x22
+          byte : e.class.number ≡ classAt s e.at → get_or s e.at 0 ≡ 0x22
           byte c = quote-here s e.at (sym (ap (λ y. eqb y quoteClass) c) ∙ both.0)
 
-          go : Begins x.class → Opens s x e.at
+          go : Begins x.class.number → Opens s x e.at
           go (Begins.quoted c) =
-              let h = q ∙ sym (prefix-quote s x.class x.at c) in
+              let h = quote-is c in
               Opens.plain (at-of h) (byte (class-of h ∙ g.class ∙ ap (classAt s) (sym (at-of h))))
           go (Begins.ticked n c) =
-              let h = q ∙ sym (prefix-backtick s x.class x.at n c) in
-              let d = class-of h ∙ ap (classAt s) (sym (at-of h)) in
-              let o : e.at ≡ x.at → ⊥ = λ y. absurd (omega (arith, is-quote, d ∙ ap (classAt s) y ∙ sym g.class, c)) in
-              let b = backtick-found s x.at (tick c) e.at (at-of h) o in
+              let h = ticks n c in
+              let d = class-of h.1 in
+              let b = backtick-found s x.at (tick c) e.at h.0 in
               Opens.prefixed tk.BacktickId b.0 b.1 (byte d) (b.2 ∙ b.3)
           go (Begins.lettered n m w) =
-              let st = name-stops s x.at e (named n m w) (classed x.at e (λ y. absurd (omega (arith, is-quote, y)))) in
+              let st = name-stops s e x.at (named n m w) in
               let r = rests n m w st in
               let c = name-counts g w e.at r.1 r.2 in
               let l = leb-true j 3 both.1 in
               let o = few (wordOf (codesTo (from s x.at) (from s e.at))) (omega (arith, c, z)) in
               Opens.prefixed tk.Ident r.0 r.1 (byte st.class-is) (word-scan s x.at e.at (word-inside g w) (start-byte g w) r.1 r.2 none o)
 
-      pub step-named : eqb e.class quoteClass && leb j 3 ≡ false → (e.at ≡ x.at → ⊥) → (out next : List ℕ)
+      -- a quote alone is a string's opening
+      quoted-named : eqb e.class.number quoteClass && leb j 3 ≡ false → x.class.number ≡ quoteClass → ⊥
+      quoted-named f c =
+          let d : e.class.number ≡ quoteClass = class-of (quote-is c) ∙ c in
+          let y : j ≡ 1 = z ∙ sym (name-quote s x.class.number x.at e.at c) in
+          clash (sym (rw (eq-eqb e.class.number quoteClass d, y) at f) ∙ refl)
+
+      -- what is no string ends past where the walk stands
+      pub named-on : eqb e.class.number quoteClass && leb j 3 ≡ false → x.at < e.at
+      named-on f = go (begins x.class.number k)
+        where
+          go : Begins x.class.number → x.at < e.at
+          go (Begins.quoted c) = absurd (quoted-named f c)
+          go (Begins.ticked n c) = (backtick-found s x.at (tick c) e.at (ticks n c).0).0
+          go (Begins.lettered n m w) = (rests n m w (name-stops s e x.at (named n m w))).0
+
+      pub step-named : eqb e.class.number quoteClass && leb j 3 ≡ false → (out next : List ℕ)
           → next ≡ storedIf out x.bytes (byForm (plainForm j) x.at e.at false) → Steps s x out (plainBehind x e) next
       unfolding values
-      step-named f o out next v = go (begins x.class k)
+      step-named f out next v = go (begins x.class.number k)
         where
-          unquoted : e.class ≡ classAt s e.at → j ≤ 3 → quote (from s e.at) ≡ false
-          unquoted c l = quote-class s e.at ∙ sym (ap (λ y. eqb y quoteClass) c) ∙ and-first (eqb e.class quoteClass) (leb j 3) f (le-leb j 3 l)
+          unquoted : e.class.number ≡ classAt s e.at → j ≤ 3 → quote (from s e.at) ≡ false
+          unquoted c l = quote-class s e.at ∙ sym (ap (λ y. eqb y quoteClass) c) ∙ and-first (eqb e.class.number quoteClass) (leb j 3) f (le-leb j 3 l)
 
-          go : Begins x.class → Steps s x out (plainBehind x e) next
-          go (Begins.quoted c) = absurd (o (at-of (q ∙ sym (prefix-quote s x.class x.at c))))
+          go : Begins x.class.number → Steps s x out (plainBehind x e) next
+          go (Begins.quoted c) = absurd (quoted-named f c)
           go (Begins.ticked n c) =
-              let h = q ∙ sym (prefix-backtick s x.class x.at n c) in
-              let d = class-of h ∙ ap (classAt s) (sym (at-of h)) in
-              let b = backtick-found s x.at (tick c) e.at (at-of h) o in
-              let y : j ≡ 3 = z ∙ sym (name-backtick s x.class x.at e.at c) in
+              let h = ticks n c in
+              let d = class-of h.1 in
+              let b = backtick-found s x.at (tick c) e.at h.0 in
+              let y : j ≡ 3 = z ∙ sym (name-backtick s x.class.number x.at e.at c) in
               let p = token-at s tk.BacktickId (cursorAt e.at) (from s e.at) b.1 refl
               ∙ ap (pieceOf (length s)) (sym (b.2 ∙ b.3 ∙ not-prefixed (length s) tk.BacktickId (from s x.at) (from s e.at) (unquoted d (omega arith)))) in
               behind-here e d (step-bare g name-inside tk.BacktickId e.at p refl out next (v ∙ ap (λ i. storedIf out x.bytes (byForm (plainForm i) x.at e.at false)) y))
           go (Begins.lettered n m w) =
-              let st = name-stops s x.at e (named n m w) (moved x.at e o) in
+              let st = name-stops s e x.at (named n m w) in
               let r = rests n m w st in
               let c = name-counts g w e.at r.1 r.2 in
               behind-here e st.class-is

@@ -3,6 +3,7 @@ use Prim.Native.Nat.{ℕ, ◌+◌, ◌-◌, ◌≤◌, ◌<◌}
 use mathlib.Core.Path.{◌≡◌, refl, sym, ◌∙◌, ap, subst}
 use mathlib.Core.Bool.{Bool, true, false, cond, not, ◌&&◌, ◌||◌}
 use mathlib.Core.List.{List}
+use Rattle.std.specs.Prelude.{Some}
 use mathlib.Core.Option.{Option, none, some}
 use lib.ListN.{length, get_or}
 use lib.Dec.{eqb, ltb}
@@ -53,10 +54,10 @@ open code_laws use {carry}
 open text-laws use {place-from}
 
 -- a place that the code handed back with the class there
-pub here-is : (s : List ℕ) (e : Here) → e.class ≡ classAt s e.at → hereOf s e.at ≡ e
-here-is s e q = ap (λ c. record { at = e.at; class = c }) (sym q)
+pub here-is : (s : List ℕ) (e : Here) → e.class.number ≡ classAt s e.at → hereOf s e.at ≡ e
+here-is s e q = ap (λ c. record { at = e.at; class = record { number = c } }) (sym q)
 
-pub behind-here : {s : List ℕ} {x : Walked} {out next : List ℕ} (e : Here) → e.class ≡ classAt s e.at → Steps s x out (plainBehind x (hereOf s e.at)) next
+pub behind-here : {s : List ℕ} {x : Walked} {out next : List ℕ} (e : Here) → e.class.number ≡ classAt s e.at → Steps s x out (plainBehind x (hereOf s e.at)) next
     → Steps s x out (plainBehind x e) next
 behind-here {s} {x} {out} {next} e q h = subst (λ z. Steps s x out (plainBehind x z) next) (here-is s e q) h
 
@@ -79,15 +80,18 @@ prefixed-piece s i q e k h z l c f =
 -- ---- operators
 
 module _ {s : List ℕ} {x : Walked} (g : Good s x) where
-  sign-byte : isSign x.class ≡ true → ltb (get_or s x.at 0) 0x80 && isOpSign (get_or s x.at 0) ≡ true
+  sign-byte : isSign x.class.number ≡ true → ltb (get_or s x.at 0) 0x80 && isOpSign (get_or s x.at 0) ≡ true
   sign-byte e = sym (class-sign (get_or s x.at 0)) ∙ by-class g isSign e
 
-  pub sign-within : isSign x.class ≡ true → x.at < length s
+  pub sign-within : isSign x.class.number ≡ true → x.at < length s
   sign-within e = class-inside s x.at isSign refl (by-class g isSign e)
 
-  module _ (k : isSign x.class ≡ true) (y : opensComment (from s x.at) ≡ false) (e : Here) (st : Stops s (operatorTo s (x.at + 1)) e) where
+  module _ (k : isSign x.class.number ≡ true) (y : opensComment (from s x.at) ≡ false) (e : Here) (st : Stops s (operatorTo s (x.at + 1)) e) where
     rest : (x.at < e.at) × (e.at ≤ length s) × (from s e.at ≡ afterRun freeSign (from s x.at))
     rest = operator-rest s x.at (sign-within k) (sign-byte k) y e.at st.place st.narrow
+
+    pub operator-on : x.at < e.at
+    operator-on = rest.0
 
     pub operator-left : (x.at ≤ e.at) × (e.at ≤ length s) × Suffix (from s e.at) (from s x.at)
     operator-left = run-to s x.at e.at (sign-within k) (sign-byte k) rest.1 rest.2
@@ -114,15 +118,15 @@ module _ {s : List ℕ} {x : Walked} (g : Good s x) where
             (stored _ (number false f))
 
   -- a run without `/`, behind which nothing makes more of it
-  module _ (k : inRun x.class ≡ true) (e : Here) (q : e ≡ hereOf s (runTo inRun s (x.at + 1))) (m : asksMore e.class ≡ false) where
+  module _ (k : inRun x.class.number ≡ true) (e : Here) (q : e ≡ hereOf s (runTo inRun s (x.at + 1))) (m : asksMore e.class.number ≡ false) where
     run-here : inRun (classAt s x.at) ≡ true
     run-here = by-class g inRun k
 
     run-inside : x.at < length s
     run-inside = class-inside s x.at inRun refl run-here
 
-    here-class : e.class ≡ classAt s e.at
-    here-class = ap (λ (z : Here). z.class) q ∙ ap (classAt s) (sym (ap (λ (z : Here). z.at) q))
+    here-class : e.class.number ≡ classAt s e.at
+    here-class = ap (λ (z : Here). z.class.number) q ∙ ap (classAt s) (sym (ap (λ (z : Here). z.at) q))
 
     plain : (operatorTo s (x.at + 1) ≡ e.at) × (eqb (classAt s e.at) wideClass ≡ false) × (eqb (classAt s e.at) slashClass ≡ false)
     plain = run-plain s x.at run-inside run-here e.at (ap (λ (z : Here). z.at) q) (sym (ap asksMore here-class) ∙ m)
@@ -133,8 +137,8 @@ module _ {s : List ℕ} {x : Walked} (g : Good s x) where
     run-opens : opensComment (from s x.at) ≡ false
     run-opens = run-clear s x.at run-inside run-here
 
-    run-sign : isSign x.class ≡ true
-    run-sign = let l = leb-true 160 x.class k in le-leb 142 x.class (omega arith)
+    run-sign : isSign x.class.number ≡ true
+    run-sign = let l = leb-true 160 x.class.number k in le-leb 142 x.class.number (omega arith)
 
     pub run-on : x.at < e.at
     run-on = (operator-rest s x.at run-inside (sign-byte run-sign) run-opens e.at (sym plain.0) plain.1).0
@@ -145,18 +149,26 @@ module _ {s : List ℕ} {x : Walked} (g : Good s x) where
     pub step-run : (out next : List ℕ) → next ≡ storedIf out x.bytes (byForm (plainForm (operatorNumber s x.at e)) x.at e.at false) → Steps s x out (plainBehind x e) next
     step-run = step-operator run-sign run-opens e run-stops
 
-  pub run-within : inRun x.class ≡ true → x.at < length s
+  pub run-within : inRun x.class.number ≡ true → x.at < length s
   run-within k = class-inside s x.at inRun refl (by-class g inRun k)
 
 -- ---- numbers
 
-module _ {s : List ℕ} {x : Walked} (g : Good s x) (k : eqb x.class digitClass ≡ true) where
+module _ {s : List ℕ} {x : Walked} (g : Good s x) (k : eqb x.class.number digitClass ≡ true) where
   pub digit-here : isDigit (get_or s x.at 0) ≡ true
   unfolding isDigit
   digit-here = carry (λ b. between 0x30 0x39 b) (codes "0123456789") (get_or s x.at 0) refl (sym (class-digit (get_or s x.at 0)) ∙ by-class g (λ z. eqb z digitClass) k)
 
   pub digit-inside : x.at < length s
   digit-inside = class-inside s x.at (λ z. eqb z digitClass) refl (by-class g (λ z. eqb z digitClass) k)
+
+  -- a number ends past where the walk stands
+  module _ (r : NumberLit) (q : r ≡ literalOf s x.at) where
+    pub int-on : r.long ≡ false → r.value ≤ 2147483647 → x.at < r.end
+    int-on f l = (int-found s x.at digit-inside digit-here r q f l).0
+
+    pub long-on : r.long ≡ true → r.value ≤ 9223372036854775807 → x.at < r.end
+    long-on f l = (long-found s x.at digit-inside digit-here r q f l).0
 
   pub step-int : (r : NumberLit) → r ≡ literalOf s x.at → r.long ≡ false → r.value ≤ 2147483647 → (out next : List ℕ)
       → next ≡ storedIf out x.bytes (byForm (formOf (tk.IntLit r.value)) x.at r.end false) → Steps s x out (valuesBehind x (hereOf s r.end) intLength) next
@@ -170,11 +182,11 @@ module _ {s : List ℕ} {x : Walked} (g : Good s x) (k : eqb x.class digitClass 
       let u = long-found s x.at digit-inside digit-here r q f l in
       step-valued g digit-inside (tk.LongLit r.value) r.end u.2 longLength (long-size r.value) (long-size r.value) out next z
 
-  pub step-digit : (e : Here) → e ≡ hereOf s (x.at + 1) → inWord e.class ≡ false → (v : ℕ) → v ≡ digitValue (get_or s x.at 0) → (out next : List ℕ)
+  pub step-digit : (e : Here) → e ≡ hereOf s (x.at + 1) → inWord e.class.number ≡ false → (v : ℕ) → v ≡ digitValue (get_or s x.at 0) → (out next : List ℕ)
       → next ≡ storedIf out x.bytes (byForm (formOf (tk.IntLit v)) x.at e.at false) → Steps s x out (valuesBehind x e intLength) next
   step-digit e q w v r out next z =
       let at : e.at ≡ x.at + 1 = ap (λ (y : Here). y.at) q in
-      let c : e.class ≡ classAt s (x.at + 1) = ap (λ (y : Here). y.class) q in
+      let c : e.class.number ≡ classAt s (x.at + 1) = ap (λ (y : Here). y.class.number) q in
       let u = digit-alone s x.at digit-inside digit-here (sym (ap inWord c) ∙ w) in
       subst (λ y. Steps s x out (valuesBehind x y intLength) next) (sym q)
       (step-valued g digit-inside (tk.IntLit (digitValue (get_or s x.at 0))) (x.at + 1) u intLength (int-size _) (int-size _) out next
@@ -183,24 +195,27 @@ module _ {s : List ℕ} {x : Walked} (g : Good s x) (k : eqb x.class digitClass 
 
 -- ---- characters and symbols
 
-module _ {s : List ℕ} {x : Walked} (g : Good s x) (k : eqb x.class tickClass ≡ true) where
+module _ {s : List ℕ} {x : Walked} (g : Good s x) (k : eqb x.class.number tickClass ≡ true) where
   pub tick-inside : x.at < length s
   tick-inside = class-inside s x.at (λ z. eqb z tickClass) refl (by-class g (λ z. eqb z tickClass) k)
 
   pub tick-here : get_or s x.at 0 ≡ 0x27
   tick-here = oneOf 0x27 (sym (class-tick (get_or s x.at 0)) ∙ by-class g (λ z. eqb z tickClass) k)
 
-  pub step-symbol : (e : ℕ) → e ≡ charSymEnd s x.at → (e ≡ x.at → ⊥) → (out next : List ℕ)
+  pub symbol-on : (e : ℕ) → Some e ≡ charSymEnd s x.at → x.at < e
+  symbol-on e q = (symbol-found s x.at e tick-inside tick-here q).0
+
+  pub step-symbol : (e : ℕ) → Some e ≡ charSymEnd s x.at → (out next : List ℕ)
       → next ≡ storedIf out x.bytes (byForm (plainForm 7) x.at e false) → Steps s x out (plainBehind x (hereOf s e)) next
   unfolding values
-  step-symbol e q n out next z = step-bare g tick-inside tk.CharSym e (symbol-found s x.at e tick-inside tick-here q n).2 refl out next z
+  step-symbol e q out next z = step-bare g tick-inside tk.CharSym e (symbol-found s x.at e tick-inside tick-here q).2 refl out next z
 
 -- ---- words
 
 pub starts-by : (k : ℕ) → upToBlank k ≡ false → startsWord k ≡ true → not (upToBlank k) && startsWord k ≡ true
 starts-by k a b = rw (a, b)
 
-module _ {s : List ℕ} {x : Walked} (g : Good s x) (k : not (upToBlank x.class) && startsWord x.class ≡ true) where
+module _ {s : List ℕ} {x : Walked} (g : Good s x) (k : not (upToBlank x.class.number) && startsWord x.class.number ≡ true) where
   start-here : not (upToBlank (classAt s x.at)) && startsWord (classAt s x.at) ≡ true
   start-here = by-class g (λ e. not (upToBlank e) && startsWord e) k
 
@@ -216,27 +231,27 @@ module _ {s : List ℕ} {x : Walked} (g : Good s x) (k : not (upToBlank x.class)
     word-leaves = word-left s x.at e word-inside start-byte l r
 
     -- only with seven letters does one of the nine words begin
-    pub name-counts : nameNumber s x.class x.at e ≡ numberOr 1 (wordOf (codesTo (from s x.at) (from s e)))
+    pub name-counts : nameNumber s x.class.number x.at e ≡ numberOr 1 (wordOf (codesTo (from s x.at) (from s e)))
     unfolding nameNumber numberOr
-    name-counts = go (eqb x.class keywordClass) refl
+    name-counts = go (eqb x.class.number keywordClass) refl
       where
-        go : (b : Bool) → eqb x.class keywordClass ≡ b
-            → cond b (numberOr 1 (wordOf (codesTo (from s x.at) (from s e)))) (cond (eqb x.class backtickClass) 3 1) ≡ numberOr 1 (wordOf (codesTo (from s x.at) (from s e)))
+        go : (b : Bool) → eqb x.class.number keywordClass ≡ b
+            → cond b (numberOr 1 (wordOf (codesTo (from s x.at) (from s e)))) (cond (eqb x.class.number backtickClass) 3 1) ≡ numberOr 1 (wordOf (codesTo (from s x.at) (from s e)))
         go true q = refl
         go false q =
             let c = sym (class-keyword (get_or s x.at 0)) ∙ by-class g (λ z. eqb z keywordClass) q in
             let w = word-leaves in
             let n = word-at s x.at e w.0 w.1 w.2 ∙ first-none (codes "cefimrt") wordKeywords (e - x.at) s x.at refl c in
-            let b = ne_eqb x.class backtickClass (λ z. clash (sym (ap (λ y. not (upToBlank y) && startsWord y) z) ∙ k)) in
+            let b = ne_eqb x.class.number backtickClass (λ z. clash (sym (ap (λ y. not (upToBlank y) && startsWord y) z) ∙ k)) in
             ap (λ y. cond y 3 1) b ∙ sym (ap (numberOr 1) n)
 
     -- a keyword, before a quote too; or an identifier that prefixes no string
     pub step-name : (numberOr 1 (wordOf (codesTo (from s x.at) (from s e))) ≤ 3 → quote (from s e) ≡ false) → (out next : List ℕ)
-        → next ≡ storedIf out x.bytes (byForm (plainForm (nameNumber s x.class x.at e)) x.at e false) → Steps s x out (plainBehind x (hereOf s e)) next
+        → next ≡ storedIf out x.bytes (byForm (plainForm (nameNumber s x.class.number x.at e)) x.at e false) → Steps s x out (plainBehind x (hereOf s e)) next
     unfolding numberOr
     step-name z out next q = go (wordOf (codesTo (from s x.at) (from s e))) refl
       where
-        stored : (m : ℕ) → nameNumber s x.class x.at e ≡ m → next ≡ storedIf out x.bytes (byForm (plainForm m) x.at e false)
+        stored : (m : ℕ) → nameNumber s x.class.number x.at e ≡ m → next ≡ storedIf out x.bytes (byForm (plainForm m) x.at e false)
         stored m f = q ∙ ap (λ y. storedIf out x.bytes (byForm (plainForm y) x.at e false)) f
 
         go : (o : Option Kw) → wordOf (codesTo (from s x.at) (from s e)) ≡ o → Steps s x out (plainBehind x (hereOf s e)) next
@@ -249,9 +264,9 @@ module _ {s : List ℕ} {x : Walked} (g : Good s x) (k : not (upToBlank x.class)
             step-bare g word-inside (tk.Kw j) e u (word-bare (some j)) out next (stored (kwNumber j) (name-counts ∙ ap (numberOr 1) f))
 
   -- behind which nothing makes more of it
-  module _ (e : Here) (q : e ≡ hereOf s (runTo inWord s (x.at + 1))) (m : asksMore e.class ≡ false) where
-    word-class : e.class ≡ classAt s e.at
-    word-class = ap (λ (z : Here). z.class) q ∙ ap (classAt s) (sym (ap (λ (z : Here). z.at) q))
+  module _ (e : Here) (q : e ≡ hereOf s (runTo inWord s (x.at + 1))) (m : asksMore e.class.number ≡ false) where
+    word-class : e.class.number ≡ classAt s e.at
+    word-class = ap (λ (z : Here). z.class.number) q ∙ ap (classAt s) (sym (ap (λ (z : Here). z.at) q))
 
     word-is : (nameTo s x.at ≡ e.at) × (eqb (classAt s e.at) wideClass ≡ false) × (quote (from s e.at) ≡ false)
     word-is = word-plain s x.at word-inside e.at (ap (λ (z : Here). z.at) q) (sym (ap asksMore word-class) ∙ m)
@@ -265,7 +280,7 @@ module _ {s : List ℕ} {x : Walked} (g : Good s x) (k : not (upToBlank x.class)
     pub plain-leaves : LeftTo s x.at e.at
     plain-leaves = word-leaves e.at word-rests.1 word-rests.2
 
-    pub step-word : (out next : List ℕ) → next ≡ storedIf out x.bytes (byForm (plainForm (nameNumber s x.class x.at e.at)) x.at e.at false) → Steps s x out (plainBehind x e) next
+    pub step-word : (out next : List ℕ) → next ≡ storedIf out x.bytes (byForm (plainForm (nameNumber s x.class.number x.at e.at)) x.at e.at false) → Steps s x out (plainBehind x e) next
     step-word out next z = behind-here e word-class (step-name e.at word-rests.1 word-rests.2 (λ w. word-is.2) out next z)
 
 -- ---- strings
@@ -279,27 +294,37 @@ module _ {s : List ℕ} {x : Walked} (g : Good s x) where
   open-within {q} o = let b = open-byte o in let h = inside s q (omega arith) in (omega arith, quote-byte s q ∙ eq-eqb (get_or s q 0) 0x22 b)
 
   -- what the content's places are made of
-  pub open-off : {q : ℕ} → Opens s x q → (r : Quoted) → r ≡ stringOf (ltb x.at q) s q → (r.end ≡ q → ⊥) → (o : ℕ) → o ≡ cond (ltb x.at q) 0 r.quotes → (o ≤ r.end) × (o ≤ 3)
-  open-off {q} h r z n o e = go (ltb x.at q) refl (quotes-within (ltb x.at q) s q (open-byte h) r z n) (quotes-few (ltb x.at q) s q (open-byte h) r z n)
+  pub open-off : {q : ℕ} → Opens s x q → (r : Quoted) → Some r ≡ stringOf (ltb x.at q) s q → (o : ℕ) → o ≡ cond (ltb x.at q) 0 r.quotes → (o ≤ r.end) × (o ≤ 3)
+  open-off {q} h r z o e = go (ltb x.at q) refl (quotes-within (ltb x.at q) s q (open-byte h) r z) (quotes-few (ltb x.at q) s q (open-byte h) r z)
     where
       go : (b : Bool) → ltb x.at q ≡ b → r.quotes ≤ r.end → r.quotes ≤ 3 → (o ≤ r.end) × (o ≤ 3)
       go true f l m = let y : o ≡ 0 = e ∙ ap (λ y. cond y 0 r.quotes) f in (omega arith, omega arith)
       go false f l m = let y : o ≡ r.quotes = e ∙ ap (λ y. cond y 0 r.quotes) f in (omega arith, omega arith)
 
-  pub step-string : {q : ℕ} → Opens s x q → (r : Quoted) → r ≡ stringOf (ltb x.at q) s q → (r.end ≡ q → ⊥) → (o : ℕ) → o ≡ cond (ltb x.at q) 0 r.quotes → (out next : List ℕ)
-      → next ≡ storedIf out x.bytes (byForm (formOf (tk.Str (x.at + o) (r.end - o))) x.at r.end false) → Steps s x out (valuesBehind x (hereOf s r.end) strLength) next
-  step-string {q} (Opens.plain e b) r z n o f out next w =
+  -- the string ends past where the walk stands
+  pub string-on : {q : ℕ} → Opens s x q → (r : Quoted) → Some r ≡ stringOf (ltb x.at q) s q → x.at < r.end
+  string-on {q} (Opens.plain e b) r z =
       let t : ltb x.at q ≡ false = le-ltb x.at q (omega arith) in
-      let u = string-found s q b r (z ∙ ap (λ y. stringOf y s q) t) n in
+      let u = string-found s q b r (z ∙ ap (λ y. stringOf y s q) t) in
+      omega (arith, u.0)
+  string-on {q} (Opens.prefixed k l i b c) r z =
+      let u = prefixed-closed s q b r (z ∙ ap (λ y. stringOf y s q) (lt-ltb x.at q l)) in
+      omega (arith, u.0)
+
+  pub step-string : {q : ℕ} → Opens s x q → (r : Quoted) → Some r ≡ stringOf (ltb x.at q) s q → (o : ℕ) → o ≡ cond (ltb x.at q) 0 r.quotes → (out next : List ℕ)
+      → next ≡ storedIf out x.bytes (byForm (formOf (tk.Str (x.at + o) (r.end - o))) x.at r.end false) → Steps s x out (valuesBehind x (hereOf s r.end) strLength) next
+  step-string {q} (Opens.plain e b) r z o f out next w =
+      let t : ltb x.at q ≡ false = le-ltb x.at q (omega arith) in
+      let u = string-found s q b r (z ∙ ap (λ y. stringOf y s q) t) in
       let v : o ≡ r.quotes = f ∙ ap (λ y. cond y 0 r.quotes) t in
       let h : x.at < length s = let i = inside s q (omega arith) in omega arith in
       let p : tokenTo (tk.Str (x.at + o) (r.end - o)) (cursorAt r.end) ≡ pieceOf (length s) (scan (length s) (from s x.at)) =
       ap (λ y. tokenTo (tk.Str (x.at + y) (r.end - y)) (cursorAt r.end)) v ∙ ap (λ y. tokenTo (tk.Str (y + r.quotes) (r.end - r.quotes)) (cursorAt r.end)) (sym e)
       ∙ u.2 ∙ ap (λ y. pieceOf (length s) (scan (length s) (from s y))) e in
       step-valued g h (tk.Str (x.at + o) (r.end - o)) r.end p strLength (str-size _ _) (str-size _ _) out next w
-  step-string {q} (Opens.prefixed k l i b c) r z n o f out next w =
+  step-string {q} (Opens.prefixed k l i b c) r z o f out next w =
       let t : ltb x.at q ≡ true = lt-ltb x.at q l in
-      let u = prefixed-closed s q b r (z ∙ ap (λ y. stringOf y s q) t) n in
+      let u = prefixed-closed s q b r (z ∙ ap (λ y. stringOf y s q) t) in
       let v : o ≡ 0 = f ∙ ap (λ y. cond y 0 r.quotes) t in
       let h : x.at < length s = omega arith in
       let p = prefixed-piece s x.at q r.end k h (open-within {q = q} (Opens.prefixed k l i b c)).1 u.1 u.2 c in

@@ -1,5 +1,5 @@
 -- What a byte is, as `byte_class` tells it: one number, whose order and bits are the classes.
-use Rattle.std.specs.Prelude.{ℕ, ◌*◌, ◌/◌, ◌%◌, ◌<◌, ◌≡◌, Bool, cond, List, get_or, eqb, leb}
+use Rattle.std.specs.Prelude.{ℕ, ◌*◌, ◌/◌, ◌%◌, Bool, cond, List, get_or, eqb, leb}
 use Rattle.chars.specs.paper.Quoted.{between, oneOf}
 use Rattle.chars.specs.paper.Classes.{opSigns}
 use Rattle.chars.specs.promises.Classes.{lowStart}
@@ -78,10 +78,6 @@ classOf b =
 -- of the byte at a place; past the end that of 0, with which no token begins
 abbrev pub classAt : List ℕ → ℕ → ℕ
 classAt s i = classOf (get_or s i 0)
-
--- a table has the class of each byte
-pub record ByteClasses (t : List ℕ) : Type 0 where
-  pub each : (b : ℕ) → b < 256 → get_or t b 0 ≡ classOf b
 
 -- ---- what a class says
 

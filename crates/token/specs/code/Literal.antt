@@ -1,13 +1,10 @@
 -- What `literal` answers.
-use Rattle.std.specs.Prelude.{ℕ, ◌+◌, Bool, true, false, cond, List, length, get_or, leb, ltb}
+use Rattle.std.specs.Prelude.{ℕ, ◌≡◌, ◌⊎◌, ◌+◌, Bool, true, false, cond, List, length, get_or, leb}
 use Rattle.chars.specs.paper.Text.{Text, from, place}
 use Rattle.token.specs.paper.Tests.{hexAhead, letterL}
 use Rattle.token.specs.computed.Answer.{Numeral, numeral, readDigits}
 use Rattle.token.specs.code.Digits.{digitIn}
 use Rattle.token.specs.declared.literal.NumberLit.{NumberLit}
-
-abbrev pub lesser : ℕ → ℕ → ℕ
-lesser a b = cond (ltb a b) a b
 
 abbrev pub numberLit : ℕ → ℕ → Bool → NumberLit
 numberLit e v l = record { end = e; value = v; long = l }
@@ -23,6 +20,10 @@ goesOn e = numberLit e 18446744073709551615 false
 -- the number of these digits, if they end at a place or before it
 abbrev pub endingBy : ℕ → ℕ → Numeral → NumberLit
 endingBy n stop (numeral v rest) = cond (leb (place n rest) stop) (literalEnd n v rest) (goesOn stop)
+
+-- so many digits of a base fit 64 bits, so that their value needs no test
+abbrev pub Untested : ℕ → ℕ → Type 0
+Untested base most = ((base ≡ 10) × (most ≡ 19)) ⊎ ((base ≡ 16) × (most ≡ 16))
 
 -- the number of a base whose digits begin there, of which at most so many are read
 unfoldable pub literalIn : ℕ → ℕ → List ℕ → ℕ → NumberLit

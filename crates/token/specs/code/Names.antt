@@ -1,5 +1,5 @@
 -- What `names` answers: where words and runs of operator signs end, by the classes of their bytes.
-use Rattle.std.specs.Prelude.{ℕ, ◌+◌, ◌-◌, Bool, cond, not, ◌&&◌, ◌||◌, List, length, get_or, eqb, ltb}
+use Rattle.std.specs.Prelude.{ℕ, ◌+◌, ◌-◌, Bool, cond, not, ◌&&◌, ◌||◌, List, Option, Some, None, length, get_or, eqb, ltb}
 use Rattle.chars.specs.paper.Quoted.{oneOf}
 use Rattle.token.specs.code.Loops.{stepsWhile}
 use Rattle.token.specs.code.ByteClass.{classAt, wideClass, slashClass, inWord, isSign, inRun}
@@ -7,11 +7,11 @@ use Rattle.token.specs.declared.names.Here.{Here}
 
 -- a place with the class of the byte there
 abbrev pub hereOf : List ℕ → ℕ → Here
-hereOf s i = record { at = i; class = classAt s i }
+hereOf s i = record { at = i; class = record { number = classAt s i } }
 
--- a place at which more must be looked at than ASCII bytes: a character past ASCII stands behind what begins there
-abbrev pub declined : ℕ → Here
-declined i = record { at = i; class = wideClass }
+-- the same, where no character past ASCII stands there: else more must be looked at than ASCII bytes
+abbrev pub narrowHere : List ℕ → ℕ → Option Here
+narrowHere s i = cond (eqb (classAt s i) wideClass) None (Some (hereOf s i))
 
 -- where the bytes that pass a test of their places end, which stand from i on: one after another, as many as the script has left
 unfoldable pub bytesTo : (ℕ → Bool) → List ℕ → ℕ → ℕ
@@ -33,9 +33,9 @@ nameTo s start =
     let e = runTo inWord s (start + 1) in
     cond (isSign (classAt s e) && lowBefore s start e) (runTo isSign s e) e
 
--- that place with its class; the start, where a character past ASCII stands there
-unfoldable pub nameEnd : List ℕ → ℕ → Here
-nameEnd s start = cond (eqb (classAt s (nameTo s start)) wideClass) (declined start) (hereOf s (nameTo s start))
+-- that place with its class; none, where a character past ASCII stands there
+unfoldable pub nameEnd : List ℕ → ℕ → Option Here
+nameEnd s start = narrowHere s (nameTo s start)
 
 -- ---- operators
 
@@ -47,6 +47,6 @@ freeAt s j = inRun (classAt s j) || (eqb (classAt s j) slashClass && not (oneOf 
 abbrev pub operatorTo : List ℕ → ℕ → ℕ
 operatorTo s i = bytesTo (freeAt s) s i
 
--- that place with its class, from a place within the operator; its start, where a character past ASCII stands there
-unfoldable pub operatorFrom : List ℕ → ℕ → ℕ → Here
-operatorFrom s start from = cond (eqb (classAt s (operatorTo s from)) wideClass) (declined start) (hereOf s (operatorTo s from))
+-- that place with its class, from a place within the operator; none, where a character past ASCII stands there
+unfoldable pub operatorFrom : List ℕ → ℕ → Option Here
+operatorFrom s from = narrowHere s (operatorTo s from)

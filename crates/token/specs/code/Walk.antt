@@ -1,11 +1,11 @@
 -- Where a walk over pieces that are recognised from their bytes stands, and what a step of it is.
-use Rattle.std.specs.Prelude.{ℕ, ◌+◌, ◌-◌, ◌*◌, ◌/◌, ◌≤◌, ◌<◌, ◌≡◌, Bool, false, cond, not, ◌&&◌, ◌||◌, List, length, get_or, eqb}
-use Rattle.token.specs.paper.Records.{headLength, lineLength, mostBytes}
+use Rattle.std.specs.Prelude.{ℕ, ◌+◌, ◌-◌, ◌*◌, ◌/◌, ◌≤◌, ◌<◌, ◌≡◌, Bool, false, cond, not, ◌&&◌, ◌||◌, List, Option, Some, None, length, get_or, eqb}
+use Rattle.token.specs.paper.Records.{headLength, lineLength}
 use Rattle.chars.specs.paper.Text.{from}
 use Rattle.chars.specs.promises.Texts.{Suffix}
 use Rattle.token.specs.paper.Kinds.{wordOf, runOf}
 use Rattle.token.specs.computed.Answer.{codesTo, orPrefixed, scan}
-use Rattle.token.specs.code.ByteClass.{classAt, ByteClasses, backtickClass, quoteClass, keywordClass, slashClass, upToBlank, startsWord}
+use Rattle.token.specs.code.ByteClass.{classAt, backtickClass, quoteClass, keywordClass, slashClass, upToBlank, startsWord}
 use Rattle.token.specs.code.Keyword.{numberOr}
 use Rattle.token.specs.code.Names.{hereOf, nameEnd}
 use Rattle.token.specs.code.Quoted.{backtickEnd}
@@ -34,14 +34,10 @@ stateAt x = record { at = x.at; gap = gapAt x; count = countAt x; bytes = x.byte
 -- record bytes that is too large by one stands for none.
 pub record Good (s : List ℕ) (x : Walked) : Type 0 where
   pub stands : Standing s (stateAt x)
-  pub class : x.class ≡ classAt s x.at
+  pub class : x.class.number ≡ classAt s x.at
   pub whole : x.bytes ≡ headLength * countAt x + x.values
   pub line : x.line ≤ x.bytes + 1
   pub mark : x.mark ≤ x.bytes + 1
-
--- what a step is lent: a table of the classes, a script that is not too long, and where the walk stands in it
-abbrev pub Lent : List ℕ → List ℕ → Walked → Type 0
-Lent t s x = ByteClasses t × (length s ≤ mostBytes) × Good s x
 
 -- ---- the next state
 
@@ -60,10 +56,10 @@ valuesBehind x end size =
 -- behind a line end, and behind a comment that no cut comes of
 abbrev pub lineBehind : List ℕ → Walked → ℕ → Walked
 lineBehind s x end =
-    record { at = end; class = classAt s end; bytes = x.bytes + lineLength; values = x.values + (lineLength - headLength); line = x.bytes + lineLength; mark = x.mark }
+    record { at = end; class = record { number = classAt s end }; bytes = x.bytes + lineLength; values = x.values + (lineLength - headLength); line = x.bytes + lineLength; mark = x.mark }
 
 abbrev pub commentBehind : List ℕ → Walked → ℕ → Walked
-commentBehind s x end = record { at = end; class = classAt s end; bytes = x.bytes; values = x.values; line = x.line; mark = x.bytes }
+commentBehind s x end = record { at = end; class = record { number = classAt s end }; bytes = x.bytes; values = x.values; line = x.line; mark = x.bytes }
 
 -- a step, or several
 pub record Steps (s : List ℕ) (x : Walked) (out : List ℕ) (y : Walked) (next : List ℕ) : Type 0 where
@@ -84,13 +80,19 @@ beginsName e = eqb e backtickClass || eqb e quoteClass || (not (upToBlank e) && 
 unfoldable pub nameNumber : List ℕ → ℕ → ℕ → ℕ → ℕ
 nameNumber s k i e = cond (eqb k keywordClass) (numberOr 1 (wordOf (codesTo (from s i) (from s e)))) (cond (eqb k backtickClass) 3 1)
 
+-- a place that was found, with its class
+abbrev pub foundAt : List ℕ → Option ℕ → Option Here
+foundAt s None = None
+foundAt s (Some e) = Some (hereOf s e)
+
 -- where the identifier or backtick ends that begins at i with a byte of the class k; of a quote, where it stands
-unfoldable pub prefixEnd : List ℕ → ℕ → ℕ → Here
-prefixEnd s k i = cond (eqb k quoteClass) (record { at = i; class = k }) (cond (eqb k backtickClass) (hereOf s (backtickEnd s i)) (nameEnd s i))
+unfoldable pub prefixEnd : List ℕ → ℕ → ℕ → Option Here
+prefixEnd s k i =
+    cond (eqb k quoteClass) (Some (record { at = i; class = record { number = k } })) (cond (eqb k backtickClass) (foundAt s (backtickEnd s i)) (nameEnd s i))
 
 -- the kind's number of the operator from i to its end: before a comment it is no keyword
 unfoldable pub operatorNumber : List ℕ → ℕ → Here → ℕ
-operatorNumber s i end = cond (eqb end.class slashClass) 2 (numberOr 2 (runOf (codesTo (from s i) (from s end.at))))
+operatorNumber s i end = cond (eqb end.class.number slashClass) 2 (numberOr 2 (runOf (codesTo (from s i) (from s end.at))))
 
 -- a string's opening stands at q: a plain one's where the walk stands, or one that what stands before it prefixes
 pub data Opens (s : List ℕ) (x : Walked) (q : ℕ) : Type 0 where

@@ -3,4 +3,4 @@ use Rattle.token.proofs.literal.Laws.{low-value}
 use Rattle.token.proofs.literal.digit_value.Goals as goal
 
 pub returns : goal.returns
-returns c = low-value _ c.requires.1
+returns c = low-value _ c.requires.digit

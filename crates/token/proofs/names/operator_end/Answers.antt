@@ -1,40 +1,27 @@
 -- The free signs from here on end where those from the place on end from which they are passed.
-use Rattle.std.proofs.Common.{◌≡◌, true, arith, rules}
-use Rattle.token.specs.code.Names.{freeAt, operatorFrom}
-use Rattle.token.proofs.names.Bytes.{pass-first, pass-more, pass-stop, free-inside}
+use Rattle.std.proofs.Common.{arith, sym, ◌∙◌}
+use Rattle.token.proofs.names.Bytes.{pass-first, pass-more, pass-stop, free-inside, operator-some, operator-none}
 use Rattle.token.proofs.names.operator_end.Goals as goal
 
-pub loop-start-init : goal.loop-start-init
-loop-start-init c = pass-first _ _ _ c.requires.0
+pub loop-i-init : goal.loop-i-init
+loop-i-init c = pass-first _ _ _ c.requires
 
-pub returns-then-opens_with : goal.returns-then-opens_with
-unfolding operatorFrom
-returns-then-opens_with c =
-    let s = c.args.s.now in
-    let p = pass-stop (freeAt s) s c.args.from c.loop-start.i (search rules) c.loop-start.invariant in
-    search rules
-
-pub returns-then-e-2 : goal.returns-then-e-2
-unfolding operatorFrom
-returns-then-e-2 c =
-    let s = c.args.s.now in
-    let p = pass-stop (freeAt s) s c.args.from c.loop-start.i (search rules) c.loop-start.invariant in
-    search rules
-
-pub returns-then-not-in_run : goal.returns-then-not-in_run
-unfolding operatorFrom
-returns-then-not-in_run c =
-    let s = c.args.s.now in
-    let p = pass-stop (freeAt s) s c.args.from c.loop-start.i (search rules) c.loop-start.invariant in
-    search rules
-
-pub loop-start-smaller : goal.loop-start-smaller
-loop-start-smaller c =
-    let e : freeAt c.args.s.now c.loop-start.i ≡ true = search rules in
-    let h = free-inside c.args.s.now c.loop-start.i e in
+pub loop-i-smaller : goal.loop-i-smaller
+loop-i-smaller c =
+    let h = free-inside c.args.s.now c.loop-i.i (sym c.is_free.ensures ∙ c.loop-i-test.true) in
     omega arith
 
-pub loop-start-preserved : goal.loop-start-preserved
-loop-start-preserved c =
-    let e : freeAt c.args.s.now c.loop-start.i ≡ true = search rules in
-    pass-more _ _ _ _ (free-inside _ _ e) e c.loop-start.invariant
+pub loop-i-preserved : goal.loop-i-preserved
+loop-i-preserved c =
+    let e = sym c.is_free.ensures ∙ c.loop-i-test.true in
+    pass-more _ _ _ _ (free-inside _ _ e) e c.loop-i.invariant
+
+pub returns-then-eq : goal.returns-then-eq
+returns-then-eq c =
+    let p = pass-stop _ _ _ _ (sym c.is_free.ensures ∙ c.loop-i-test.false) c.loop-i.invariant in
+    operator-none _ _ _ p _ c.here_at-end.ensures (sym c.eq.ensures ∙ c.if-eq.true)
+
+pub returns : goal.returns
+returns c =
+    let p = pass-stop _ _ _ _ (sym c.is_free.ensures ∙ c.loop-i-test.false) c.loop-i.invariant in
+    operator-some _ _ _ p _ c.here_at-end.ensures (sym c.eq.ensures ∙ c.if-eq.false)

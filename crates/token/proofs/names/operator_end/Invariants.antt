@@ -5,8 +5,8 @@ use Rattle.token.specs.code.Names.{freeAt}
 use Rattle.token.proofs.names.Bytes.{Passing}
 use Rattle.token.proofs.names.operator_end.Given as goal
 
-abbrev pub invariant-loop-start : goal.invariant-loop-start
-invariant-loop-start l = Passing (freeAt l.s) l.s l.from l.i
+abbrev pub invariant-loop-i : goal.invariant-loop-i
+invariant-loop-i l = Passing (freeAt l.s) l.s l.from l.i
 
-abbrev pub decreases-loop-start : goal.decreases-loop-start
-decreases-loop-start l = length l.s - l.i
+abbrev pub decreases-loop-i : goal.decreases-loop-i
+decreases-loop-i l = length l.s - l.i

@@ -5,8 +5,8 @@ use Rattle.token.specs.code.ByteClass.{classAt, isSign}
 use Rattle.token.proofs.names.Bytes.{Passing}
 use Rattle.token.proofs.names.signs_end.Given as goal
 
-abbrev pub invariant-loop-at : goal.invariant-loop-at
-invariant-loop-at l = Passing (λ j. isSign (classAt l.s j)) l.s l.at l.i
+abbrev pub invariant-loop-class : goal.invariant-loop-class
+invariant-loop-class l = Passing (λ j. isSign (classAt l.s j)) l.s l.at l.i
 
-abbrev pub decreases-loop-at : goal.decreases-loop-at
-decreases-loop-at l = length l.s - l.i
+abbrev pub decreases-loop-class : goal.decreases-loop-class
+decreases-loop-class l = length l.s - l.i

@@ -11,41 +11,41 @@ pub loop-i-init : goal.loop-i-init
 loop-i-init c =
     let p = c.args.prefixed in
     let e = c.skip_except_four-i.ensures in
-    let h = e.1 c.requires.1 in
+    let h = e.1 c.requires in
     (e.0, h, ordinary-past (closeSingle p) (singleChar p) (singles p) c.args.s.now _ _ e.0 h e.2)
 
 pub loop-i-preserved-then-is_ordinary : goal.loop-i-preserved-then-is_ordinary
 loop-i-preserved-then-is_ordinary c =
     let p = c.args.prefixed in
-    let o = told-ordinary _ c.class_of.ensures c.if-is_ordinary.ensures in
+    let o = told-ordinary _ c.of.ensures c.if-is_ordinary.ensures in
     (omega arith, omega arith, ordinary-on (closeSingle p) (singleChar p) (singles p) c.args.s.now _ c.loop-i-test.true o ∙ c.loop-i.invariant.2)
 
 pub returns-then-b-eq34 : goal.returns-then-b-eq34
 returns-then-b-eq34 c =
     let s = c.args.s.now in
-    told-closed s c.args.at _ _ (single-closes c.args.prefixed s _ c.loop-i-test.true c.if-b-eq34.true) ∙ ap (closedTo s c.args.at) c.loop-i.invariant.2
+    told-closed s _ _ (single-closes c.args.prefixed s _ c.loop-i-test.true c.if-b-eq34.true) ∙ ap (closedTo s) c.loop-i.invariant.2
 
-pub returns-then-next-i : goal.returns-then-next-i
-returns-then-next-i c =
+pub returns-in_err-i : goal.returns-in_err-i
+returns-in_err-i c =
     let s = c.args.s.now in
-    let o = told-ordinary _ c.class_of.ensures c.if-is_ordinary.ensures in
-    item-stops c.args.prefixed s _ c.loop-i-test.true o c.if-b-eq34.false _ c.item_end-next.ensures c.if-next-i.true c.args.at
-    ∙ ap (closedTo s c.args.at) c.loop-i.invariant.2
+    let o = told-ordinary _ c.of.ensures c.if-is_ordinary.ensures in
+    c.from_residual.ensures ∙ item-stops c.args.prefixed s _ c.loop-i-test.true o c.if-b-eq34.false c.in_err-i.ensures
+    ∙ ap (closedTo s) c.loop-i.invariant.2
 
 pub loop-i-smaller : goal.loop-i-smaller
 loop-i-smaller c =
-    let o = told-ordinary _ c.class_of.ensures c.if-is_ordinary.ensures in
-    let g = item-goes c.args.prefixed c.args.s.now _ c.loop-i-test.true o c.if-b-eq34.false _ c.item_end-next.ensures c.if-next-i.false in
+    let o = told-ordinary _ c.of.ensures c.if-is_ordinary.ensures in
+    let g = item-goes c.args.prefixed c.args.s.now _ c.loop-i-test.true o c.if-b-eq34.false _ c.in_ok-i.ensures in
     omega (arith, g.0, g.1)
 
 pub loop-i-preserved : goal.loop-i-preserved
 loop-i-preserved c =
-    let o = told-ordinary _ c.class_of.ensures c.if-is_ordinary.ensures in
-    let g = item-goes c.args.prefixed c.args.s.now _ c.loop-i-test.true o c.if-b-eq34.false _ c.item_end-next.ensures c.if-next-i.false in
+    let o = told-ordinary _ c.of.ensures c.if-is_ordinary.ensures in
+    let g = item-goes c.args.prefixed c.args.s.now _ c.loop-i-test.true o c.if-b-eq34.false _ c.in_ok-i.ensures in
     (omega (arith, g.0), g.1, g.2 ∙ c.loop-i.invariant.2)
 
 pub returns : goal.returns
 returns c =
     let s = c.args.s.now in
     let w = c.loop-i.invariant in
-    told-wrong s c.args.at _ _ (single-open c.args.prefixed s _ w.1 c.loop-i-test.false) ∙ ap (closedTo s c.args.at) w.2
+    told-wrong s _ _ (single-open c.args.prefixed s _ w.1 c.loop-i-test.false) ∙ ap (closedTo s) w.2

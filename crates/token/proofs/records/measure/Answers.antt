@@ -1,15 +1,6 @@
--- One walk, with the table lent, and what it comes to.
-use Rattle.std.proofs.Common.{refl}
-use Rattle.token.specs.computed.Answer.{signOf}
-use Rattle.token.specs.code.Ascii.{signNumber}
-use Rattle.token.specs.code.ByteClass.{classOf}
-use Rattle.token.proofs.byte_class.Laws.{classes}
+-- What the walk comes to.
 use Rattle.token.proofs.records.measure.Goals as goal
 use Rattle.token.proofs.records.Told.{told-needs, told-refusal, told-held}
-
-pub walk_script-requires : goal.walk_script-requires
-unfolding classOf signNumber signOf
-walk_script-requires c = record { within = c.requires; lent = classes _ refl refl }
 
 pub returns : goal.returns
 returns c =

@@ -5,4 +5,4 @@ use Rattle.token.proofs.names.Bytes.{class-inside}
 use Rattle.token.proofs.symbol.char_sym_end.Goals as goal
 
 pub name_symbol_end-requires : goal.name_symbol_end-requires
-name_symbol_end-requires c = (c.requires.0, class-inside _ _ startsWord refl (search rules))
+name_symbol_end-requires c = class-inside _ _ startsWord refl (search rules)

@@ -1,11 +1,18 @@
 -- A character or symbol that is recognised; else it is left.
-use Rattle.token.proofs.walk.Words.{tick-inside, tick-here, step-symbol}
+use Rattle.token.proofs.walk.Words.{tick-inside, tick-here, symbol-on, step-symbol}
 use Rattle.token.proofs.walk.char_sym_step.Goals as goal
 
-pub char_sym_end-end-requires : goal.char_sym_end-end-requires
-char_sym_end-end-requires c = (c.requires.0.0, tick-inside c.requires.0.2 c.requires.1, tick-here c.requires.0.2 c.requires.1)
+pub char_sym_end-requires-clause-within : goal.char_sym_end-requires-clause-within
+char_sym_end-requires-clause-within c = tick-inside c.requires.good c.requires.tick
 
-pub returns : goal.returns
-returns c =
+pub char_sym_end-requires-clause-tick : goal.char_sym_end-requires-clause-tick
+char_sym_end-requires-clause-tick c = tick-here c.requires.good c.requires.tick
+
+pub returns-clause-on : goal.returns-clause-on
+returns-clause-on c =
     rw (c.behind.ensures, c.here_at.ensures)
-    (step-symbol c.requires.0.2 c.requires.1 _ c.char_sym_end-end.ensures c.if-end-x.false _ _ c.put_plain_if.ensures)
+    (step-symbol c.requires.good c.requires.tick _ c.in_ok-end.ensures _ _ c.put_plain_if.ensures)
+
+pub returns-clause-further : goal.returns-clause-further
+returns-clause-further c =
+    rw (c.behind.ensures, c.here_at.ensures) (symbol-on c.requires.good c.requires.tick _ c.in_ok-end.ensures)

@@ -1,20 +1,28 @@
 -- A line comment, or a block comment.
-use Rattle.std.proofs.Common.{sym, ◌∙◌}
+use Rattle.std.proofs.Common.{arith, sym, ◌∙◌}
 use Rattle.token.proofs.gap.Scans.{line-comment-found}
 use Rattle.token.proofs.walk.Pieces.{opens-line-here, opens-block-here, step-line-comment}
 use Rattle.token.proofs.walk.comment_step.Goals as goal
 
 pub consume_line_comment-end-requires : goal.consume_line_comment-end-requires
 consume_line_comment-end-requires c =
-    (c.requires.0.2.stands.within, opens-line-here c.args.s.now c.args.x.at c.requires.1 (sym c.byte_at.ensures ∙ c.if-byte_at-eq47.true))
+    (c.requires.good.stands.within, opens-line-here c.args.s.now c.args.x.at c.requires.opened (sym c.byte_at.ensures ∙ c.if-byte_at-eq47.true))
 
-pub returns-then-byte_at-eq47 : goal.returns-then-byte_at-eq47
-returns-then-byte_at-eq47 c =
+pub returns-then-byte_at-eq47-clause-on : goal.returns-then-byte_at-eq47-clause-on
+returns-then-byte_at-eq47-clause-on c =
     let s = c.args.s.now in
-    let o = opens-line-here s c.args.x.at c.requires.1 (sym c.byte_at.ensures ∙ c.if-byte_at-eq47.true) in
+    let o = opens-line-here s c.args.x.at c.requires.opened (sym c.byte_at.ensures ∙ c.if-byte_at-eq47.true) in
     let m = c.consume_line_comment-end.ensures in
-    rw c.behind_comment.ensures (step-line-comment c.requires.0.2 _ (line-comment-found s c.args.x.at _ o m.0 m.1) _)
+    rw c.behind_comment.ensures (step-line-comment c.requires.good _ (line-comment-found s c.args.x.at _ o m.0 m.1) _)
 
-pub block_step-requires : goal.block_step-requires
-block_step-requires c =
-    (c.requires.0, opens-block-here c.args.s.now c.args.x.at c.requires.1 (λ e. c.if-byte_at-eq47.false (c.byte_at.ensures ∙ e)))
+pub returns-then-byte_at-eq47-clause-further : goal.returns-then-byte_at-eq47-clause-further
+returns-then-byte_at-eq47-clause-further c =
+    let s = c.args.s.now in
+    let o = opens-line-here s c.args.x.at c.requires.opened (sym c.byte_at.ensures ∙ c.if-byte_at-eq47.true) in
+    let m = c.consume_line_comment-end.ensures in
+    let f = line-comment-found s c.args.x.at _ o m.0 m.1 in
+    rw c.behind_comment.ensures (let u = f.on in omega arith)
+
+pub block_step-requires-clause-opened : goal.block_step-requires-clause-opened
+block_step-requires-clause-opened c =
+    opens-block-here c.args.s.now c.args.x.at c.requires.opened (λ e. c.if-byte_at-eq47.false (c.byte_at.ensures ∙ e))

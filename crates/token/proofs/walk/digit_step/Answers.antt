@@ -2,10 +2,13 @@
 use Rattle.token.proofs.walk.Words.{digit-inside, digit-here, step-digit}
 use Rattle.token.proofs.walk.digit_step.Goals as goal
 
-pub digit_value-requires : goal.digit_value-requires
-digit_value-requires c = (digit-inside c.requires.1 c.requires.2, digit-here c.requires.1 c.requires.2)
+pub digit_value-requires-clause-within : goal.digit_value-requires-clause-within
+digit_value-requires-clause-within c = digit-inside c.requires.good c.requires.digit
 
-pub returns : goal.returns
-returns c =
+pub digit_value-requires-clause-digit : goal.digit_value-requires-clause-digit
+digit_value-requires-clause-digit c = digit-here c.requires.good c.requires.digit
+
+pub returns-clause-on : goal.returns-clause-on
+returns-clause-on c =
     let p = c.requires in
-    rw c.behind_values.ensures (step-digit p.1 p.2 _ p.3 p.4 _ c.digit_value.ensures _ _ c.put_int_if.ensures)
+    rw c.behind_values.ensures (step-digit p.good p.digit _ p.end_is p.alone _ c.digit_value.ensures _ _ c.put_int_if.ensures)

@@ -1,9 +1,8 @@
 -- The line end's record, and on behind it.
-use Rattle.std.proofs.Common.{refl}
 use Rattle.token.proofs.walk.Pieces.{lf-here, step-line-end}
 use Rattle.token.proofs.walk.line_step.Goals as goal
 
-pub returns : goal.returns
-returns c =
-    let g = c.requires.0.2 in
-    rw c.behind_line.ensures (step-line-end g _ (lf-here g c.requires.1) _ _ c.put_line_if.ensures, refl)
+pub returns-clause-on : goal.returns-clause-on
+returns-clause-on c =
+    let g = c.requires.good in
+    rw c.behind_line.ensures (step-line-end g _ (lf-here g c.requires.lf) _ _ c.put_line_if.ensures)

@@ -1,9 +1,14 @@
 -- A number that is not too large; else it is left.
-use Rattle.token.proofs.walk.Words.{step-long}
+use Rattle.token.proofs.walk.Words.{step-long, long-on}
 use Rattle.token.proofs.walk.long_step.Goals as goal
 
-pub returns : goal.returns
-returns c =
+pub returns-clause-on : goal.returns-clause-on
+returns-clause-on c =
     let p = c.requires in
     rw (c.behind_values.ensures, c.here_at.ensures)
-    (step-long p.0.2 p.1 _ p.2 p.3 c.if-number-gt-LONG_MOST.false _ _ c.put_long_if.ensures)
+    (step-long p.good p.digit _ p.number_is p.long c.if-number-gt-LONG_MOST.false _ _ c.put_long_if.ensures)
+
+pub returns-clause-further : goal.returns-clause-further
+returns-clause-further c =
+    let p = c.requires in
+    rw (c.behind_values.ensures, c.here_at.ensures) (long-on p.good p.digit _ p.number_is p.long c.if-number-gt-LONG_MOST.false)

@@ -1,20 +1,28 @@
 -- By the class of the first byte, and by what stands behind it.
-use Rattle.token.proofs.walk.Prefixes.{name-inside, name-left, name-opens, step-named}
+use Rattle.std.proofs.Common.{sym, ◌∙◌, le-leb}
+use Rattle.token.proofs.walk.Prefixes.{no-opening, name-inside, name-left, name-opens, named-on, step-named}
 use Rattle.token.proofs.walk.name_step.Goals as goal
 
-pub prefix_end-end-requires : goal.prefix_end-end-requires
-prefix_end-end-requires c =
-    let g = c.requires.0.2 in
-    (c.requires.0.0, name-inside g c.requires.1, c.requires.0.1, g.class, c.requires.1)
+pub prefix_end-requires-clause-within : goal.prefix_end-requires-clause-within
+prefix_end-requires-clause-within c = name-inside c.requires.good c.requires.begins
+
+pub prefix_end-requires-clause-class_is : goal.prefix_end-requires-clause-class_is
+prefix_end-requires-clause-class_is c = let g = c.requires.good in g.class
 
 pub name_number-number-requires : goal.name_number-number-requires
-name_number-number-requires c = name-left c.requires.0.2 c.requires.1 _ c.prefix_end-end.ensures
+name_number-number-requires c = name-left c.requires.good c.requires.begins _ c.in_ok-end.ensures
 
-pub string_step-requires : goal.string_step-requires
-string_step-requires c =
-    (c.requires.0, name-opens c.requires.0.2 c.requires.1 _ c.prefix_end-end.ensures _ c.name_number-number.ensures c.if-end-number.true)
+pub string_step-requires-clause-opened : goal.string_step-requires-clause-opened
+string_step-requires-clause-opened c = name-opens c.requires.good c.requires.begins _ c.in_ok-end.ensures _ c.name_number-number.ensures
+    (rw (sym c.eq.ensures ∙ c.if-eq.true, le-leb _ 3 c.if-number-le-BACKTICK_ID.true))
 
-pub returns : goal.returns
-returns c =
+pub returns-clause-on : goal.returns-clause-on
+returns-clause-on c =
     rw c.behind.ensures
-    (step-named c.requires.0.2 c.requires.1 _ c.prefix_end-end.ensures _ c.name_number-number.ensures c.if-end-number.false c.if-end-x.false _ _ c.put_plain_if.ensures)
+    (step-named c.requires.good c.requires.begins _ c.in_ok-end.ensures _ c.name_number-number.ensures
+    (no-opening _ _ c.eq.ensures c.else-eq.either) _ _ c.put_plain_if.ensures)
+
+pub returns-clause-further : goal.returns-clause-further
+returns-clause-further c =
+    rw c.behind.ensures (named-on c.requires.good c.requires.begins _ c.in_ok-end.ensures _ c.name_number-number.ensures
+    (no-opening _ _ c.eq.ensures c.else-eq.either))

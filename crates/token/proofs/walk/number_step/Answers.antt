@@ -4,7 +4,11 @@ use Rattle.token.specs.declared.names.Here.{Here}
 use Rattle.token.proofs.walk.Words.{digit-inside, digit-here}
 use Rattle.token.proofs.walk.number_step.Goals as goal
 
-pub literal_at-number-requires : goal.literal_at-number-requires
-literal_at-number-requires c =
-    let g = c.requires.0.2 in
-    (digit-inside g c.requires.1, digit-here g c.requires.1, ap (λ (h : Here). h.class) c.here_at-next.ensures)
+pub literal_at-number-requires-clause-within : goal.literal_at-number-requires-clause-within
+literal_at-number-requires-clause-within c = digit-inside c.requires.good c.requires.digit
+
+pub literal_at-number-requires-clause-digit : goal.literal_at-number-requires-clause-digit
+literal_at-number-requires-clause-digit c = digit-here c.requires.good c.requires.digit
+
+pub literal_at-number-requires-clause-class_is : goal.literal_at-number-requires-clause-class_is
+literal_at-number-requires-clause-class_is c = ap (λ (h : Here). h.class.number) c.here_at-next.ensures

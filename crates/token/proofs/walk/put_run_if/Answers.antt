@@ -6,5 +6,5 @@ use Rattle.token.proofs.form.Laws.{length-form}
 use Rattle.token.proofs.form.Stores.{stored-out}
 use Rattle.token.proofs.walk.put_run_if.Goals as goal
 
-pub returns : goal.returns
-returns c = stored-out c.args.out.now c.args.w headLength _ (length-form (plainForm _) c.args.at _ false Known.bare) c.if-w-out.false
+pub returns-else-w-out : goal.returns-else-w-out
+returns-else-w-out c = stored-out c.args.out.now c.args.w headLength _ (length-form (plainForm _) c.args.at _ false Known.bare) c.if-w-out.false

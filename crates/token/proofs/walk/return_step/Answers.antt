@@ -3,8 +3,8 @@ use Rattle.std.proofs.Common.{sym, ◌∙◌}
 use Rattle.token.proofs.walk.Pieces.{cr-here, step-line-end}
 use Rattle.token.proofs.walk.return_step.Goals as goal
 
-pub returns : goal.returns
-returns c =
-    let g = c.requires.0.2 in
+pub returns-clause-on : goal.returns-clause-on
+returns-clause-on c =
+    let g = c.requires.good in
     rw c.behind_line.ensures
-    (step-line-end g _ (cr-here g c.requires.1 (sym c.byte_at.ensures ∙ c.if-byte_at-ne10.false)) _ _ c.put_line_if.ensures)
+    (step-line-end g _ (cr-here g c.requires.cr (sym c.byte_at.ensures ∙ c.if-byte_at-ne10.false)) _ _ c.put_line_if.ensures)

@@ -1,0 +1,12 @@
+-- The table passes one computed test at each byte.
+use Rattle.std.proofs.Common.{refl, arith}
+use Rattle.token.specs.computed.Answer.{signOf}
+use Rattle.token.specs.code.Ascii.{signNumber}
+use Rattle.token.specs.code.ByteClass.{classOf}
+use Rattle.token.specs.declared.byte_class.TheConstants.{CLASSES}
+use Rattle.token.proofs.byte_class.Laws.{classes}
+use Rattle.token.proofs.byte_class.Class.of.Goals as goal
+
+pub returns : goal.returns
+unfolding classOf signNumber signOf
+returns c = classes CLASSES refl refl c.args.b (omega arith)
