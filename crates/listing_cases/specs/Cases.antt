@@ -1,5 +1,5 @@
 -- The cases on standard input: each is four decimal digits, the script's length, a line feed and the script.
-use Rattle.std.specs.Prelude.{ℕ, zero, suc, ◌+◌, ◌*◌, ◌-◌, min, cond, List, ◌++◌, get_or, length, take, drop, leb}
+use Rattle.std.specs.Prelude.{ℕ, zero, suc, ◌+◌, ◌*◌, ◌-◌, min, cond, List, get_or, length, take, drop, leb}
 use Rattle.std.specs.List.{range_with_len, flat_map}
 use Rattle.listing_text.specs.Lines.{caseText}
 

@@ -33,6 +33,10 @@ module _ {A : Type 0} {old : Vec ℕ A} where
     puts-err (Ok y) failed p = absurd (cc failed)
     puts-err (Err y) failed p = record { ok = tt; kept = p.kept; part = p.part; full = p.full; capacity = p.capacity }
 
+    -- another value with it
+    pub puts-ok : {x : T} {y : T'} {more : List ℕ} → Puts {E = E} old new (Ok x) more → Puts {E = E'} old new (Ok y) more
+    puts-ok p = record { ok = p.ok; kept = tt; part = tt; full = tt; capacity = p.capacity }
+
     -- where a part lacks room, all does
     pub puts-fails : (r : Result T' E') {e : E} {more : List ℕ} (rest : List ℕ) → IsErr r → Puts {T = T} old new (Err e) more → Puts old new r (more ++ rest)
     puts-fails (Ok y) rest failed p = absurd (cc failed)
@@ -134,3 +138,8 @@ module _ {A : Type 0} {old : Vec ℕ A} {all : List ℕ} where
           full = omega (arith, p.full, before.capacity, k, j, whole, length-append text.items (more ++ rest), length-append more rest, length-append old.items all);
           capacity = omega (arith, p.capacity, before.capacity);
         }
+
+  -- what is still to come is put
+  pub going-last : {text new : Vec ℕ A} {T E : Type 0} (r : Result T E) {more : List ℕ} → Going old text more all → Puts text new r more → Puts old new r all
+  going-last (Ok y) {more} g p = going-end (going-turn more [] (rw append-nil g) p)
+  going-last (Err y) {more} g p = going-fails more [] (rw append-nil g) (Err y) refl p

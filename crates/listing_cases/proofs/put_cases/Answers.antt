@@ -1,4 +1,4 @@
-use Rattle.std.proofs.Common.{◌≡◌, ◌+◌, ◌<◌, ◌≤◌, length, arith, sym, ◌∙◌}
+use Rattle.std.proofs.Common.{◌+◌, ◌<◌, ◌≤◌, length, arith, sym, ◌∙◌}
 use Rattle.puts.proofs.Laws.{going-begun, going-turn, going-fails, going-end}
 use Rattle.listing_cases.proofs.CaseLaws.{place-start, place-on, count-start, texts-turn, texts-end}
 use Rattle.listing_cases.proofs.put_cases.Goals as goal
