@@ -3,23 +3,44 @@
 // `token.rs` itself.
 #![tactic(auto)]
 
-ghost use Rattle.std.specs.Prelude.{◌≡◌, ◌-◌, length, IfOk};
-ghost use Rattle.class_runs.specs.Lines.{glyph, inClass, runText};
+ghost use Rattle.std.specs.Prelude.{◌≡◌, ◌-◌, ◌<◌, ◌≤◌, length, IfOk};
+ghost use Rattle.puts.specs.Puts.{Puts};
+ghost use Rattle.class_runs.specs.Lines.{nameOf, glyph, inClass, runText, runLine, runsFrom, classText};
 
 use chars::classes::{is_id_char, is_id_start, is_op_char, is_printable_char};
 use std::alloc::AllocError;
 use std::io;
 
-// Whether c belongs to the class of number k.
-#[tactic(auto, unfolding(crate::specs::Lines::inClass))]
-fn belongs(k: u32, c: u32) -> bool
-    ensures { result ≡ inClass k c }
-{
-    match k {
-        0 => is_id_start(c),
-        1 => is_id_char(c),
-        2 => is_op_char(c),
-        _ => is_printable_char(c),
+#[derive(Clone, Copy, Debug, PartialEq, Eq)]
+enum Class {
+    IdStart,
+    IdChar,
+    OpChar,
+    Printable,
+}
+
+impl Class {
+    // What its lines begin with.
+    fn name(self) -> &'static [u8]
+        ensures { result.now ≡ nameOf self }
+    {
+        match self {
+            Class::IdStart => b"id-start",
+            Class::IdChar => b"id-char",
+            Class::OpChar => b"op-char",
+            Class::Printable => b"printable",
+        }
+    }
+
+    fn has(self, c: u32) -> bool
+        ensures { result ≡ inClass self c }
+    {
+        match self {
+            Class::IdStart => is_id_start(c),
+            Class::IdChar => is_id_char(c),
+            Class::OpChar => is_op_char(c),
+            Class::Printable => is_printable_char(c),
+        }
     }
 }
 
@@ -29,12 +50,13 @@ fn hex_digit(n: u32) -> u8
     ensures { result ≡ glyph n }
 {
     let d = (n % 16) as u8;
-    if d < 10 { 48 + d } else { 55 + d }
+    if d < 10 { b'0' + d } else { b'A' - 10 + d }
 }
 
 // What follows the name of the class in the line of a run: the first character and the last.
 fn run_text(first: u32, last: u32) -> [u8; 11]
-    ensures { (result ≡ runText first last) × (11 ≡ length result) }
+    ensures value { result ≡ runText first last }
+    ensures size { 11 ≡ length result }
 {
     [
         b' ',
@@ -51,45 +73,51 @@ fn run_text(first: u32, last: u32) -> [u8; 11]
     ]
 }
 
-// Puts the lines of the runs of class k among the characters from `from` up to `end`, not included, behind a text, and counts those characters.
-// The run at hand is from start up to c.
-fn put_runs(text: &mut Vec<u8>, k: u32, name: &[u8], from: u32, end: u32) -> Result<u32, AllocError>
-    ensures { IfOk result (λ walked. walked ≡ end - from) }
+// Puts the line of the run that begins at `start` and ends before `end`, if there is one, behind a text.
+fn put_run(text: &mut Vec<u8>, class: Class, start: u32, end: u32) -> Result<(), AllocError>
+    ensures { Puts text.old text.new result (runLine class start end) }
 {
-    let mut walked: u32 = 0;
-    let mut start = from;
-    for c in from..end {
-        if !belongs(k, c) {
-            if start < c {
-                text.extend_from_slice(name)?;
-                text.extend_from_slice(&run_text(start, c - 1))?;
-            }
-            start = c + 1;
-        }
-        walked += 1;
-    }
     if start < end {
-        text.extend_from_slice(name)?;
+        text.extend_from_slice(class.name())?;
         text.extend_from_slice(&run_text(start, end - 1))?;
     }
-    Ok(walked)
+    Ok(())
+}
+
+// Puts the lines of the class's runs among the characters from `from` up to `end`, not included, behind a text, and hands back how many characters
+// these are. The run at hand is from start up to c.
+fn put_runs(text: &mut Vec<u8>, class: Class, from: u32, end: u32) -> Result<u32, AllocError>
+    requires { from ≤ end }
+    ensures put { Puts text.old text.new result (runsFrom class from from (end - from)) }
+    ensures walked { IfOk result (λ walked. walked ≡ end - from) }
+{
+    let mut start = from;
+    for c in from..end {
+        if !class.has(c) {
+            put_run(text, class, start, c)?;
+            start = c + 1;
+        }
+    }
+    put_run(text, class, start, end)?;
+    Ok(end - from)
 }
 
 // The same for all characters up to U+FFFF. The surrogates between the two parts are none.
-fn put_class(text: &mut Vec<u8>, k: u32, name: &[u8]) -> Result<u32, AllocError>
-    ensures { IfOk result (λ walked. walked ≡ 63488) }
+fn put_class(text: &mut Vec<u8>, class: Class) -> Result<u32, AllocError>
+    ensures put { Puts text.old text.new result (classText class) }
+    ensures walked { IfOk result (λ walked. walked ≡ 63488) }
 {
-    let below = put_runs(text, k, name, 0, 0xD800)?;
-    let above = put_runs(text, k, name, 0xE000, 0x10000)?;
+    let below = put_runs(text, class, 0, 0xD800)?;
+    let above = put_runs(text, class, 0xE000, 0x10000)?;
     Ok(below + above)
 }
 
 fn main(rt: HostRuntime) -> io::Result<()> {
     let mut text = Vec::new(rt.alloc());
-    put_class(&mut text, 0, b"id-start")?;
-    put_class(&mut text, 1, b"id-char")?;
-    put_class(&mut text, 2, b"op-char")?;
-    let walked = put_class(&mut text, 3, b"printable")?;
+    put_class(&mut text, Class::IdStart)?;
+    put_class(&mut text, Class::IdChar)?;
+    put_class(&mut text, Class::OpChar)?;
+    let walked = put_class(&mut text, Class::Printable)?;
     rt.write_all(&text)?;
     println!(rt; "characters {walked}")
 }

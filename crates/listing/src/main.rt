@@ -13,6 +13,7 @@ const SCRIPT_BYTES: u64 = listing_text::MOST_BYTES as u64 + 1;
 fn main(rt: HostRuntime) -> io::Result<()> {
     let mut script = Vec::new(rt.alloc());
     let n = rt.reader().take(SCRIPT_BYTES).read_to_end(&mut script)?;
-    let text = listing_text::listing(rt.alloc(), &script[..n])?;
+    let mut text = Vec::new(rt.alloc());
+    listing_text::listing(&mut text, &script[..n])?;
     rt.write_all(&text)
 }

@@ -1,11 +1,12 @@
 -- The next case's place, and counting the cases turn by turn.
 use Prim.Native.Nat.{ℕ, zero, suc, ◌+◌, ◌-◌, ◌≤◌, ◌<◌}
-use mathlib.Core.Path.{◌≡◌, refl}
-use mathlib.Core.List.{List}
+use mathlib.Core.Path.{◌≡◌, refl, ◌∙◌}
+use mathlib.Core.List.{List, [], ◌++◌}
 use lib.ListN.{length}
 use native.Mathlib.Numerals.{add-one}
 use native.Mathlib.Omega.{arith}
-use Rattle.listing_cases.specs.Cases.{caseEnd, casePlace, countFor, caseCount}
+use Rattle.std.specs.List.{range_with_len, flat_map}
+use Rattle.listing_cases.specs.Cases.{caseEnd, casePlace, caseOf, countFor, caseCount}
 
 pub place-start : (list : List ℕ) → casePlace list 0 ≡ 0
 unfolding casePlace
@@ -45,4 +46,16 @@ unfolding countFor
 count-end zero list at h = refl
 count-end (suc n) list at h = grind arith
 
-pub ruleset cases = (place-start, place-on, count-start, count-turn, count-end)
+-- ---- texts
+
+-- those from a place on, of which the first is that after k others
+abbrev texts : List ℕ → ℕ → ℕ → List ℕ
+texts list k at = flat_map (caseOf list) (range_with_len k (from list at))
+
+pub texts-turn : (list : List ℕ) (k at : ℕ) → at + 5 ≤ length list → texts list k at ≡ caseOf list k ++ texts list (k + 1) (caseEnd list at)
+texts-turn list k at h =
+    let e : from list at ≡ suc (from list (caseEnd list at)) = count-turn list at h ∙ omega arith in
+    rw e
+
+pub texts-end : (list : List ℕ) (k at : ℕ) → length list < at + 5 → texts list k at ≡ []
+texts-end list k at h = rw (count-end (length list - at) list at h)

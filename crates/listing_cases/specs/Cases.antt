@@ -1,12 +1,15 @@
 -- The cases on standard input: each is four decimal digits, the script's length, a line feed and the script.
 use Rattle.std.specs.Prelude.{ℕ, zero, suc, ◌+◌, ◌*◌, ◌-◌, min, cond, List, get_or, length, take, drop, leb}
+use Rattle.std.specs.List.{range_with_len, flat_map}
 use Rattle.listing_text.specs.Lines.{caseText}
 
-abbrev pub digit : List ℕ → ℕ → ℕ
-digit list at = get_or list at 0 - 0x30
+-- the digit of a byte; 0 below them
+abbrev pub digit : ℕ → ℕ
+digit code = code - 0x30
 
 unfoldable pub scriptLength : List ℕ → ℕ → ℕ
-scriptLength list at = digit list at * 1000 + digit list (at + 1) * 100 + digit list (at + 2) * 10 + digit list (at + 3)
+scriptLength list at =
+    digit (get_or list at 0) * 1000 + digit (get_or list (at + 1) 0) * 100 + digit (get_or list (at + 2) 0) * 10 + digit (get_or list (at + 3) 0)
 
 -- where the case's script ends: at the list's end where that cuts it short
 unfoldable pub caseEnd : List ℕ → ℕ → ℕ
@@ -35,3 +38,7 @@ countFor (suc most) list at =
 
 unfoldable pub caseCount : List ℕ → ℕ
 caseCount list = countFor (length list) list 0
+
+-- the texts of all cases, one directly after the other
+abbrev pub casesText : List ℕ → List ℕ
+casesText list = flat_map (caseOf list) (range_with_len 0 (caseCount list))

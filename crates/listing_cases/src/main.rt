@@ -4,32 +4,21 @@
 // Standard input holds cases, one directly after the other. A case is four decimal digits, the script's length, a line feed, and the script.
 #![tactic(auto)]
 
-ghost use Rattle.std.specs.Prelude.{◌≡◌, length, ◌+◌, ◌<◌, ◌≤◌, IfOk};
-ghost use Rattle.listing_cases.specs.Cases.{digit as digitOf, scriptLength, caseEnd, casePlace, caseOf, caseCount};
+ghost use Rattle.std.specs.Prelude.{◌≡◌, length, ◌+◌, ◌<◌, ◌≤◌};
+ghost use Rattle.puts.specs.Puts.{Puts};
+ghost use Rattle.listing_cases.specs.Cases.{digit as digitOf, scriptLength, caseEnd, casePlace, caseOf, casesText};
 
-use std::alloc::{AllocError, Global};
+use std::alloc::AllocError;
 use std::io;
 use std::io::Read;
 
 const HEAD_BYTES: usize = 5;
 
-fn wide(x: u8) -> usize
-    ensures value { result ≡ x }
+fn digit(code: u8) -> usize
+    ensures value { result ≡ digitOf code }
     ensures upper_bound { result < 256 }
 {
-    x as usize
-}
-
-fn digit(list: &[u8], at: usize) -> usize
-    requires { at < length list.now }
-    ensures value { result ≡ digitOf list.now at }
-    ensures upper_bound { result < 256 }
-{
-    let code = wide(list[at]);
-    if code < 0x30 {
-        return 0;
-    }
-    code - 0x30
+    usize::from(code.saturating_sub(b'0'))
 }
 
 #[tactic(auto, unfolding(crate::specs::Cases::scriptLength))]
@@ -38,13 +27,13 @@ fn script_length(list: &[u8], at: usize) -> usize
     ensures value { result ≡ scriptLength list.now at }
     ensures upper_bound { result < 1000000 }
 {
-    digit(list, at) * 1000
-        + digit(list, at + 1) * 100
-        + digit(list, at + 2) * 10
-        + digit(list, at + 3)
+    digit(list[at]) * 1000
+        + digit(list[at + 1]) * 100
+        + digit(list[at + 2]) * 10
+        + digit(list[at + 3])
 }
 
-// Where the script of the case at a place ends.
+// Where the script of the case at a place ends: at the list's end where that cuts it short.
 #[tactic(auto, unfolding(crate::specs::Cases::caseEnd))]
 fn case_end(list: &[u8], at: usize) -> usize
     requires { at + 5 ≤ length list.now }
@@ -53,45 +42,41 @@ fn case_end(list: &[u8], at: usize) -> usize
     ensures upper_bound { result ≤ length list.now }
 {
     let start = at + HEAD_BYTES;
-    let length = script_length(list, at);
-    if length < list.len() - start {
-        return start + length;
-    }
-    list.len()
+    start + script_length(list, at).min(list.len() - start)
 }
 
-// The text of the case that starts at a place, after `earlier` others.
+// Puts the text of the case that starts at a place, after `earlier` others, behind a text.
 #[tactic(auto, unfolding(crate::specs::Cases::caseOf, crate::specs::Cases::caseScript))]
-fn text_of(alloc: Global, list: &[u8], at: usize, earlier: u64) -> Result<Vec<u8>, AllocError>
-    requires { (at + 5 ≤ length list.now) × (at ≡ casePlace list.now earlier) × (earlier ≤ at) }
-    ensures { IfOk result (λ text. text.items ≡ caseOf list.now earlier) }
+fn put_case(text: &mut Vec<u8>, list: &[u8], at: usize, earlier: u64) -> Result<(), AllocError>
+    requires in_bounds { at + 5 ≤ length list.now }
+    requires place { at ≡ casePlace list.now earlier }
+    requires fewer { earlier ≤ at }
+    ensures { Puts text.old text.new result (caseOf list.now earlier) }
 {
     let start = at + HEAD_BYTES;
     let end = case_end(list, at);
-    listing_text::case_text(alloc, earlier + 1, &list[start..end])
+    listing_text::case_text(text, earlier + 1, &list[start..end])
 }
 
-// Puts the text of each case in turn behind a text, and hands back how many there are.
-#[tactic(auto, using(crate::proofs::CaseLaws::cases))]
-fn put_cases(all: &mut Vec<u8>, alloc: Global, list: &[u8]) -> Result<u64, AllocError>
-    ensures { IfOk result (λ written. written ≡ caseCount list.now) }
+// Puts the text of each case in turn behind a text.
+fn put_cases(text: &mut Vec<u8>, list: &[u8]) -> Result<(), AllocError>
+    ensures { Puts text.old text.new result (casesText list.now) }
 {
     let mut at: usize = 0;
-    let mut written: u64 = 0;
+    let mut earlier: u64 = 0;
     while list.len() - at >= HEAD_BYTES {
-        let text = text_of(alloc, list, at, written)?;
-        all.extend_from_slice(&text)?;
+        put_case(text, list, at, earlier)?;
         at = case_end(list, at);
-        written += 1;
+        earlier += 1;
     }
-    Ok(written)
+    Ok(())
 }
 
 // It reads and writes, and no contract can say what.
 fn main(rt: HostRuntime) -> io::Result<()> {
     let mut list = Vec::new(rt.alloc());
     rt.reader().read_to_end(&mut list)?;
-    let mut all = Vec::new(rt.alloc());
-    put_cases(&mut all, rt.alloc(), &list)?;
-    rt.write_all(&all)
+    let mut text = Vec::new(rt.alloc());
+    put_cases(&mut text, &list)?;
+    rt.write_all(&text)
 }

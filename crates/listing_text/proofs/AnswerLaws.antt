@@ -95,7 +95,7 @@ pub long-text : (script : List ℕ) → mostScript < length script → printed s
 unfolding printed
 long-text script h = simp (lt-leb (length script) mostScript h)
 
-zeros-length : (n : ℕ) → length (zeros n) ≡ n
+pub zeros-length : (n : ℕ) → length (zeros n) ≡ n
 unfolding zeros
 zeros-length n = length-replicate n 0
 

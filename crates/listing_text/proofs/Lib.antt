@@ -1,6 +1,6 @@
-pub mod Examples
-pub mod PutLaws
 pub mod Decimals
 pub mod LineLaws
 pub mod TokenLines
 pub mod AnswerLaws
+pub mod Examples
+pub mod Sizes

@@ -1,16 +1,13 @@
 -- Records and their lines.
-use Prim.Native.Nat.{ℕ, zero, suc, ◌-◌, ◌<◌, ◌≤◌}
+use Prim.Native.Nat.{ℕ, zero, suc, ◌<◌, ◌≤◌}
 use mathlib.Core.Path.{◌≡◌, refl, ap}
 use mathlib.Core.List.{List, [], ◌∷◌, ◌++◌}
-use lib.ListN.{length, take, drop, length-drop}
-use lib.Seq.{drop-drop, take_all}
+use lib.ListN.{length, drop, length-drop}
 use native.Mathlib.Omega.{arith}
 use borrow.Author.Tests.{ne_eqb}
 use Rattle.token.specs.paper.Records.{headLength}
 use Rattle.token.specs.code.Form.{heldAt}
-use Rattle.listing_text.specs.Fields.{lengthHere, lineOf}
-use Rattle.listing_text.specs.Lines.{lineText, linesFor, recordLines}
-use Rattle.listing_text.proofs.PutLaws.{puts}
+use Rattle.listing_text.specs.Lines.{lengthHere, lineText, linesFor, recordLines}
 
 -- ---- a record's own length
 
@@ -22,10 +19,14 @@ pub at-least : (b : List ℕ) → (lengthHere b ≡ 0 → ⊥) → headLength �
 unfolding lengthHere
 at-least b h = grind arith
 
+pub within : (b : List ℕ) → lengthHere b ≤ length b
+unfolding lengthHere
+within b = grind arith
+
 -- ---- lines, record by record
 
 abbrev first : List ℕ → List ℕ
-first b = lineText (lineOf (heldAt b 0))
+first b = lineText (heldAt b 0)
 
 abbrev others : List ℕ → List ℕ
 others b = drop (lengthHere b) b
@@ -52,13 +53,3 @@ lines-turn (x ∷ b) h =
     let rest = others (x ∷ b) in
     let e = enough (length b) (length rest) rest (omega arith) (omega arith) in
     simp (ne_eqb (lengthHere (x ∷ b)) 0 h) (ap (λ t. first (x ∷ b) ++ t) e)
-
--- behind the last record there is no line
-pub lines_end : (b : List ℕ) (from : ℕ) → length b ≤ from → recordLines (drop from b) ≡ []
-lines_end b from h = lines-none (drop from b) (no-record (drop from b) (omega (arith, length-drop from b)))
-
--- the part of a slice from a place on
-pub from-on : (l : List ℕ) (i : ℕ) → take (length l - i) (drop i l) ≡ drop i l
-from-on l i = take_all (length l - i) (drop i l) (omega (arith, length-drop i l))
-
-pub ruleset turns = (puts, from-on, lines-none, lines-turn, lines_end, at-least, drop-drop, length-drop)

@@ -2,7 +2,7 @@
 use Prim.Native.Nat.{ℕ, ◌+◌, ◌*◌, ◌/◌, ◌%◌, ◌≤◌}
 use mathlib.Core.Path.{◌≡◌, refl, sym, ◌∙◌, ap}
 use mathlib.Core.List.{List, [], ◌∷◌, ◌++◌, append_assoc}
-use lib.ListN.{length, take, length-append}
+use lib.ListN.{length, length-append}
 use lib.Seq.{drop_at}
 use native.Mathlib.Nat.{mod-eq_of_lt}
 use native.Mathlib.Omega.{arith}
@@ -21,18 +21,13 @@ use Rattle.token.specs.declared.form.Held.{Held}
 use Rattle.token.proofs.form.Laws.{known-least}
 use Rattle.token.proofs.form.Stores.{length-record}
 use Rattle.token.proofs.theorems.Bounded.{ValuesWithin, Bounded, AllBounded, storable, token-back}
-use Rattle.listing_text.specs.Fields.{lengthHere, valueCount, firstValue, lineOf}
-use Rattle.listing_text.specs.Lines.{headText, valuesText, lineText, linesFor, recordLines}
+use Rattle.listing_text.specs.Lines.{lengthHere, heldValues, headText, valuesText, lineText, linesFor, recordLines}
 use Rattle.listing_text.proofs.LineLaws.{lines-turn}
 
 -- ---- one record
 
--- the values of a record's line, from the kind's number and the values as one number
-abbrev lineValues : ℕ → ℕ → List ℕ
-lineValues kind values = take (valueCount kind) (firstValue kind values ∷ values / 4294967296 ∷ [])
-
-kw-values : (k : Kw) → lineValues (kwNumber k) 0 ≡ []
-unfolding valueCount
+kw-values : (k : Kw) → heldValues (kwNumber k) 0 ≡ []
+unfolding heldValues
 kw-values kw.Case = refl
 kw-values kw.Else = refl
 kw-values kw.False = refl
@@ -49,8 +44,8 @@ kw-values kw.Hash = refl
 kw-values kw.At = refl
 
 -- both places of a string's content
-two-places : (b c : ℕ) → b ≤ mostBytes → c ≤ mostBytes → lineValues 6 (b % 4294967296 + c % 4294967296 * 4294967296) ≡ b ∷ c ∷ []
-unfolding valueCount firstValue
+two-places : (b c : ℕ) → b ≤ mostBytes → c ≤ mostBytes → heldValues 6 (b % 4294967296 + c % 4294967296 * 4294967296) ≡ b ∷ c ∷ []
+unfolding heldValues
 two-places b c h k =
     let v = b % 4294967296 + c % 4294967296 * 4294967296 in
     let low : v % 4294967296 ≡ b % 4294967296 = omega arith in
@@ -59,8 +54,8 @@ two-places b c h k =
     let second : v / 4294967296 ≡ c = high ∙ mod-eq_of_lt (omega arith) in
     rw (first, second)
 
-values-shown : (a e : ℕ) (k : TokenKind) → ValuesWithin a e k → e ≤ mostBytes → lineValues (kindNumber k) (joined (valuesOf k)) ≡ valueNumbers (valuesOf k)
-unfolding valueCount firstValue
+values-shown : (a e : ℕ) (k : TokenKind) → ValuesWithin a e k → e ≤ mostBytes → heldValues (kindNumber k) (joined (valuesOf k)) ≡ valueNumbers (valuesOf k)
+unfolding heldValues
 values-shown a e tk.Ident h l = refl
 values-shown a e tk.OpId h l = refl
 values-shown a e tk.BacktickId h l = refl
@@ -90,8 +85,8 @@ abbrev shownLine : Token → List ℕ
 shownLine t = decimal (kindNumber t.kind) ++ spaced (t.start ∷ t.end ∷ bit t.cut ∷ valueNumbers (valuesOf t.kind)) ++ codes "\n"
 
 module _ (n : ℕ) (short : n ≤ mostBytes) (t : Token) (h : Bounded n t) (rest : List ℕ) where
-  line-shown : lineText (lineOf (heldAt (recordOf t ++ rest) 0)) ≡ shownLine t
-  unfolding lineText headText valuesText lineOf
+  line-shown : lineText (heldAt (recordOf t ++ rest) 0) ≡ shownLine t
+  unfolding lineText headText valuesText
   line-shown =
       let e = h.end in
       let values = values-shown t.start t.end t.kind h.values (omega arith) in
@@ -122,6 +117,6 @@ records-shown n short (t ∷ ts) h =
     let least = known-least (storable n short t h.0).known in
     let longer : lengthHere (recordOf t ++ records ts) ≡ 0 → ⊥ = λ z. omega arith in
     lines-turn (recordOf t ++ records ts) longer
-    ∙ ap (λ l. lineText (lineOf (heldAt (recordOf t ++ records ts) 0)) ++ recordLines l) (drop_at (recordOf t) (records ts) _ (length-record t ∙ sym own))
+    ∙ ap (λ l. lineText (heldAt (recordOf t ++ records ts) 0) ++ recordLines l) (drop_at (recordOf t) (records ts) _ (length-record t ∙ sym own))
     ∙ ap (λ l. l ++ recordLines (records ts)) (line-shown n short t h.0 (records ts))
     ∙ ap (λ l. shownLine t ++ l) (records-shown n short ts h.1)

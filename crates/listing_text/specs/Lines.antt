@@ -1,32 +1,61 @@
 -- Document 01, "Host entry and text", the listing program: the text that it prints, as bytes.
-use Rattle.std.specs.Prelude.{ℕ, zero, suc, cond, List, [], ◌∷◌, ◌++◌, length, take, drop, replicate, eqb, leb}
-use Rattle.words.specs.Words.{fourAt}
+use Rattle.std.specs.Prelude.{ℕ, zero, suc, ◌/◌, ◌%◌, false, cond, List, [], ◌∷◌, ◌++◌, length, take, drop, replicate, eqb, leb}
+use Rattle.words.specs.Words.{twoAt, fourAt}
 use Rattle.chars.specs.paper.Quoted.{codes}
-use Rattle.token.specs.paper.Records.{mostNeed}
+use Rattle.token.specs.paper.Kinds.{kindNumber}
+use Rattle.token.specs.paper.Records.{headLength, mostNeed}
 use Rattle.token.specs.code.Form.{heldAt}
 use Rattle.token.specs.computed.Listing.{decimal, spaced, refusedAt}
+use Rattle.token.specs.declared.form.Held.{Held}
+use Rattle.token.specs.declared.kinds.TokenKind.TheVariants as tk
 use Rattle.entry.specs.paper.Host.{Seen, seen}
 use Rattle.entry.specs.computed.Listing.{listingOf}
-use Rattle.listing_text.specs.Fields.{lengthHere, lineOf}
-use Rattle.listing_text.specs.declared.fields.Line.{Line}
+
+-- length (2 bytes, whole record); 0 where no whole record stands at the start
+unfoldable pub lengthHere : List ℕ → ℕ
+lengthHere bytes =
+    let n = twoAt bytes 0 in
+    cond (leb headLength n) (cond (leb n (length bytes)) n 0) 0
+
+-- the kinds that have values, whatever these are
+abbrev pub intLit : ℕ
+intLit = kindNumber (tk.IntLit 0)
+
+abbrev pub longLit : ℕ
+longLit = kindNumber (tk.LongLit 0)
+
+abbrev pub str : ℕ
+str = kindNumber (tk.Str 0 0)
+
+abbrev pub newline : ℕ
+newline = kindNumber (tk.Newline false)
+
+-- IntLit (+4: value), LongLit (+8: value), Str (+8: content start and end), Newline (+1: after-comment): the values of a kind, from all of them as
+-- one number, of which the first of two is in the lower four bytes
+unfoldable pub heldValues : ℕ → ℕ → List ℕ
+heldValues kind values =
+    cond (eqb kind intLit) (values ∷ [])
+    (cond (eqb kind longLit) (values ∷ [])
+    (cond (eqb kind newline) (values ∷ [])
+    (cond (eqb kind str) (values % 4294967296 ∷ values / 4294967296 ∷ []) [])))
 
 -- "prints kind, start, end, cut": numbers in base ten, single spaces between them
-unfoldable pub headText : Line → List ℕ
-headText line = decimal line.kind ++ spaced (line.start ∷ line.end ∷ line.cut ∷ [])
+unfoldable pub headText : Held → List ℕ
+headText held = decimal held.number ++ spaced (held.start ∷ held.end ∷ held.cut ∷ [])
 
 -- "and values": as many as the kind has
-unfoldable pub valuesText : Line → List ℕ
-valuesText line = spaced (take line.count (line.first ∷ line.second ∷ []))
+unfoldable pub valuesText : Held → List ℕ
+valuesText held = spaced (heldValues held.number held.values)
 
-unfoldable pub lineText : Line → List ℕ
-lineText line = headText line ++ valuesText line ++ codes "\n"
+unfoldable pub lineText : Held → List ℕ
+lineText held = headText held ++ valuesText held ++ codes "\n"
 
 -- A line for each record, by its own length, up to the end or to where no whole record stands. The first argument bounds how many.
 unfoldable pub linesFor : ℕ → List ℕ → List ℕ
 linesFor zero bytes = []
 linesFor (suc most) bytes =
     let n = lengthHere bytes in
-    let lines = lineText (lineOf (heldAt bytes 0)) ++ linesFor most (drop n bytes) in
+    let lines = lineText (heldAt bytes 0) ++ linesFor most (drop n bytes) in
     cond (eqb n 0) [] lines
 
 -- No record is empty, so there are no more of them than bytes.

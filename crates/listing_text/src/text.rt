@@ -1,42 +1,24 @@
 // The whole text of a listing. Document 01, "Host entry and text".
-ghost use Rattle.std.specs.Prelude.{◌≡◌, ◌≤◌, ◌++◌, min, length, IfOk, OnOk};
+ghost use Rattle.std.specs.Prelude.{◌≤◌, ◌*◌, length};
+ghost use Rattle.puts.specs.Puts.{Puts};
 ghost use Rattle.entry.specs.paper.Host.{seen};
-ghost use Rattle.listing_text.specs.Lines.{answerText, zeros, recordsRoom, printed, caseText};
+ghost use Rattle.listing_text.specs.Lines.{answerText, recordsRoom, printed, caseText};
 ghost use Rattle.listing_text.specs.Examples.{ListingExamples};
 
-use crate::lines::{put_records, put_refused};
-use crate::puts::put_number;
-use std::alloc::{AllocError, Global};
+use crate::lines::{put_number, put_records, put_refused};
+use std::alloc::AllocError;
 use token::kinds::TokenKind;
 use words::read::four;
 
-// The listing program takes up to 3,000 bytes.
+/// The listing program takes up to 3,000 bytes.
 pub const MOST_BYTES: usize = 3000;
+
+/// So many bytes hold the text of any case.
+pub const MOST_TEXT: usize = 510_154;
 
 // What the records of any such script need: 17 times 3,000 plus 13 bytes.
 const RECORDS_BYTES: usize = TokenKind::INT_LIT_LENGTH as usize * MOST_BYTES
     + TokenKind::HEAD_LENGTH as usize;
-
-#[tactic(auto, unfolding(crate::specs::Lines::zeros))]
-fn records_space() -> [u8; RECORDS_BYTES]
-    ensures value { result ≡ zeros recordsRoom }
-    ensures records_room_value { recordsRoom ≡ length result }
-{
-    [0; RECORDS_BYTES]
-}
-
-#[tactic(auto, unfolding(crate::specs::Lines::zeros))]
-fn block_space() -> [u8; 16]
-    ensures { result ≡ zeros 16 }
-{
-    [0; 16]
-}
-
-fn least(a: u64, b: usize) -> usize
-    ensures { result ≡ min a b }
-{
-    if a < b as u64 { a as usize } else { b }
-}
 
 #[tactic(auto, using(crate::proofs::AnswerLaws::take_min), unfolding(crate::specs::Lines::answerText))]
 fn put_answer(
@@ -45,49 +27,40 @@ fn put_answer(
     records: &[u8],
     block: &[u8],
 ) -> Result<(), AllocError>
-    ensures { OnOk result (text.new.items ≡ text.old.items ++ answerText (seen number records.now block.now)) }
+    ensures { Puts text.old text.new result (answerText (seen number records.now block.now)) }
 {
-    if number == 0 {
-        let bytes = least(four(block, 12), records.len());
-        return put_records(text, &records[..bytes]);
+    if number != 0 {
+        return put_refused(text, number as u64, four(block, 4));
     }
-    put_refused(text, number as u64, four(block, 4))
+    let bytes = records.len().min(four(block, 12) as usize);
+    put_records(text, &records[..bytes])
 }
 
-// The listing of a script behind a text; more than 3,000 bytes give `long`.
-#[tactic(auto, using(crate::proofs::AnswerLaws::texts))]
-fn put_listing(text: &mut Vec<u8>, script: &[u8]) -> Result<(), AllocError>
-    ensures { OnOk result (text.new.items ≡ text.old.items ++ printed script.now) }
+/// Puts the listing of a script behind a text; more than `MOST_BYTES` bytes give `long`. The last clause: document 01's listing and marked scripts come
+/// out as it says.
+#[tactic(auto, using(crate::proofs::Sizes::sizes, crate::proofs::Examples::listing_examples))]
+pub fn listing(text: &mut Vec<u8>, script: &[u8]) -> Result<(), AllocError>
+    ensures put { Puts text.old text.new result (printed script.now) }
+    ensures size { length (printed script.now) ≤ 10 * recordsRoom }
+    ensures listing_examples { ListingExamples }
 {
     if script.len() > MOST_BYTES {
         return text.extend_from_slice(b"long\n");
     }
-    let mut records = records_space();
-    let mut block = block_space();
+    let mut records = [0; RECORDS_BYTES];
+    let mut block = [0; 16];
     let number = entry::host::tokenize(script, &mut records, &mut block);
     put_answer(text, number, &records, &block)
 }
 
-// The listing of a script. The last clause: document 01's listing and marked scripts come out as it says.
-#[tactic(auto, using(crate::proofs::Examples::listing_examples))]
-pub fn listing(alloc: Global, script: &[u8]) -> Result<Vec<u8>, AllocError>
-    ensures value { IfOk result (λ text. text.items ≡ printed script.now) }
-    ensures listing_examples { ListingExamples }
+/// Puts the same with the line `-- K` before it behind a text, for one case of several.
+#[tactic(auto, using(crate::proofs::Sizes::sizes))]
+pub fn case_text(text: &mut Vec<u8>, number: u64, script: &[u8]) -> Result<(), AllocError>
+    ensures put { Puts text.old text.new result (caseText number script.now) }
+    ensures size { length (caseText number script.now) ≤ MOST_TEXT }
 {
-    let mut text = Vec::new(alloc);
-    put_listing(&mut text, script)?;
-    Ok(text)
-}
-
-// The same with the line `-- K` before it, for one case of several.
-#[tactic(auto, using(crate::proofs::PutLaws::puts), unfolding(crate::specs::Lines::caseText))]
-pub fn case_text(alloc: Global, number: u64, script: &[u8]) -> Result<Vec<u8>, AllocError>
-    ensures { IfOk result (λ text. text.items ≡ caseText number script.now) }
-{
-    let mut text = Vec::new(alloc);
     text.extend_from_slice(b"-- ")?;
-    put_number(&mut text, number)?;
+    put_number(text, number)?;
     text.push(b'\n')?;
-    put_listing(&mut text, script)?;
-    Ok(text)
+    listing(text, script)
 }

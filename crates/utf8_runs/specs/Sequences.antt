@@ -21,7 +21,11 @@ unfoldable pub walked : ℕ → ℕ → ℕ → List ℕ → List ℕ
 walked n a zero counts = counts
 walked n a (suc k) counts = tallied (walked n a k counts) (validPrefix (take n (bytesOf n a k)))
 
+-- none is counted
+abbrev pub noCounts : List ℕ
+noCounts = 0 ∷ 0 ∷ 0 ∷ 0 ∷ 0 ∷ []
+
 -- the counts for the first bytes below a
 unfoldable pub rows : ℕ → ℕ → ℕ → List ℕ
-rows n tails zero = 0 ∷ 0 ∷ 0 ∷ 0 ∷ 0 ∷ []
+rows n tails zero = noCounts
 rows n tails (suc a) = walked n a tails (rows n tails a)

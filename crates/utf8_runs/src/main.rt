@@ -4,10 +4,13 @@
 // --summary made of Rust's std::str::from_utf8.
 #![tactic(auto)]
 
-ghost use Rattle.std.specs.Prelude.{◌≡◌, ◌≤◌, length, IfOk};
-ghost use Rattle.utf8_runs.specs.Sequences.{bytesOf, rows, tallied, walked};
+ghost use Rattle.std.specs.Prelude.{◌≡◌, ◌≤◌, ◌<◌, length};
+ghost use Rattle.puts.specs.Puts.{Puts};
+ghost use Rattle.utf8_runs.specs.Sequences.{bytesOf, tallied, walked};
+ghost use Rattle.utf8_runs.specs.Rows.{countsText, glyph, hexOf, rowText, rowsText};
 
-use std::alloc::{AllocError, Global};
+use puts::{put_number, put_spaced};
+use std::alloc::AllocError;
 use std::io;
 
 const EDGES: [u8; 4] = [0x7F, 0x80, 0xBF, 0xC0];
@@ -15,7 +18,8 @@ const EDGES: [u8; 4] = [0x7F, 0x80, 0xBF, 0xC0];
 // The bytes of the sequence of number k that begins with a, of which the first n count.
 #[tactic(auto, unfolding(crate::specs::Sequences::bytesOf))]
 fn bytes_of(n: usize, a: u8, k: u32) -> [u8; 4]
-    ensures { (result ≡ bytesOf n a k) × (4 ≡ length result) }
+    ensures value { result ≡ bytesOf n a k }
+    ensures size { 4 ≡ length result }
 {
     let low = (k % 256) as u8;
     if n <= 2 {
@@ -44,7 +48,8 @@ fn tally(counts: &mut [u32; 5], answer: usize)
 // Counts the answers for the sequences of n bytes that begin with a.
 fn walk(n: usize, a: u8, tails: u32, counts: &mut [u32; 5], all: &mut [u32; 5])
     requires { n ≤ 4 }
-    ensures { (counts.new ≡ walked n a tails counts.old) × (all.new ≡ walked n a tails all.old) }
+    ensures counts_after { counts.new ≡ walked n a tails counts.old }
+    ensures all_after { all.new ≡ walked n a tails all.old }
 {
     for k in 0..tails {
         let bytes = bytes_of(n, a, k);
@@ -54,45 +59,62 @@ fn walk(n: usize, a: u8, tails: u32, counts: &mut [u32; 5], all: &mut [u32; 5])
     }
 }
 
-// Puts the counts behind a text, and ends the line. Hands back how many numbers these are.
-fn put_counts(text: &mut String, alloc: Global, counts: &[u32; 5]) -> Result<usize, AllocError>
-    ensures { IfOk result (λ written. written ≡ 5) }
+// A digit in hexadecimal, in lower case.
+#[tactic(auto, unfolding(crate::specs::Rows::glyph))]
+fn hex_digit(d: u8) -> u8
+    requires { d < 16 }
+    ensures { result ≡ glyph d }
 {
-    let mut written: usize = 0;
-    for count in counts {
-        let number = format!(in alloc; " {count}")?;
-        text.push_str(number.as_str())?;
-        written += 1;
-    }
-    text.push_str("\n")?;
-    Ok(written)
+    if d < 10 { b'0' + d } else { b'a' - 10 + d }
 }
 
-// Puts the lines of length n behind a text, and hands back the counts of the last, for all first bytes. For each first byte there are as many
-// sequences as `tails` says.
-fn put_rows(text: &mut String, alloc: Global, n: usize, tails: u32) -> Result<[u32; 5], AllocError>
-    requires { n ≤ 4 }
-    ensures { IfOk result (λ all. all ≡ rows n tails 256) }
+fn hex_of(a: u8) -> [u8; 2]
+    ensures value { result ≡ hexOf a }
+    ensures size { 2 ≡ length result }
 {
-    let mut all = [0u32; 5];
-    for a in 0u32..256 {
-        let mut counts = [0u32; 5];
-        walk(n, a as u8, tails, &mut counts, &mut all);
-        let head = format!(in alloc; "{n} {a:02x}")?;
-        text.push_str(head.as_str())?;
-        put_counts(text, alloc, &counts)?;
+    [hex_digit(a / 16), hex_digit(a % 16)]
+}
+
+// Puts the counts behind a text, and ends the line.
+fn put_counts(text: &mut Vec<u8>, counts: &[u32; 5]) -> Result<(), AllocError>
+    ensures { Puts text.old text.new result (countsText counts.now) }
+{
+    for count in counts {
+        put_spaced(text, u64::from(*count))?;
     }
-    let head = format!(in alloc; "{n} all")?;
-    text.push_str(head.as_str())?;
-    put_counts(text, alloc, &all)?;
-    Ok(all)
+    text.push(b'\n')?;
+    Ok(())
+}
+
+// Puts a line behind a text: the length, the first byte or `all`, and the counts.
+fn put_row(text: &mut Vec<u8>, n: usize, first: &[u8], counts: &[u32; 5]) -> Result<(), AllocError>
+    ensures { Puts text.old text.new result (rowText n first.now counts.now) }
+{
+    put_number(text, n as u64)?;
+    text.push(b' ')?;
+    text.extend_from_slice(first)?;
+    put_counts(text, counts)
+}
+
+// Puts the lines of length n behind a text, the last of them for all first bytes. For each first byte there are as many sequences as `tails` says.
+fn put_rows(text: &mut Vec<u8>, n: usize, tails: u32) -> Result<(), AllocError>
+    requires { n ≤ 4 }
+    ensures { Puts text.old text.new result (rowsText n tails) }
+{
+    let mut all = [0; 5];
+    for a in 0u32..256 {
+        let mut counts = [0; 5];
+        walk(n, a as u8, tails, &mut counts, &mut all);
+        put_row(text, n, &hex_of(a as u8), &counts)?;
+    }
+    put_row(text, n, b"all", &all)
 }
 
 fn main(rt: HostRuntime) -> io::Result<()> {
-    let mut text = String::new(rt.alloc());
-    put_rows(&mut text, rt.alloc(), 1, 1)?;
-    put_rows(&mut text, rt.alloc(), 2, 256)?;
-    put_rows(&mut text, rt.alloc(), 3, 65536)?;
-    put_rows(&mut text, rt.alloc(), 4, 4096)?;
-    print!(rt; "{text}")
+    let mut text = Vec::new(rt.alloc());
+    put_rows(&mut text, 1, 1)?;
+    put_rows(&mut text, 2, 256)?;
+    put_rows(&mut text, 3, 65536)?;
+    put_rows(&mut text, 4, 4096)?;
+    rt.write_all(&text)
 }

@@ -1,7 +1,6 @@
-use Rattle.std.proofs.Common.{refl}
 use Rattle.class_runs.specs.Lines.{runText}
 use Rattle.class_runs.proofs.run_text.Goals as goal
 
-pub returns : goal.returns
+pub returns-clause-value : goal.returns-clause-value
 unfolding runText
-returns c = (cc, refl)
+returns-clause-value c = cc
