@@ -70,6 +70,7 @@ fn is_escape(b: u8) -> bool
 
 /// Past any escape. Most are of one byte behind the backslash.
 #[tactic(auto, unfolding(crate::specs::code::Quoted::escapeEnd))]
+#[inline(always)]
 pub fn escape_end(s: &[u8], at: usize) -> Option<usize>
     requires { at < length s.now }
     ensures { result ≡ escapeEnd s.now at }
