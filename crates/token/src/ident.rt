@@ -14,6 +14,7 @@ use crate::kinds::{TokenKind, keyword_of};
 use crate::piece::Piece;
 use crate::refusal::{Refusal, Refused};
 use crate::string::lex_prefixed_string;
+use chars::runs::{OneOf, run_end};
 
 // Where the operator sign at a place ends; the place itself, if none stands there. Past ASCII the one sign is U+21D2.
 fn sign_end(s: &[u8], at: usize) -> usize
@@ -77,27 +78,18 @@ fn consume_id_rest(s: &[u8], c: Cursor) -> Cursor
     requires { c.at ≤ length s.now }
     ensures { (result.at ≤ length s.now) × (from s.now result.at ≡ afterIdent false (from s.now c.at)) }
 {
-    let mut i = c.at;
-    let mut chunk = i;
-    'chunks: loop {
-        chunk = i;
-        loop {
-            if byte_at(s, i) == 0x5F {
-                i = chars::runs::skip_eights(s, i + 1, 0x5F, 0x5F);
-            } else {
-                let end = chars::classes::id_run_end(s, i);
-                if end == i {
-                    break 'chunks;
-                }
-                i = end;
-                break;
+    let mut chunk = c.at;
+    loop {
+        let behind = run_end::<OneOf<b'_', b'_'>>(s, chunk);
+        let end = chars::classes::id_run_end(s, behind);
+        if end == behind {
+            if behind == chunk {
+                return Cursor { at: chunk };
             }
+            return consume_signs(s, Cursor { at: behind });
         }
+        chunk = end;
     }
-    if chunk == i {
-        return Cursor { at: i };
-    }
-    consume_signs(s, Cursor { at: i })
 }
 
 /// Past the operator run that stands there; a comment's opening ends it.

@@ -13,6 +13,7 @@ use crate::digits::consume_digits;
 use crate::kinds::TokenKind;
 use crate::piece::Piece;
 use crate::refusal::{Refusal, Refused};
+use chars::runs::{NoneOf, OneOf, run_end};
 
 /// A string's content: where it starts and ends.
 #[derive(Clone, Copy, Debug, PartialEq, Eq)]
@@ -76,10 +77,10 @@ fn is_ordinary(b: u8) -> bool
     }
 }
 
-// Past the ordinary characters that stand there. A byte of 0x80 or more is never one of the four others, so no character is decoded. Most strings
-// are read by `quoted`, eights of bytes first; this is for those that it declines.
+/// Past the ordinary characters that stand there. A byte of 0x80 or more is never one of the four others, so no character is decoded.
 #[tactic(auto, using(crate::proofs::string::Laws::skip_run))]
-fn skip_ordinary(s: &[u8], c: Cursor) -> Cursor
+#[inline(always)]
+pub fn skip_ordinary(s: &[u8], c: Cursor) -> Cursor
     requires { c.at ≤ length s.now }
     ensures { (c.at ≤ result.at) × (result.at ≤ length s.now) × (from s.now result.at ≡ afterRun (headIs isOrdinary) (from s.now c.at)) }
 {
@@ -87,14 +88,9 @@ fn skip_ordinary(s: &[u8], c: Cursor) -> Cursor
     if !is_ordinary(byte_at(s, at)) {
         return c;
     }
-    let mut i = at;
-    while i < s.len() {
-        if !is_ordinary(s[i]) {
-            return Cursor { at: i };
-        }
-        i += 1;
+    Cursor {
+        at: run_end::<NoneOf<b'\n', b'"', b'$', b'\\'>>(s, at),
     }
-    Cursor { at: i }
 }
 
 // Past a `$` in a prefixed string, unless `{` follows.
@@ -163,19 +159,13 @@ pub fn three_quotes(s: &[u8], at: usize) -> bool
 }
 
 /// Past all quotes that stand there.
-#[tactic(auto, using(crate::proofs::string::Laws::quote_run))]
 pub fn consume_quotes(s: &[u8], c: Cursor) -> Cursor
     requires { c.at ≤ length s.now }
     ensures { (result.at ≤ length s.now) × (from s.now result.at ≡ afterRun quote (from s.now c.at)) }
 {
-    let mut i = chars::runs::skip_eights(s, c.at, 0x22, 0x22);
-    while i < s.len() {
-        if s[i] != 0x22 {
-            return Cursor { at: i };
-        }
-        i += 1;
+    Cursor {
+        at: run_end::<OneOf<b'"', b'"'>>(s, c.at),
     }
-    Cursor { at: i }
 }
 
 // One step in a triple string, where no three quotes close it.
