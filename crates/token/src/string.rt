@@ -5,7 +5,7 @@ ghost use Rattle.chars.specs.computed.Runs.{afterRun};
 ghost use Rattle.token.specs.paper.Tests.{isAny, quote, threeQuotes};
 ghost use Rattle.token.specs.computed.Answer.{closed, closeTriple, closeString, prefixedOf, scanString, plainContent};
 ghost use Rattle.token.specs.code.Piece.{pieceOf};
-ghost use Rattle.token.specs.code.String.{endedOf, escapeOf, hexesOf, isOrdinary, dollarOf, closeSingle, singleItem, tripleItem, lastOff, spanKind, eightsOff, eightsTaken};
+ghost use Rattle.token.specs.code.String.{endedOf, escapeOf, hexesOf, isOrdinary, dollarOf, closeSingle, singleItem, tripleItem, lastOff, spanKind, blocksOff, blocksTaken};
 ghost use Rattle.chars.specs.promises.Texts.{Suffix};
 
 use crate::cursor::{Cursor, byte_at, two_at};
@@ -13,7 +13,7 @@ use crate::digits::consume_digits;
 use crate::kinds::TokenKind;
 use crate::piece::Piece;
 use crate::refusal::{Refusal, Refused};
-use chars::runs::{NoneOf, OneOf, run_end};
+use chars::runs::{NoneOf, OneOf, block_at, run_end};
 
 /// A string's content: where it starts and ends.
 #[derive(Clone, Copy, Debug, PartialEq, Eq)]
@@ -234,33 +234,30 @@ fn last_off(s: &[u8], start: usize, end: usize) -> usize
     end
 }
 
-// Are the first eight bytes and the last eight of the text from `start` to `end` quotes, sixteen in all?
-#[tactic(auto, unfolding(crate::specs::code::String::eightsOff))]
-fn eights_off(s: &[u8], start: usize, end: usize) -> bool
+// Are the first sixteen bytes and the last sixteen of the text from `start` to `end` quotes, thirty-two in all?
+#[tactic(auto, unfolding(crate::specs::code::String::blocksOff))]
+fn blocks_off(s: &[u8], start: usize, end: usize) -> bool
     requires order { start ≤ end }
     requires within { end ≤ length s.now }
-    ensures { result ≡ eightsOff s.now start end }
+    ensures { result ≡ blocksOff s.now start end }
 {
-    if end - start < 16 {
-        return false;
-    }
-    if chars::runs::eight_in(s, start, 0x22, 0x22) {
-        return chars::runs::eight_in(s, end - 8, 0x22, 0x22);
-    }
-    false
+    32 <= end - start
+        && block_at::<OneOf<b'"', b'"'>>(s, start)
+        && block_at::<OneOf<b'"', b'"'>>(s, end - 16)
 }
 
-// The quotes at both ends of a string taken off by eights: what is left has the same content.
-#[tactic(auto, using(crate::proofs::string::Strips::eights_apart))]
-fn strip_eights(s: &[u8], start: usize, end: usize) -> Span
-    requires { (start ≤ end) × (end ≤ length s.now) }
-    ensures { result ≡ eightsTaken s.now start end }
+// The quotes at both ends of a string taken off by sixteens: what is left has the same content.
+#[tactic(auto, using(crate::proofs::string::Strips::blocks_apart))]
+fn strip_blocks(s: &[u8], start: usize, end: usize) -> Span
+    requires order { start ≤ end }
+    requires within { end ≤ length s.now }
+    ensures { result ≡ blocksTaken s.now start end }
 {
     let mut a = start;
     let mut b = end;
-    while eights_off(s, a, b) {
-        a += 8;
-        b -= 8;
+    while blocks_off(s, a, b) {
+        a += 16;
+        b -= 16;
     }
     Span { start: a, end: b }
 }
@@ -273,7 +270,7 @@ fn strip_many(s: &[u8], start: usize, end: usize) -> Span
     requires suffix { Suffix (from s.now end) (from s.now start) }
     ensures { spanKind result ≡ plainContent (length s.now) (from s.now start) (from s.now end) }
 {
-    let left = strip_eights(s, start, end);
+    let left = strip_blocks(s, start, end);
     let mut a = left.start;
     let mut b = left.end;
     while a < b {
