@@ -18,4 +18,3 @@ pub mod Literal
 pub mod Records
 pub mod Symbol
 pub mod Walk
-pub mod Stand

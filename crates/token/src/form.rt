@@ -20,6 +20,7 @@ pub fn head_of(length: u16, number: u16) -> u32
 
 // Length and kind, start, end and cut.
 #[tactic(auto, using(crate::proofs::form::Stores::put_head))]
+#[inline(always)]
 fn put_head(out: &mut [u8], w: usize, head: u32, start: usize, end: usize, cut: bool)
     requires { w + headLength ≤ length out.old }
     ensures { out.new ≡ sets out.old w (headBytes head start end cut) }
@@ -32,6 +33,7 @@ fn put_head(out: &mut [u8], w: usize, head: u32, start: usize, end: usize, cut: 
 
 // The values: as many bytes of them as the record's length has.
 #[tactic(auto, using(crate::proofs::form::Laws::record_stores))]
+#[inline(always)]
 fn put_values(out: &mut [u8], w: usize, size: u16, values: u64)
     requires { Known size × (w + (size - headLength) ≤ length out.old) }
     ensures { out.new ≡ sets out.old w (take (size - headLength) (le8 values)) }
@@ -46,6 +48,7 @@ fn put_values(out: &mut [u8], w: usize, size: u16, values: u64)
 
 // A record by its form.
 #[tactic(auto, using(crate::proofs::form::Laws::record_stores))]
+#[inline(always)]
 pub fn put_record(out: &mut [u8], w: usize, form: Form, start: usize, end: usize, cut: bool)
     requires { Known form.length × (w + form.length ≤ length out.old) }
     ensures { out.new ≡ sets out.old w (byForm form start end cut) }
@@ -61,6 +64,7 @@ pub fn put_record(out: &mut [u8], w: usize, form: Form, start: usize, end: usize
 
 // The same, where it fits.
 #[tactic(auto, using(crate::proofs::form::Shapes::fitting))]
+#[inline(always)]
 pub fn put_if(out: &mut [u8], w: usize, form: Form, start: usize, end: usize, cut: bool)
     requires { Known form.length × (w + form.length ≤ 18446744073709551615) }
     ensures { out.new ≡ storedIf out.old w (byForm form start end cut) }
@@ -71,108 +75,14 @@ pub fn put_if(out: &mut [u8], w: usize, form: Form, start: usize, end: usize, cu
     }
 }
 
-// The same for each shape by itself, where no cut is set: what is known of it is compiled in. A token without values, by its length and kind.
+// A token without values, by its length and kind.
 #[tactic(auto, using(crate::proofs::form::Shapes::fitting))]
-pub fn put_head_if(out: &mut [u8], w: usize, head: u32, start: usize, end: usize)
+pub fn put_head_if(out: &mut [u8], w: usize, head: u32, start: usize, end: usize, cut: bool)
     requires { w + headLength ≤ 18446744073709551615 }
-    ensures { out.new ≡ storedIf out.old w (headBytes head start end false) }
+    ensures { out.new ≡ storedIf out.old w (headBytes head start end cut) }
 {
     if w + TokenKind::HEAD_LENGTH as usize <= out.len() {
-        put_head(out, w, head, start, end, false);
-        return;
-    }
-}
-
-// A token without values, by its kind's number.
-#[tactic(auto, using(crate::proofs::form::Shapes::head_plain))]
-pub fn put_plain_if(out: &mut [u8], w: usize, number: u16, start: usize, end: usize)
-    requires { w + headLength ≤ 18446744073709551615 }
-    ensures { out.new ≡ storedIf out.old w (byForm (plainForm number) start end false) }
-{
-    put_head_if(out, w, head_of(TokenKind::HEAD_LENGTH, number), start, end);
-}
-
-// A line end, with its after-comment mark.
-#[tactic(auto, using(crate::proofs::form::Shapes::fitting))]
-pub fn put_line_if(out: &mut [u8], w: usize, start: usize, end: usize, mark: bool)
-    requires { w + lineLength ≤ 18446744073709551615 }
-    ensures { out.new ≡ storedIf out.old w (byForm (formOf (tk.Newline mark)) start end false) }
-{
-    if w + TokenKind::NEWLINE_LENGTH as usize <= out.len() {
-        put_head(
-            out,
-            w,
-            head_of(TokenKind::NEWLINE_LENGTH, TokenKind::NEWLINE),
-            start,
-            end,
-            false,
-        );
-        out[w + TokenKind::HEAD_LENGTH as usize] = bit_of(mark);
-        return;
-    }
-}
-
-// A string, with where its content starts and ends.
-#[tactic(auto, using(crate::proofs::form::Shapes::fitting))]
-pub fn put_str_if(out: &mut [u8], w: usize, start: usize, end: usize, from: usize, to: usize)
-    requires { w + strLength ≤ 18446744073709551615 }
-    ensures { out.new ≡ storedIf out.old w (byForm (formOf (tk.Str from to)) start end false) }
-{
-    if w + TokenKind::STR_LENGTH as usize <= out.len() {
-        put_head(
-            out,
-            w,
-            head_of(TokenKind::STR_LENGTH, TokenKind::STR),
-            start,
-            end,
-            false,
-        );
-        put4(out, w + TokenKind::HEAD_LENGTH as usize, from);
-        put4(out, w + TokenKind::HEAD_LENGTH as usize + 4, to);
-        return;
-    }
-}
-
-// An IntLit, with its value.
-#[tactic(auto, using(crate::proofs::form::Shapes::fitting))]
-pub fn put_int_if(out: &mut [u8], w: usize, start: usize, end: usize, v: u64)
-    requires { w + intLength ≤ 18446744073709551615 }
-    ensures { out.new ≡ storedIf out.old w (byForm (formOf (tk.IntLit v)) start end false) }
-{
-    if w + TokenKind::INT_LIT_LENGTH as usize <= out.len() {
-        put_head(
-            out,
-            w,
-            head_of(TokenKind::INT_LIT_LENGTH, TokenKind::INT_LIT),
-            start,
-            end,
-            false,
-        );
-        put4(
-            out,
-            w + TokenKind::HEAD_LENGTH as usize,
-            (v % 4294967296) as usize,
-        );
-        return;
-    }
-}
-
-// A LongLit, with its value.
-#[tactic(auto, using(crate::proofs::form::Shapes::fitting))]
-pub fn put_long_if(out: &mut [u8], w: usize, start: usize, end: usize, v: u64)
-    requires { w + longLength ≤ 18446744073709551615 }
-    ensures { out.new ≡ storedIf out.old w (byForm (formOf (tk.LongLit v)) start end false) }
-{
-    if w + TokenKind::LONG_LIT_LENGTH as usize <= out.len() {
-        put_head(
-            out,
-            w,
-            head_of(TokenKind::LONG_LIT_LENGTH, TokenKind::LONG_LIT),
-            start,
-            end,
-            false,
-        );
-        put8(out, w + TokenKind::HEAD_LENGTH as usize, v);
+        put_head(out, w, head, start, end, cut);
         return;
     }
 }
