@@ -14,10 +14,10 @@ ghost use Rattle.token.specs.code.Walk.{movedTo, plainBehind, valuesBehind, line
 use crate::byte_class::Class;
 use crate::cursor::{Cursor, byte_at, skip_more};
 use crate::digits::Value;
-use crate::form::{put_head_if, put_int_if, put_line_if, put_long_if, put_plain_if, put_str_if};
+use crate::form::{put_head_if, put_if, put_record};
 use crate::gap::{block_end, line_end_at};
 use crate::keyword::{run_number, word_number};
-use crate::kinds::TokenKind;
+use crate::kinds::{Form, TokenKind};
 use crate::literal::{NumberLit, digit_value, literal_at};
 use crate::names::{Here, here_at, name_end, opens_with, operator_end, run_end, word_end};
 use crate::quoted::{backtick_end, string_at};
@@ -160,7 +160,8 @@ fn line_step(out: &mut [u8], s: &[u8], x: Walked) -> Walked
     ensures on { Steps s.now x out.old result out.new }
     ensures further { result.at ≡ x.at + 1 }
 {
-    put_line_if(out, x.bytes, x.at, x.at + 1, x.mark == x.bytes);
+    let form = Form::line(x.mark == x.bytes);
+    put_if(out, x.bytes, form, x.at, x.at + 1, false);
     behind_line(s, x, x.at + 1)
 }
 
@@ -176,7 +177,8 @@ fn return_step(out: &mut [u8], s: &[u8], x: Walked) -> Option<Walked>
     if byte_at(s, x.at + 1) != b'\n' {
         return None;
     }
-    put_line_if(out, x.bytes, x.at, x.at + 2, x.mark == x.bytes);
+    let form = Form::line(x.mark == x.bytes);
+    put_if(out, x.bytes, form, x.at, x.at + 2, false);
     Some(behind_line(s, x, x.at + 2))
 }
 
@@ -201,7 +203,7 @@ fn block_step(out: &mut [u8], s: &[u8], x: Walked) -> Option<Walked>
     if next == c.at {
         return None;
     }
-    put_line_if(out, x.bytes, c.at, next, true);
+    put_if(out, x.bytes, Form::line(true), c.at, next, false);
     Some(behind_line(s, x, next))
 }
 
@@ -250,7 +252,8 @@ fn put_run_if(out: &mut [u8], s: &[u8], w: usize, at: usize, end: Here)
     ensures { out.new ≡ storedIf out.old w (byForm (plainForm (operatorNumber s.now at end)) at end.at false) }
 {
     if w + HEAD <= out.len() {
-        put_plain_if(out, w, operator_number(s, at, end), at, end.at);
+        let form = Form::plain(operator_number(s, at, end));
+        put_record(out, w, form, at, end.at, false);
     }
 }
 
@@ -294,7 +297,8 @@ fn digit_step(out: &mut [u8], s: &[u8], x: Walked, end: Here) -> Walked
     ensures on { Steps s.now x out.old result out.new }
     ensures further { result.at ≡ x.at + 1 }
 {
-    put_int_if(out, x.bytes, x.at, end.at, digit_value(s, x.at));
+    let form = Form::int(digit_value(s, x.at));
+    put_if(out, x.bytes, form, x.at, end.at, false);
     behind_values(x, end, INT)
 }
 
@@ -312,7 +316,8 @@ fn int_step(out: &mut [u8], s: &[u8], x: Walked, number: NumberLit) -> Option<Wa
     if Value::INT_MOST < number.value {
         return None;
     }
-    put_int_if(out, x.bytes, x.at, number.end, number.value);
+    let form = Form::int(number.value);
+    put_if(out, x.bytes, form, x.at, number.end, false);
     Some(behind_values(x, here_at(s, number.end), INT))
 }
 
@@ -330,7 +335,8 @@ fn long_step(out: &mut [u8], s: &[u8], x: Walked, number: NumberLit) -> Option<W
     if Value::LONG_MOST < number.value {
         return None;
     }
-    put_long_if(out, x.bytes, x.at, number.end, number.value);
+    let form = Form::long(number.value);
+    put_if(out, x.bytes, form, x.at, number.end, false);
     Some(behind_values(x, here_at(s, number.end), LONG))
 }
 
@@ -364,7 +370,8 @@ fn char_sym_step(out: &mut [u8], s: &[u8], x: Walked) -> Option<Walked>
     ensures kept { IfNone result (out.new ≡ out.old) }
 {
     let end = char_sym_end(s, x.at)?;
-    put_plain_if(out, x.bytes, TokenKind::CHAR_SYM, x.at, end);
+    let form = Form::plain(TokenKind::CHAR_SYM);
+    put_if(out, x.bytes, form, x.at, end, false);
     Some(behind(x, here_at(s, end)))
 }
 
@@ -390,7 +397,8 @@ fn put_word_if(out: &mut [u8], s: &[u8], class: Class, w: usize, at: usize, end:
     ensures { out.new ≡ storedIf out.old w (byForm (plainForm (nameNumber s.now class.number at end)) at end false) }
 {
     if w + HEAD <= out.len() {
-        put_plain_if(out, w, name_number(s, class, at, end), at, end);
+        let form = Form::plain(name_number(s, class, at, end));
+        put_record(out, w, form, at, end, false);
     }
 }
 
@@ -432,7 +440,8 @@ fn string_step(out: &mut [u8], s: &[u8], x: Walked, mark: usize) -> Option<Walke
     let prefixed = x.at < mark;
     let string = string_at(s, mark, prefixed)?;
     let off = content_off(prefixed, string.quotes);
-    put_str_if(out, x.bytes, x.at, string.end, x.at + off, string.end - off);
+    let form = Form::span(x.at + off, string.end - off);
+    put_if(out, x.bytes, form, x.at, string.end, false);
     Some(behind_values(x, here_at(s, string.end), TEXT))
 }
 
@@ -450,7 +459,7 @@ fn name_step(out: &mut [u8], s: &[u8], x: Walked) -> Option<Walked>
     if end.class == Class::QUOTE && number <= TokenKind::BACKTICK_ID {
         return string_step(out, s, x, end.at);
     }
-    put_plain_if(out, x.bytes, number, x.at, end.at);
+    put_if(out, x.bytes, Form::plain(number), x.at, end.at, false);
     Some(behind(x, end))
 }
 

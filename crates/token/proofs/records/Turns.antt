@@ -9,7 +9,7 @@ use Rattle.chars.specs.paper.Text.{from}
 use Rattle.token.specs.paper.Kinds.{kindNumber, Token}
 use Rattle.token.specs.paper.Records.{headLength, lineLength, recordLength, recordOf}
 use Rattle.token.specs.computed.Flags.{fresh}
-use Rattle.token.specs.code.Form.{formOf, plainForm, Known, byForm}
+use Rattle.token.specs.code.Form.{formOf, plainForm, byForm}
 use Rattle.token.specs.code.Lexer.{seek, nextOf, NextAnswer, nextToken, nextLine, nextEnd}
 use Rattle.token.specs.code.Records.{storedIf, eofAt, total, measuredOf, Trail, answerOf, tokensOn, stores, trailFrom, begun, Reaches}
 use Rattle.token.specs.code.Stand.{counted, stateOf, Whole}
@@ -19,7 +19,7 @@ use Rattle.token.specs.declared.kinds.Form.{Form}
 use Rattle.token.specs.declared.kinds.TokenKind.{TokenKind}
 use Rattle.token.specs.declared.kinds.TokenKind.TheVariants as tk
 use Rattle.token.specs.declared.records.Stand.{Stand}
-use Rattle.token.proofs.form.Laws.{form-known, form-length, record-by, length-by, eof-form}
+use Rattle.token.proofs.form.Laws.{form-length, record-by, length-by, eof-form}
 use Rattle.token.proofs.lexer.Trails.{stores-end, stores-stop}
 use Rattle.token.proofs.lexer.Turns.{Turn, turn-token, turn-line, turn-end, turn-stop}
 use Rattle.token.proofs.records.Measures.{measured-end, measured-stop, record-most, newline-length, eof-length, begun-answer}
@@ -33,13 +33,10 @@ pub record-least : (k : TokenKind) → headLength ≤ recordLength k
 unfolding recordLength
 record-least k = omega arith
 
-pub head-known : Known headLength
-head-known = Known.bare
-
 pub eof-is : (start end : ℕ) (cut : Bool) → byForm (plainForm (kindNumber tk.Eof)) start end cut ≡ recordOf (record { kind = tk.Eof; start = start; end = end; cut = cut })
 eof-is start end cut = record-by _ (record { kind = tk.Eof; start = start; end = end; cut = cut }) eof-form
 
-pub ruleset sizes = (form-known, form-length, record-least, record-most, head-known, eof-is)
+pub ruleset sizes = (form-length, record-least, record-most, eof-is)
 
 -- ---- what comes next at a place
 

@@ -24,7 +24,7 @@ returns-clause-on c =
     let b = block-to s x.at _ c.requires.opened c.block_end-end.ensures c.if-end-x.false in
     let d = line-to s _ _ c.line_end_at-next.ensures c.if-next-c.false in
     let k = c.skip_blanks-c.ensures in
-    rw c.behind_line.ensures (step-block-line c.requires.good _ _ _ b (eq-eqb x.line x.bytes c.if-x.false) k.1 k.2 d _ _ c.put_line_if.ensures)
+    rw c.behind_line.ensures (step-block-line c.requires.good _ _ _ b (eq-eqb x.line x.bytes c.if-x.false) k.1 k.2 d _ _ (rw c.line.ensures.value at c.put_if.ensures))
 
 pub returns-clause-further : goal.returns-clause-further
 returns-clause-further c =

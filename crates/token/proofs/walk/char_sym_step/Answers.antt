@@ -11,7 +11,7 @@ char_sym_end-requires-clause-tick c = tick-here c.requires.good c.requires.tick
 pub returns-clause-on : goal.returns-clause-on
 returns-clause-on c =
     rw (c.behind.ensures, c.here_at.ensures)
-    (step-symbol c.requires.good c.requires.tick _ c.in_ok-end.ensures _ _ c.put_plain_if.ensures)
+    (step-symbol c.requires.good c.requires.tick _ c.in_ok-end.ensures _ _ (rw c.plain-form.ensures.value at c.put_if.ensures))
 
 pub returns-clause-further : goal.returns-clause-further
 returns-clause-further c =

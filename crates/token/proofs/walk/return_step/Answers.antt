@@ -7,4 +7,4 @@ pub returns-clause-on : goal.returns-clause-on
 returns-clause-on c =
     let g = c.requires.good in
     rw c.behind_line.ensures
-    (step-line-end g _ (cr-here g c.requires.cr (sym c.byte_at.ensures ∙ c.if-byte_at-ne10.false)) _ _ c.put_line_if.ensures)
+    (step-line-end g _ (cr-here g c.requires.cr (sym c.byte_at.ensures ∙ c.if-byte_at-ne10.false)) _ _ (rw c.line-form.ensures.value at c.put_if.ensures))
