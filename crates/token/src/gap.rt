@@ -5,7 +5,7 @@ ghost use Rattle.chars.specs.computed.Runs.{afterRun};
 ghost use Rattle.token.specs.paper.Tests.{endOfLine, endsLine, opensLine, opensBlock};
 ghost use Rattle.token.specs.computed.Flags.{GapKind, fresh, push, cutOf};
 ghost use Rattle.token.specs.computed.Answer.{close};
-ghost use Rattle.token.specs.code.Gap.{closedOf, fourOpen, openings, lineEndAfter, blockEnd};
+ghost use Rattle.token.specs.code.Gap.{closedOf, fourOpen, openings, lineEndAfter};
 
 use crate::cursor::{Cursor, byte_at, two_at};
 use crate::names::opens_with;
@@ -211,32 +211,14 @@ impl Cursor {
     }
 }
 
-/// Past the LF or CR LF that stands there; the place itself, where none does.
+/// Past the LF or CR LF that stands there; nothing, where none does.
 #[tactic(auto, using(crate::proofs::gap::Laws::line_ends), unfolding(crate::specs::code::Gap::lineEndAfter))]
-pub fn line_end_at(s: &[u8], at: usize) -> usize
+pub fn line_end_at(s: &[u8], at: usize) -> Option<usize>
     requires { at ≤ length s.now }
     ensures { result ≡ lineEndAfter s.now at }
 {
-    let b = byte_at(s, at);
-    if b == b'\n' {
-        return at + 1;
+    if byte_at(s, at) == b'\n' {
+        return Some(at + 1);
     }
-    if two_at(s, at, b'\r', b'\n') {
-        return at + 2;
-    }
-    at
-}
-
-/// Past the block comment that begins there; the place itself, where it is open at the end of script.
-#[tactic(auto, using(crate::proofs::gap::Scans::end_closed))]
-pub fn block_end(s: &[u8], at: usize) -> usize
-    requires within { at ≤ length s.now }
-    requires opens { opensBlock (from s.now at) ≡ true }
-    ensures { result ≡ blockEnd s.now at }
-{
-    let closed = Cursor { at }.consume_block_comment(s);
-    let Some(end) = closed else {
-        return at;
-    };
-    end.at
+    two_at(s, at, b'\r', b'\n').then_some(at + 2)
 }
