@@ -7,6 +7,8 @@ ghost use Rattle.token.specs.computed.Answer.{close};
 ghost use Rattle.token.specs.code.Gap.{closedOf, fourOpen, openings};
 
 use crate::cursor::{Cursor, byte_at, two_at};
+use crate::names::opens_with;
+use chars::runs::{InRange, NoneOf, run_end};
 
 // Does an LF or a CR LF stand at a place? Most bytes are above both.
 #[tactic(auto, using(crate::proofs::gap::Laws::line_ends))]
@@ -71,8 +73,24 @@ fn pass_openings(s: &[u8], at: usize) -> Nest
     Nest { at: i, depth }
 }
 
-// From inside a comment, with so many more open: past the outermost's end. What is neither `*` nor `/` is passed by eights first, since most
-// comments have no other mark inside.
+// From inside a comment: to its first `*` or `/`, since most comments have no mark inside but their end; or past the `/*` that stand there.
+#[inline(always)]
+fn first_mark(s: &[u8], at: usize) -> Nest
+    requires { at ≤ length s.now }
+    ensures within { result.at ≤ length s.now }
+    ensures depth_in { result.depth ≤ result.at }
+    ensures same { close result.depth 0 (from s.now result.at) ≡ close 0 0 (from s.now at) }
+{
+    if opens_with(byte_at(s, at)) {
+        return pass_openings(s, at);
+    }
+    Nest {
+        at: run_end::<NoneOf<b'*', b'/', b'*', b'/'>>(s, at),
+        depth: 0,
+    }
+}
+
+// From inside a comment, with so many more open: past the outermost's end.
 #[tactic(auto, using(crate::proofs::gap::Laws::block_turns))]
 fn close_block(s: &[u8], at: usize, inner: usize) -> Option<Cursor>
     requires some { 1 ≤ length s.now }
@@ -80,7 +98,7 @@ fn close_block(s: &[u8], at: usize, inner: usize) -> Option<Cursor>
     requires inner_in { inner ≤ at }
     ensures { result ≡ closedOf (length s.now) (close inner 0 (from s.now at)) }
 {
-    let mut i = chars::runs::skip_except_two(s, at, 0x2A, 0x2F);
+    let mut i = at;
     let mut depth = inner;
     let last = s.len() - 1;
     while i < last {
@@ -102,17 +120,14 @@ fn close_block(s: &[u8], at: usize, inner: usize) -> Option<Cursor>
 }
 
 impl Cursor {
-    /// Past the line comment that begins there, up to the line end or the end of script. What is above both line-end bytes is passed by eights.
+    /// Past the line comment that begins there, up to the line end or the end of script. What is above both line-end bytes goes first.
     #[tactic(auto, using(crate::proofs::gap::Laws::line_runs))]
     pub fn consume_line_comment(self, s: &[u8]) -> Cursor
         requires { (self.at ≤ length s.now) × (opensLine (from s.now self.at) ≡ true) }
         ensures { (result.at ≤ length s.now) × (from s.now result.at ≡ afterRun (λ t. not (endOfLine t)) (drop 2 (from s.now self.at))) }
     {
-        let mut i = chars::runs::skip_eights(s, self.at + 2, 0x0E, 0xFF);
-        while i < s.len() {
-            if line_ends_at(s, i) {
-                return Cursor { at: i };
-            }
+        let mut i = run_end::<InRange<0x0E, 0xFF>>(s, self.at + 2);
+        while i < s.len() && !line_ends_at(s, i) {
             i += 1;
         }
         Cursor { at: i }
@@ -125,7 +140,7 @@ impl Cursor {
         requires opens { opensBlock (from s.now self.at) ≡ true }
         ensures { result ≡ closedOf (length s.now) (close 0 0 (drop 2 (from s.now self.at))) }
     {
-        let nest = pass_openings(s, self.at + 2);
+        let nest = first_mark(s, self.at + 2);
         close_block(s, nest.at, nest.depth)
     }
 }
