@@ -11,11 +11,7 @@ use Rattle.std.specs.Prelude.{Err}
 use Rattle.chars.specs.paper.Text.{Text, from, place}
 use Rattle.token.specs.computed.Answer.{Found, scan}
 use Rattle.token.specs.paper.Kinds.{Token}
-use Rattle.token.specs.paper.Records.{mostBytes, headLength, lineLength, recordLength, recordOf}
-use Rattle.token.specs.code.Form.{Known, formOf, plainForm, byForm}
-use Rattle.token.specs.declared.kinds.Form.{Form}
-use Rattle.token.specs.declared.kinds.TokenKind.{TokenKind}
-use Rattle.token.proofs.form.Laws.{form-known, length-by}
+use Rattle.token.specs.paper.Records.{headLength, lineLength, recordLength, recordOf}
 use Rattle.token.specs.computed.Flags.{fresh}
 use Rattle.token.specs.code.ByteClass.{classAt}
 use Rattle.token.specs.code.Records.{storedIf, lineEndAt, trail, answerOf, State, trailFrom, measuredFrom, storedFrom, Reaches}
@@ -26,7 +22,7 @@ use Rattle.token.specs.declared.walk.Stand.{Stand}
 use Rattle.token.specs.declared.refusal.Refused.{Refused}
 use Rattle.token.proofs.lexer.Trails.{stores-stop}
 use Rattle.token.proofs.lexer.Turns.{Turn, turn-stop}
-use Rattle.token.proofs.records.Measures.{newline-length, record-most, measured-stop}
+use Rattle.token.proofs.records.Measures.{newline-length, measured-stop}
 use Rattle.token.proofs.records.Reach.{reach-start, reach-trans, reach-same, reach-turn}
 
 pub at-is : {y z : Stand} → y ≡ z → y.at ≡ z.at
