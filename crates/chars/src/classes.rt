@@ -100,7 +100,8 @@ pub fn is_op_byte(b: u8) -> bool
 }
 
 /// Whether the byte's bit is set in one of two masks, for the codes up to 0x3F and from 0x40 to 0x7F: two tests where a `match` takes a dozen.
-// The second clause: what is computed at a few codes is carried to a code that is one of them.
+// Two masks and not one of 128 bits, whose shift takes several instructions. `code_laws`: what is computed at a few codes is carried to a code that
+// is one of them.
 #[tactic(auto, using(crate::proofs::theorems::Promises::code_laws), unfolding(crate::specs::code::Classes::bitIn))]
 pub fn has_bit(b: u8, low: u64, high: u64) -> bool
     ensures value { result ≡ bitIn low high b }
@@ -122,8 +123,8 @@ pub fn is_printable_char(c: u32) -> bool
 }
 
 /// Whether c may start an identifier.
-// ASCII and the Russian letters are answered before a table is searched. The second clause: what the classes exclude of each other, and that the
-// tables ascend.
+// ASCII and the Russian letters are answered before a table is searched. `class_laws`: what the classes exclude of each other, and that the tables
+// ascend.
 #[tactic(auto, using(crate::proofs::classes::Laws::start_laws, crate::proofs::theorems::Promises::told))]
 pub fn is_id_start(c: u32) -> bool
     ensures value { result ≡ isIdStart c }
@@ -183,7 +184,7 @@ pub fn is_cyrillic_at(s: &[u8], at: usize) -> bool
 }
 
 /// Where the run of id characters from a place on ends.
-// ASCII and the Russian letters need no table.
+// ASCII and the Russian letters need no table. A step is one, two or a character's bytes: no iterator takes such steps.
 pub fn id_run_end(s: &[u8], at: usize) -> usize
     ensures { result ≡ place (length s.now) (afterRun idChar (from s.now at)) }
 {

@@ -15,7 +15,7 @@ pub struct Decoded {
     pub width: usize,
 }
 
-// Whether a byte from low to high stands at `at`.
+// Whether a byte from low to high stands at `at`. Here and below the two are numbers, as Table 3-7 has them: std's inclusive range is not `Copy`.
 fn byte_in(s: &[u8], at: usize, low: u8, high: u8) -> bool
     ensures { result ≡ fits (low to high ∷ []) (drop at s.now) }
 {
@@ -88,8 +88,8 @@ fn code_at(s: &[u8], at: usize, w: usize) -> u32
 }
 
 /// The character that stands at a byte offset. Past the end none does.
+// `decoding` says what follows of it, `encoding_laws` what is decoded from the bytes that are written for a code.
 #[tactic(auto, using(crate::proofs::utf8::Stands::decode_none, crate::proofs::utf8::Stands::decode_some))]
-// The second clause says what follows of it, the third what is decoded from the bytes that are written for a code.
 pub fn decode(s: &[u8], at: usize) -> Option<Decoded>
     ensures value { result ≡ decodeAt s.now at }
     ensures decoding { Decoding s.now at }
@@ -109,22 +109,21 @@ fn ascii_end(s: &[u8], at: usize) -> usize
     run_end::<InRange<0x00, 0x7F>>(s, at)
 }
 
-// Whether a character of three bytes stands at `at` that begins with E1 to EC.
+// Whether a character of three bytes stands at `at` that begins with E1 to EC. `&` looks at all three, without a branch.
 fn three_in(s: &[u8], at: usize) -> bool
     ensures { result ≡ fits (0xE1 to 0xEC ∷ 0x80 to 0xBF ∷ 0x80 to 0xBF ∷ []) (drop at s.now) }
 {
-    if s.len() < 3 {
-        return false;
-    }
-    if s.len() - 3 < at {
-        return false;
-    }
-    (0xE1 <= s[at])
-        & (s[at] <= 0xEC)
-        & ((0x80 <= s[at + 1]) & (s[at + 1] <= 0xBF) & ((0x80 <= s[at + 2]) & (s[at + 2] <= 0xBF)))
+    s.len() >= 3
+        && at <= s.len() - 3
+        && (0xE1 <= s[at])
+            & (s[at] <= 0xEC)
+            & ((0x80 <= s[at + 1])
+                & (s[at + 1] <= 0xBF)
+                & ((0x80 <= s[at + 2]) & (s[at + 2] <= 0xBF)))
 }
 
-// The place past the characters of three bytes that stand from `at` on and begin with E1 to EC, as most of Chinese and Japanese do.
+// The place past the characters of three bytes that stand from `at` on and begin with E1 to EC, as most of Chinese and Japanese do. No iterator
+// says where it stopped but by a count, so the place is kept by hand.
 fn skip_threes(s: &[u8], at: usize) -> usize
     ensures { result ≡ rowsOver (0xE1 to 0xEC ∷ 0x80 to 0xBF ∷ 0x80 to 0xBF ∷ []) s.now at }
 {
@@ -135,11 +134,13 @@ fn skip_threes(s: &[u8], at: usize) -> usize
     i
 }
 
-// The length of the longest prefix that is a sequence of well-formed characters. Runs of ASCII and of characters of three bytes are passed
-// in loops of their own, and characters of two bytes are tested before the others. The second clause: there is one such prefix, and a text
-// is well-formed where it is all of it.
+/// The length of the longest prefix that is a sequence of well-formed characters.
+// Runs of ASCII and of characters of three bytes are passed in loops of their own, and characters of two bytes are tested before the others.
+// A step is a run or a character: no iterator takes such steps. `valid_laws`: there is one such prefix, and a text is well-formed where it is
+// all of it.
 pub fn valid_prefix(s: &[u8]) -> usize
-    ensures value { (result ≡ validPrefix s.now) × LongestValid s.now result }
+    ensures value { result ≡ validPrefix s.now }
+    ensures longest { LongestValid s.now result }
     ensures valid_laws { ValidLaws }
 {
     let mut i = 0;

@@ -49,7 +49,7 @@ impl Class {
 fn hex_digit(n: u32) -> u8
     ensures { result ≡ glyph n }
 {
-    let d = (n % 16) as u8;
+    let d = (n & 0xF) as u8;
     if d < 10 { b'0' + d } else { b'A' - 10 + d }
 }
 
@@ -60,14 +60,14 @@ fn run_text(first: u32, last: u32) -> [u8; 11]
 {
     [
         b' ',
-        hex_digit(first / 4096),
-        hex_digit(first / 256),
-        hex_digit(first / 16),
+        hex_digit(first >> 12),
+        hex_digit(first >> 8),
+        hex_digit(first >> 4),
         hex_digit(first),
         b' ',
-        hex_digit(last / 4096),
-        hex_digit(last / 256),
-        hex_digit(last / 16),
+        hex_digit(last >> 12),
+        hex_digit(last >> 8),
+        hex_digit(last >> 4),
         hex_digit(last),
         b'\n',
     ]

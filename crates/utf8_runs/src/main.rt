@@ -21,18 +21,17 @@ fn bytes_of(n: usize, a: u8, k: u32) -> [u8; 4]
     ensures value { result ≡ bytesOf n a k }
     ensures size { 4 ≡ length result }
 {
-    let low = (k % 256) as u8;
-    if n <= 2 {
-        return [a, low, 0, 0];
+    let low = (k & 0xFF) as u8;
+    match n {
+        0..=2 => [a, low, 0, 0],
+        3 => [a, (k >> 8 & 0xFF) as u8, low, 0],
+        _ => {
+            let second = (k >> 4 & 0xFF) as u8;
+            let third = (k >> 2 & 3) as usize;
+            let fourth = (k & 3) as usize;
+            [a, second, EDGES[third], EDGES[fourth]]
+        }
     }
-    if n == 3 {
-        let middle = (k / 256 % 256) as u8;
-        return [a, middle, low, 0];
-    }
-    let second = (k / 16 % 256) as u8;
-    let third = (k / 4 % 4) as usize;
-    let fourth = (k % 4) as usize;
-    [a, second, EDGES[third], EDGES[fourth]]
 }
 
 // Counts an answer.
