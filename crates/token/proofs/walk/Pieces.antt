@@ -35,7 +35,7 @@ use Rattle.token.proofs.cursor.Blanks.{one-blank, two-blanks}
 use Rattle.token.proofs.cursor.Bytes.{inside}
 use Rattle.token.proofs.form.Laws.{form-record}
 use Rattle.token.proofs.form.Stores.{head-fields}
-use Rattle.token.proofs.gap.Scans.{GapTo, line-end-lf, line-end-crlf, line-end-found, block-end-found}
+use Rattle.token.proofs.gap.Scans.{GapTo, line-end-lf, line-end-crlf, line-end-found}
 use Rattle.token.proofs.gap.Laws.{opens-line, opens-block}
 use Rattle.token.proofs.names.Laws.{comment-bytes}
 use Rattle.chars.proofs.Bools.{and-both}
