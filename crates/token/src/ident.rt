@@ -17,6 +17,7 @@ use crate::string::lex_prefixed_string;
 use chars::runs::{OneOf, run_end};
 
 // Where the operator sign at a place ends; nothing, if none stands there. Past ASCII the one sign is U+21D2.
+#[inline(always)]
 fn sign_end(s: &[u8], at: usize) -> Option<usize>
     ensures { result ≡ signEnd s.now at }
 {
