@@ -1,5 +1,5 @@
 // Strings and backticks that are recognised from their bytes, as nearly all are. Each answers by the place where it ends; None says that it declines,
-// and `lexer::next_token` reads the token, or refuses it.
+// and `lexer::lex_token` reads the token, or refuses it.
 ghost use Rattle.std.specs.Prelude.{◌≡◌, true, ◌≤◌, ◌<◌, length};
 ghost use Rattle.chars.specs.paper.Quoted.{oneOf};
 ghost use Rattle.chars.specs.paper.Text.{from};

@@ -1,5 +1,5 @@
 // Characters and symbols that are recognised from their bytes, as nearly all are. Each answers by the place where it ends; None says that it declines,
-// and `lexer::next_token` reads the token, or refuses it.
+// and `lexer::lex_token` reads the token, or refuses it.
 ghost use Rattle.std.specs.Prelude.{◌≡◌, ◌+◌, ◌<◌, length, get_or};
 ghost use Rattle.token.specs.code.Symbol.{plainByte, endsChar, escapedCharEnd, operatorSymbolEnd, nameSymbolEnd, semiEnd, charSymEnd};
 

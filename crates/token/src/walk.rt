@@ -15,7 +15,7 @@ ghost use Rattle.token.specs.code.Walk.{beginning, movedTo, plainBehind, valuesB
 use crate::byte_class::Class;
 use crate::cursor::{Cursor, byte_at, skip_more};
 use crate::digits::Value;
-use crate::form::{put_head_if, put_if};
+use crate::form::{put_head_if, put_if, put_record};
 use crate::keyword::{run_number, word_number};
 use crate::kinds::{Form, TokenKind};
 use crate::lexer::lex_token;
@@ -183,14 +183,8 @@ fn line_step(out: &mut [u8], s: &[u8], x: Stand) -> Stand
     ensures on { Steps s.now x out.old result out.new }
     ensures further { result.at ≡ x.at + 1 }
 {
-    put_if(
-        out,
-        x.bytes,
-        Form::line(x.mark == x.bytes),
-        x.at,
-        x.at + 1,
-        false,
-    );
+    let form = Form::line(x.mark == x.bytes);
+    put_if(out, x.bytes, form, x.at, x.at + 1, false);
     behind_line(s, x, x.at + 1)
 }
 
@@ -210,14 +204,8 @@ fn return_step(out: &mut [u8], s: &[u8], x: Stand) -> Result<Stand, Refused>
             place: x.at,
         });
     }
-    put_if(
-        out,
-        x.bytes,
-        Form::line(x.mark == x.bytes),
-        x.at,
-        x.at + 2,
-        false,
-    );
+    let form = Form::line(x.mark == x.bytes);
+    put_if(out, x.bytes, form, x.at, x.at + 2, false);
     Ok(behind_line(s, x, x.at + 2))
 }
 
@@ -300,14 +288,8 @@ fn put_run_if(out: &mut [u8], s: &[u8], x: Stand, end: Here)
     ensures { out.new ≡ storedIf out.old x.bytes (byForm (plainForm (operatorNumber s.now x.at end)) x.at end.at x.cut) }
 {
     if x.bytes + HEAD <= out.len() {
-        put_if(
-            out,
-            x.bytes,
-            Form::plain(operator_number(s, x.at, end)),
-            x.at,
-            end.at,
-            x.cut,
-        );
+        let form = Form::plain(operator_number(s, x.at, end));
+        put_record(out, x.bytes, form, x.at, end.at, x.cut);
     }
 }
 
@@ -336,14 +318,8 @@ fn digit_step(out: &mut [u8], s: &[u8], x: Stand, end: Here) -> Stand
     ensures on { Steps s.now x out.old result out.new }
     ensures further { result.at ≡ x.at + 1 }
 {
-    put_if(
-        out,
-        x.bytes,
-        Form::int(digit_value(s, x.at)),
-        x.at,
-        end.at,
-        x.cut,
-    );
+    let form = Form::int(digit_value(s, x.at));
+    put_if(out, x.bytes, form, x.at, end.at, x.cut);
     behind_values(x, end, INT)
 }
 
@@ -361,14 +337,8 @@ fn int_step(out: &mut [u8], s: &[u8], x: Stand, number: NumberLit) -> Option<Sta
     if Value::INT_MOST < number.value {
         return None;
     }
-    put_if(
-        out,
-        x.bytes,
-        Form::int(number.value),
-        x.at,
-        number.end,
-        x.cut,
-    );
+    let form = Form::int(number.value);
+    put_if(out, x.bytes, form, x.at, number.end, x.cut);
     Some(behind_values(x, here_at(s, number.end), INT))
 }
 
@@ -386,14 +356,8 @@ fn long_step(out: &mut [u8], s: &[u8], x: Stand, number: NumberLit) -> Option<St
     if Value::LONG_MOST < number.value {
         return None;
     }
-    put_if(
-        out,
-        x.bytes,
-        Form::long(number.value),
-        x.at,
-        number.end,
-        x.cut,
-    );
+    let form = Form::long(number.value);
+    put_if(out, x.bytes, form, x.at, number.end, x.cut);
     Some(behind_values(x, here_at(s, number.end), LONG))
 }
 
@@ -427,14 +391,8 @@ fn char_sym_step(out: &mut [u8], s: &[u8], x: Stand) -> Option<Stand>
     ensures kept { IfNone result (out.new ≡ out.old) }
 {
     let end = char_sym_end(s, x.at)?;
-    put_if(
-        out,
-        x.bytes,
-        Form::plain(TokenKind::CHAR_SYM),
-        x.at,
-        end,
-        x.cut,
-    );
+    let form = Form::plain(TokenKind::CHAR_SYM);
+    put_if(out, x.bytes, form, x.at, end, x.cut);
     Some(behind(x, here_at(s, end)))
 }
 
@@ -460,14 +418,8 @@ fn put_word_if(out: &mut [u8], s: &[u8], x: Stand, end: usize)
     ensures { out.new ≡ storedIf out.old x.bytes (byForm (plainForm (nameNumber s.now x.class.number x.at end)) x.at end x.cut) }
 {
     if x.bytes + HEAD <= out.len() {
-        put_if(
-            out,
-            x.bytes,
-            Form::plain(name_number(s, x.class, x.at, end)),
-            x.at,
-            end,
-            x.cut,
-        );
+        let form = Form::plain(name_number(s, x.class, x.at, end));
+        put_record(out, x.bytes, form, x.at, end, x.cut);
     }
 }
 
@@ -509,14 +461,8 @@ fn string_step(out: &mut [u8], s: &[u8], x: Stand, mark: usize) -> Option<Stand>
     let prefixed = x.at < mark;
     let string = string_at(s, mark, prefixed)?;
     let off = content_off(prefixed, string.quotes);
-    put_if(
-        out,
-        x.bytes,
-        Form::span(x.at + off, string.end - off),
-        x.at,
-        string.end,
-        x.cut,
-    );
+    let form = Form::span(x.at + off, string.end - off);
+    put_if(out, x.bytes, form, x.at, string.end, x.cut);
     Some(behind_values(x, here_at(s, string.end), TEXT))
 }
 

@@ -34,6 +34,9 @@ use Rattle.token.proofs.cursor.Runs.{passed-to, twice}
 use Rattle.token.proofs.gap.Laws.{opens-line, opens-block}
 use Rattle.token.proofs.theorems.Idents.{ident-finds, start-rest, rest-suffix}
 use Rattle.token.specs.code.Refusal.{refusedBy}
+use Rattle.std.specs.Prelude.{Some, None}
+use Rattle.std.specs.Prelude as code
+use Rattle.std.proofs.lemmas.Option.{same_Some, none-some}
 open text-laws use {run-stays, run-done, run-place, suffix-trans, drop-suffix, at-char, at-ascii, at-end, next-on, place-from}
 
 -- ---- places
@@ -98,26 +101,29 @@ module _ (p : ℕ → Bool) (s : List ℕ) (i : ℕ) where
       go true e = ap (headIs p) (at-ascii s i (ltb-true i (length s) e) l)
       go false e = let h = ltb-false i (length s) e in ap (headIs p) (at-end s i h) ∙ sym (ap p (get_or-eq_default s 0 h) ∙ z)
 
-  pub past-on : (j : ℕ) → headIs p (from s i) ≡ true → j ≡ charEnd s i → j ≡ cond (headIs p (from s i)) (charEnd s i) i
-  past-on j e q = rw e q
+  abbrev pub endIf : Bool → code.Option ℕ
+  endIf b = cond b (Some (charEnd s i)) None
 
-  pub past-off : headIs p (from s i) ≡ false → i ≡ cond (headIs p (from s i)) (charEnd s i) i
+  pub past-on : (j : ℕ) → headIs p (from s i) ≡ true → j ≡ charEnd s i → Some j ≡ endIf (headIs p (from s i))
+  past-on j e q = rw e (ap Some q)
+
+  pub past-off : headIs p (from s i) ≡ false → None ≡ endIf (headIs p (from s i))
   past-off e = rw e
 
-  -- the code's test, whether that is the place itself
-  pub past-same : i ≡ cond (headIs p (from s i)) (charEnd s i) i → headIs p (from s i) ≡ false
-  past-same e = go (headIs p (from s i)) refl e
+  -- what the code's answer says
+  pub past-none : None ≡ endIf (headIs p (from s i)) → headIs p (from s i) ≡ false
+  past-none e = go (headIs p (from s i)) e
     where
-      go : (b : Bool) → headIs p (from s i) ≡ b → i ≡ cond b (charEnd s i) i → b ≡ false
-      go false h e = refl
-      go true h e = let n = next-on s i (head-inside p s i h) in absurd (omega arith)
+      go : (b : Bool) → None ≡ endIf b → b ≡ false
+      go false e = refl
+      go true e = absurd (none-some (charEnd s i) e)
 
-  pub past-other : (j : ℕ) → j ≡ cond (headIs p (from s i)) (charEnd s i) i → (j ≡ i → ⊥) → (i < length s) × (headIs p (from s i) ≡ true) × (charEnd s i ≡ j)
-  past-other j e n = go (headIs p (from s i)) refl e
+  pub past-some : (j : ℕ) → Some j ≡ endIf (headIs p (from s i)) → (i < length s) × (headIs p (from s i) ≡ true) × (charEnd s i ≡ j)
+  past-some j e = go (headIs p (from s i)) refl e
     where
-      go : (b : Bool) → headIs p (from s i) ≡ b → j ≡ cond b (charEnd s i) i → (i < length s) × (headIs p (from s i) ≡ true) × (charEnd s i ≡ j)
-      go true h e = (head-inside p s i h, h, sym e)
-      go false h e = absurd (n e)
+      go : (b : Bool) → headIs p (from s i) ≡ b → Some j ≡ endIf b → (i < length s) × (headIs p (from s i) ≡ true) × (charEnd s i ≡ j)
+      go true h e = (head-inside p s i h, h, sym (same_Some j (charEnd s i) e))
+      go false h e = absurd (none-some j (sym e))
 
 -- an ASCII byte tells whether an operator sign stands there
 pub sign-here : (s : List ℕ) (i b : ℕ) (r : Bool) → b ≡ get_or s i 0 → b < 0x80 → r ≡ ltb b 0x80 && isOpSign b → headIs isOpSign (from s i) ≡ r

@@ -1,10 +1,6 @@
 -- A character or symbol that is recognised; else it is left.
-use Rattle.token.proofs.walk.Laws.{plain-room, stored-as}
 use Rattle.token.proofs.walk.Words.{tick-inside, tick-here, symbol-on, step-symbol}
 use Rattle.token.proofs.walk.char_sym_step.Goals as goal
-
-pub put_if-requires : goal.put_if-requires
-put_if-requires c = plain-room c.requires.good c.requires.short _ c.plain.ensures
 
 pub char_sym_end-requires-clause-within : goal.char_sym_end-requires-clause-within
 char_sym_end-requires-clause-within c = tick-inside c.requires.good c.requires.tick
@@ -15,7 +11,7 @@ char_sym_end-requires-clause-tick c = tick-here c.requires.good c.requires.tick
 pub returns-clause-on : goal.returns-clause-on
 returns-clause-on c =
     rw (c.behind.ensures, c.here_at.ensures)
-    (step-symbol c.requires.good c.requires.tick _ c.in_ok-end.ensures _ _ (stored-as _ _ _ _ _ _ c.plain.ensures c.put_if.ensures))
+    (step-symbol c.requires.good c.requires.tick _ c.in_ok-end.ensures _ _ (rw c.plain-form.ensures.value at c.put_if.ensures))
 
 pub returns-clause-further : goal.returns-clause-further
 returns-clause-further c =

@@ -1,17 +1,12 @@
 -- A number that is not too large; else it is left.
-use Rattle.token.specs.declared.kinds.TokenKind.TheVariants as tk
-use Rattle.token.proofs.walk.Laws.{form-room, stored-as}
 use Rattle.token.proofs.walk.Words.{step-int, int-on}
 use Rattle.token.proofs.walk.int_step.Goals as goal
-
-pub put_if-requires : goal.put_if-requires
-put_if-requires c = form-room c.requires.good c.requires.short (tk.IntLit _) c.int.ensures
 
 pub returns-clause-on : goal.returns-clause-on
 returns-clause-on c =
     let p = c.requires in
     rw (c.behind_values.ensures, c.here_at.ensures)
-    (step-int p.good p.digit _ p.number_is p.int c.if-number-gt-INT_MOST.false _ _ (stored-as _ _ _ _ _ _ c.int.ensures c.put_if.ensures))
+    (step-int p.good p.digit _ p.number_is p.int c.if-number-gt-INT_MOST.false _ _ (rw c.int-form.ensures.value at c.put_if.ensures))
 
 pub returns-clause-further : goal.returns-clause-further
 returns-clause-further c =

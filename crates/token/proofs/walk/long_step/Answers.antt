@@ -1,17 +1,12 @@
 -- A number that is not too large; else it is left.
-use Rattle.token.specs.declared.kinds.TokenKind.TheVariants as tk
-use Rattle.token.proofs.walk.Laws.{form-room, stored-as}
 use Rattle.token.proofs.walk.Words.{step-long, long-on}
 use Rattle.token.proofs.walk.long_step.Goals as goal
-
-pub put_if-requires : goal.put_if-requires
-put_if-requires c = form-room c.requires.good c.requires.short (tk.LongLit _) c.long.ensures
 
 pub returns-clause-on : goal.returns-clause-on
 returns-clause-on c =
     let p = c.requires in
     rw (c.behind_values.ensures, c.here_at.ensures)
-    (step-long p.good p.digit _ p.number_is p.long c.if-number-gt-LONG_MOST.false _ _ (stored-as _ _ _ _ _ _ c.long.ensures c.put_if.ensures))
+    (step-long p.good p.digit _ p.number_is p.long c.if-number-gt-LONG_MOST.false _ _ (rw c.long-form.ensures.value at c.put_if.ensures))
 
 pub returns-clause-further : goal.returns-clause-further
 returns-clause-further c =

@@ -1,11 +1,7 @@
 -- By the class of the first byte, and by what stands behind it.
 use Rattle.std.proofs.Common.{sym, ◌∙◌, le-leb}
-use Rattle.token.proofs.walk.Laws.{plain-room, stored-as}
 use Rattle.token.proofs.walk.Prefixes.{no-opening, name-inside, name-left, name-opens, named-on, step-named}
 use Rattle.token.proofs.walk.name_step.Goals as goal
-
-pub put_if-requires : goal.put_if-requires
-put_if-requires c = plain-room c.requires.good c.requires.short _ c.plain.ensures
 
 pub prefix_end-requires-clause-within : goal.prefix_end-requires-clause-within
 prefix_end-requires-clause-within c = name-inside c.requires.good c.requires.begins
@@ -24,7 +20,7 @@ pub returns-clause-on : goal.returns-clause-on
 returns-clause-on c =
     rw c.behind.ensures
     (step-named c.requires.good c.requires.begins _ c.in_ok-end.ensures _ c.name_number-number.ensures
-    (no-opening _ _ c.eq.ensures c.else-eq.either) _ _ (stored-as _ _ _ _ _ _ c.plain.ensures c.put_if.ensures))
+    (no-opening _ _ c.eq.ensures c.else-eq.either) _ _ (rw c.plain.ensures.value at c.put_if.ensures))
 
 pub returns-clause-further : goal.returns-clause-further
 returns-clause-further c =

@@ -1,12 +1,7 @@
 -- A string that is recognised; else it is left.
 use Rattle.std.proofs.Common.{arith}
-use Rattle.token.specs.declared.kinds.TokenKind.TheVariants as tk
-use Rattle.token.proofs.walk.Laws.{form-room, stored-as}
 use Rattle.token.proofs.walk.Words.{open-within, open-off, string-on, step-string}
 use Rattle.token.proofs.walk.string_step.Goals as goal
-
-pub put_if-requires : goal.put_if-requires
-put_if-requires c = form-room c.requires.good c.requires.short (tk.Str _ _) c.span.ensures
 
 pub string_at-requires-clause-within : goal.string_at-requires-clause-within
 string_at-requires-clause-within c = (open-within c.requires.good c.requires.opened).0
@@ -25,7 +20,7 @@ overflow_sub-string c = (open-off c.requires.good c.requires.opened _ c.in_ok-st
 pub returns-clause-on : goal.returns-clause-on
 returns-clause-on c =
     rw (c.behind_values.ensures, c.here_at.ensures)
-    (step-string c.requires.good c.requires.opened _ c.in_ok-string.ensures _ c.content_off-off.ensures _ _ (stored-as _ _ _ _ _ _ c.span.ensures c.put_if.ensures))
+    (step-string c.requires.good c.requires.opened _ c.in_ok-string.ensures _ c.content_off-off.ensures _ _ (rw c.span-form.ensures.value at c.put_if.ensures))
 
 pub returns-clause-further : goal.returns-clause-further
 returns-clause-further c =
