@@ -11,6 +11,9 @@ use chars::classes::{is_id_char, is_id_start, is_op_char, is_printable_char};
 use std::alloc::AllocError;
 use std::io;
 
+// Room for all lines, which take less than 10,000 bytes.
+const ROOM_BYTES: usize = 16 * 1024;
+
 #[derive(Clone, Copy, Debug, PartialEq, Eq)]
 enum Class {
     IdStart,
@@ -113,7 +116,7 @@ fn put_class(text: &mut Vec<u8>, class: Class) -> Result<u32, AllocError>
 }
 
 fn main(rt: HostRuntime) -> io::Result<()> {
-    let mut text = Vec::new(rt.alloc());
+    let mut text = Vec::with_capacity(rt.alloc(), ROOM_BYTES)?;
     put_class(&mut text, Class::IdStart)?;
     put_class(&mut text, Class::IdChar)?;
     put_class(&mut text, Class::OpChar)?;

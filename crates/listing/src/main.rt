@@ -13,7 +13,7 @@ const SCRIPT_BYTES: u64 = listing_text::MOST_BYTES as u64 + 1;
 fn main(rt: HostRuntime) -> io::Result<()> {
     let mut script = Vec::new(rt.alloc());
     let n = rt.reader().take(SCRIPT_BYTES).read_to_end(&mut script)?;
-    let mut text = Vec::new(rt.alloc());
+    let mut text = Vec::with_capacity(rt.alloc(), listing_text::MOST_TEXT)?;
     listing_text::listing(&mut text, &script[..n])?;
     rt.write_all(&text)
 }

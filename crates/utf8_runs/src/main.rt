@@ -13,6 +13,9 @@ use puts::{put_number, put_spaced};
 use std::alloc::AllocError;
 use std::io;
 
+// Room for all lines, which take less than 21,000 bytes.
+const ROOM_BYTES: usize = 32 * 1024;
+
 const EDGES: [u8; 4] = [0x7F, 0x80, 0xBF, 0xC0];
 
 // The bytes of the sequence of number k that begins with a, of which the first n count.
@@ -110,7 +113,7 @@ fn put_rows(text: &mut Vec<u8>, n: usize, tails: u32) -> Result<(), AllocError>
 }
 
 fn main(rt: HostRuntime) -> io::Result<()> {
-    let mut text = Vec::new(rt.alloc());
+    let mut text = Vec::with_capacity(rt.alloc(), ROOM_BYTES)?;
     put_rows(&mut text, 1, 1)?;
     put_rows(&mut text, 2, 256)?;
     put_rows(&mut text, 3, 65536)?;
