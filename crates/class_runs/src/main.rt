@@ -1,6 +1,5 @@
-// The character classes of document 01 as runs: for each class the maximal runs of the characters up to U+FFFF that belong to it, one to a
-// line, then how many characters were walked. `rt ci` holds what it writes to `stdout`, which compare/class-runs made of
-// `token.rs` itself.
+// The character classes of RULES (docs/RULES.md), "Characters", as runs: for each class the maximal runs of the characters up to U+FFFF that belong to
+// it, one to a line, then how many characters were walked. `rt ci` holds what it writes to `stdout`, which compare/class-runs made of `token.rs` itself.
 #![tactic(auto)]
 
 ghost use Rattle.std.specs.Prelude.{◌≡◌, ◌-◌, ◌<◌, ◌≤◌, length, IfOk};

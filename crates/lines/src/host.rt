@@ -1,4 +1,4 @@
-// What hosts call: building the index, and asking for a place. Document 02, request 2.
+// What hosts call: building the index, and asking for a place. REQUESTS, "Building an index" and "Asking for a place".
 ghost use Rattle.std.specs.Prelude.{◌≡◌, ◌≤◌, length, OnOk};
 ghost use Rattle.token.specs.paper.Records.{mostBytes};
 ghost use Rattle.words.specs.Words.{told};

@@ -1,6 +1,6 @@
-// The listing program. Document 01, "Host entry and text": it takes up to 3,000 bytes on standard input (more prints `long`) and prints kind,
-// start, end, cut and values, or `refused N at P`. `rt ci` runs it on `stdin`, document 01's example, and holds what it prints to
-// `stdout`, the lines that document 01 gives.
+// The listing program. RULES (docs/RULES.md), "Listing": it takes up to 3,000 bytes on standard input (more prints `long`) and prints kind,
+// start, end, cut and values, or `refused N at P`. `rt ci` runs it on `stdin`, the example there, and holds what it prints to
+// `stdout`, the lines that stand there.
 #![tactic(auto)]
 
 use std::io;

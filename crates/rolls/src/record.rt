@@ -1,4 +1,4 @@
-// One record of a roll: its token and the cursor behind it, or a refusal. Document 02, request 1.
+// One record of a roll: its token and the cursor behind it, or a refusal. REQUESTS, "Reading a roll".
 ghost use Rattle.std.specs.Prelude.{◌≡◌, IfOk};
 ghost use Rattle.rolls.specs.computed.Roll.{badValues, isWrong, stepHeld, readAt, eofFollowed};
 ghost use Rattle.rolls.specs.code.Record.{lengthIf, kindIf, kindOf, stepOf};
