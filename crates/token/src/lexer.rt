@@ -57,7 +57,7 @@ fn lex_word(s: &[u8], c: Cursor) -> Piece
     })
 }
 
-// The same by the character that stands there. A Russian letter is recognised from its bytes; an operator sign needs no table.
+// The same by the character that stands there.
 #[tactic(auto, using(crate::proofs::lexer::Starts::wide_words))]
 fn lex_wide_word(s: &[u8], c: Cursor) -> Piece
     requires within { c.at < length s.now }
@@ -65,9 +65,6 @@ fn lex_wide_word(s: &[u8], c: Cursor) -> Piece
     requires no_comment { opensComment (from s.now c.at) ≡ false }
     ensures { result ≡ pieceOf (length s.now) (scan (length s.now) (from s.now c.at)) }
 {
-    if chars::classes::is_cyrillic_at(s, c.at) {
-        return crate::ident::lex_ident(s, c, Cursor { at: c.at + 2 });
-    }
     let here = c.peek(s);
     let Some((code, _)) = here else {
         return Err(Refused {
