@@ -11,7 +11,7 @@ ghost use Rattle.chars.specs.promises.Classes.{ClassLaws};
 use crate::masks::{BLOCKS, ID_CHARS, ID_STARTS};
 use crate::text::char_at;
 
-// The last code that the tables speak of.
+// The last code that the masks speak of.
 const LAST: u32 = 0xFFFF;
 
 // The one operator sign past ASCII, `⇒`.
@@ -82,8 +82,7 @@ pub fn is_printable_char(c: u32) -> bool
 }
 
 /// Whether c may start an identifier.
-// ASCII and the Russian letters are answered before a table is searched. The second clause: what the classes exclude of each other, and that the
-// tables ascend.
+// The second clause: what the classes exclude of each other, that the tables ascend, and that the masks say what they say.
 #[tactic(auto, using(crate::proofs::classes::Laws::start_laws, crate::proofs::theorems::Promises::told))]
 pub fn is_id_start(c: u32) -> bool
     ensures value { result ≡ isIdStart c }
@@ -93,7 +92,6 @@ pub fn is_id_start(c: u32) -> bool
 }
 
 /// Whether c may continue an identifier.
-// ASCII reaches no table.
 #[tactic(auto, using(crate::proofs::classes::Laws::id_laws))]
 pub fn is_id_char(c: u32) -> bool
     ensures { result ≡ isIdChar c }
@@ -118,7 +116,7 @@ fn is_id_byte(b: u8) -> bool
 }
 
 /// Where the run of id characters from a place on ends.
-// ASCII and the Russian letters need no table.
+// ASCII is told by its byte.
 pub fn id_run_end(s: &[u8], at: usize) -> usize
     ensures { result ≡ place (length s.now) (afterRun idChar (from s.now at)) }
 {

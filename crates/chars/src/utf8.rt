@@ -1,4 +1,4 @@
-// UTF-8 by the Unicode Standard, Table 3-7.
+// UTF-8 by the Unicode Standard, Table 3-7. One look at a character is compiled into whoever takes it: so a loop over characters keeps it in registers.
 ghost use Rattle.std.specs.Prelude.{◌≡◌, [], ◌∷◌, ◌+◌, ◌<◌, ◌≤◌, ◌%◌, drop, get_or, length};
 ghost use Rattle.chars.specs.paper.Ranges.{◌to◌};
 ghost use Rattle.chars.specs.paper.Utf8.{fits, codeOf, LongestValid};
@@ -40,7 +40,7 @@ fn triple_in(s: &[u8], at: usize, low: u8, high: u8) -> bool
     pair_in(s, at, low, high, 0x80, 0xBF) && byte_in(s, at + 2, 0x80, 0xBF)
 }
 
-// How many bytes the well-formed character has that stands at `at`. The arms are the table's rows.
+// How many bytes the well-formed character has that stands at `at`. The arms are the table's rows; those of one byte and two are told first.
 #[inline(always)]
 fn width_at(s: &[u8], at: usize) -> Option<usize>
     ensures { result ≡ widthAt s.now at }
