@@ -49,7 +49,7 @@ fn lex_word(s: &[u8], c: Cursor) -> Piece
         return lex_wide_word(s, c);
     }
     if chars::classes::is_op_byte(b) {
-        return crate::ident::lex_op_run(s, c);
+        return crate::ident::lex_op_run(s, c, c);
     }
     Err(Refused {
         what: Refusal::NoPiece,
@@ -73,7 +73,7 @@ fn lex_wide_word(s: &[u8], c: Cursor) -> Piece
         });
     };
     if chars::classes::is_op_char(code) {
-        return crate::ident::lex_op_run(s, c);
+        return crate::ident::lex_op_run(s, c, c);
     }
     if chars::classes::is_id_start(code) {
         return crate::ident::lex_ident(s, c, c.step(s));

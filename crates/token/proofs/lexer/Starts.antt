@@ -6,7 +6,7 @@ use Rattle.chars.specs.paper.Text.{Char, Text, from, headIs}
 use Rattle.chars.specs.code.Text.{charEnd, codeAt}
 use Rattle.chars.proofs.theorems.Promises.{code_laws, text-laws}
 use Rattle.token.specs.paper.Tests.{isAny, begins, quote, isDigit, opensComment}
-use Rattle.token.specs.computed.Answer.{Found, Start, scan, signOf, scanIdent, scanOperator, scanBacktick, scanString, scanCharSym, scanNumber}
+use Rattle.token.specs.computed.Answer.{Found, Start, scan, signOf, afterIdent, scanIdent, scanOperator, scanBacktick, scanString, scanCharSym, scanNumber}
 use Rattle.token.specs.code.Cursor.{cursorAt, peekedOf, peekAt, peekedTo}
 use Rattle.token.specs.code.Lexer.{wordless}
 use Rattle.token.specs.code.Piece.{pieceOf, tokenTo}
@@ -98,8 +98,8 @@ module _ (s : List ℕ) (i : ℕ) (h : i < length s) (e : ltb (get_or s i 0) 0x8
   pub start-byte : headIs isIdStart (from s i) ≡ true
   start-byte = (ascii-start s i h e).0
 
-  pub next-byte : from s (i + 1) ≡ drop 1 (from s i)
-  next-byte = (ascii-start s i h e).2
+  pub next-byte : afterIdent false (from s (i + 1)) ≡ afterIdent false (drop 1 (from s i))
+  next-byte = ap (afterIdent false) (ascii-start s i h e).2
 
 pub ruleset words = (stuck-piece, scan-byte, start-byte, next-byte)
 
