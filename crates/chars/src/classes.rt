@@ -4,12 +4,13 @@ ghost use Rattle.chars.specs.code.Masks.{inMasks};
 ghost use Rattle.chars.specs.paper.Classes.{isIdStart, isIdChar, isOpSign, isPrintable};
 ghost use Rattle.chars.specs.paper.Text.{from, place, idChar};
 ghost use Rattle.chars.specs.computed.Runs.{afterRun};
-ghost use Rattle.chars.specs.code.Classes.{bitIn};
+ghost use Rattle.chars.specs.code.Classes.{bitIn, arrowAt};
 ghost use Rattle.chars.specs.promises.Codes.{CodeLaws};
 ghost use Rattle.chars.specs.promises.Classes.{ClassLaws};
 
 use crate::masks::{BLOCKS, ID_CHARS, ID_STARTS};
 use crate::text::char_at;
+use crate::utf8::{byte_in, pair_in};
 
 // The last code that the masks speak of.
 const LAST: u32 = 0xFFFF;
@@ -30,6 +31,14 @@ pub fn is_op_char(c: u32) -> bool
     ensures { result ≡ isOpSign c }
 {
     c == DOUBLE_ARROW || c < 0x80 && is_op_byte(c as u8)
+}
+
+/// Whether `⇒`, the one operator sign past ASCII, stands at a place.
+#[tactic(auto, unfolding(crate::specs::code::Classes::arrowAt))]
+pub fn is_arrow_at(s: &[u8], at: usize) -> bool
+    ensures { result ≡ arrowAt s.now at }
+{
+    pair_in(s, at, 0xE2, 0xE2, 0x87, 0x87) && byte_in(s, at + 2, 0x92, 0x92)
 }
 
 /// Whether the byte is an ASCII operator sign.

@@ -17,7 +17,7 @@ pub struct Decoded {
 
 // Whether a byte from low to high stands at `at`.
 #[inline(always)]
-fn byte_in(s: &[u8], at: usize, low: u8, high: u8) -> bool
+pub fn byte_in(s: &[u8], at: usize, low: u8, high: u8) -> bool
     ensures { result ≡ fits (low to high ∷ []) (drop at s.now) }
 {
     at < s.len() && low <= s[at] && s[at] <= high

@@ -8,31 +8,28 @@ ghost use Rattle.token.specs.computed.Answer.{afterIdent, orPrefixed, scanIdent,
 ghost use Rattle.token.specs.code.Ident.{signEnd};
 ghost use Rattle.token.specs.code.Piece.{pieceOf};
 
+use crate::byte_class::Class;
 use crate::cursor::{Cursor, byte_at, two_at};
 use crate::keyword::{run_number, word_number};
 use crate::kinds::{TokenKind, keyword_of};
 use crate::piece::Piece;
 use crate::refusal::{Refusal, Refused};
 use crate::string::lex_prefixed_string;
+use chars::classes::{id_run_end, is_arrow_at};
 
 // Where the operator sign ends that stands at a place, if one does. Past ASCII the one sign is U+21D2.
 fn sign_end(s: &[u8], at: usize) -> Option<usize>
     requires { at ≤ length s.now }
     ensures { result ≡ signEnd s.now at }
 {
-    let b = byte_at(s, at);
-    if 0x80 <= b {
-        return wide_sign_end(s, at);
+    let class = Class::at(s, at);
+    if class.is_op() {
+        return Some(at + 1);
     }
-    chars::classes::is_op_byte(b).then_some(at + 1)
-}
-
-// The same by the character that stands there.
-fn wide_sign_end(s: &[u8], at: usize) -> Option<usize>
-    ensures { result ≡ signEnd s.now at }
-{
-    let here = chars::text::char_at(s, at)?;
-    chars::classes::is_op_char(here.code).then_some(at + here.width)
+    if class == Class::WIDE && is_arrow_at(s, at) {
+        return Some(at + 3);
+    }
+    None
 }
 
 // Past the operator signs that stand there; `//` stops none.
@@ -54,7 +51,7 @@ pub fn skip_id_rest(s: &[u8], c: Cursor) -> Cursor
     ensures within { result.at ≤ length s.now }
     ensures rest { from s.now result.at ≡ afterIdent false (from s.now c.at) }
 {
-    let end = chars::classes::id_run_end(s, c.at);
+    let end = id_run_end(s, c.at);
     if byte_at(s, end) == b'_' {
         return consume_id_rest(s, Cursor { at: end });
     }
@@ -74,7 +71,7 @@ fn consume_id_rest(s: &[u8], c: Cursor) -> Cursor
             if byte_at(s, i) == 0x5F {
                 i = chars::runs::skip_eights(s, i + 1, 0x5F, 0x5F);
             } else {
-                let end = chars::classes::id_run_end(s, i);
+                let end = id_run_end(s, i);
                 if end == i {
                     break 'chunks;
                 }

@@ -28,6 +28,7 @@ use Rattle.chars.proofs.text.Texts as texts
 use Rattle.chars.proofs.Carry as carries
 use Rattle.chars.proofs.classes.Laws as classes
 use Rattle.chars.proofs.classes.Masks as masks
+use Rattle.chars.proofs.classes.Arrow as arrows
 use Rattle.chars.proofs.classes.IdRuns as runs
 use Rattle.chars.proofs.runs.Eights as eights
 use Rattle.chars.proofs.classes.Ranges as ranges
@@ -161,6 +162,8 @@ class-laws = record {
   tables-are = refl;
   id-masks = masks.id-masks;
   start-masks = masks.start-masks;
+  arrow-here = arrows.arrow-here;
+  arrow-sign = arrows.arrow-sign;
   ascii-id = runs.ascii-id;
   ascii-whole = runs.ascii-whole;
 }

@@ -1,5 +1,7 @@
 -- What the shortcuts of `classes` test: sets of ASCII characters as masks, runs of id characters.
-use Rattle.std.specs.Prelude.{ℕ, ◌-◌, ◌/◌, ◌%◌, ◌^◌, Bool, cond, ◌&&◌, eqb, ltb}
+use Rattle.std.specs.Prelude.{ℕ, ◌-◌, ◌/◌, ◌%◌, ◌^◌, Bool, cond, ◌&&◌, List, [], ◌∷◌, drop, eqb, ltb}
+use Rattle.chars.specs.paper.Ranges.{Range, ◌to◌}
+use Rattle.chars.specs.paper.Utf8.{fits}
 use Rattle.chars.specs.paper.Classes.{isIdChar}
 use Rattle.chars.specs.paper.Text.{Text, headIs}
 
@@ -13,3 +15,10 @@ isAsciiId c = ltb c 0x80 && isIdChar c
 
 abbrev pub asciiIdChar : Text → Bool
 asciiIdChar t = headIs isAsciiId t
+
+-- do the three bytes of `⇒` stand at the place i?
+abbrev pub arrow : List Range
+arrow = 0xE2 to 0xE2 ∷ 0x87 to 0x87 ∷ 0x92 to 0x92 ∷ []
+
+unfoldable pub arrowAt : List ℕ → ℕ → Bool
+arrowAt s i = fits arrow (drop i s)

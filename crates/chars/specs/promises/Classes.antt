@@ -1,5 +1,5 @@
 -- Character classes: the order of the tables, what excludes what, ASCII by its byte, runs of id characters.
-use Rattle.std.specs.Prelude.{ℕ, ◌≤◌, ◌<◌, ◌≡◌, Bool, true, false, ◌&&◌, ◌||◌, length, get_or, ltb}
+use Rattle.std.specs.Prelude.{ℕ, ◌+◌, ◌≤◌, ◌<◌, ◌≡◌, Bool, true, false, ◌&&◌, ◌||◌, length, get_or, ltb}
 use mathlib.Core.List.{List, [], ◌∷◌, Memᴰ}
 use Rattle.chars.specs.paper.Quoted.{between, oneOf}
 use Rattle.chars.specs.paper.Ranges.{Range, Ascending}
@@ -7,7 +7,8 @@ use Rattle.chars.specs.paper.Tables.{alphabeticTable, lowercaseTable, uppercaseT
 use Rattle.chars.specs.paper.Classes.{isIdStart, isIdChar, opSigns, isOpSign, isPrintable}
 use Rattle.chars.specs.paper.Text.{from, place, idChar}
 use Rattle.chars.specs.computed.Runs.{afterRun}
-use Rattle.chars.specs.code.Classes.{asciiIdChar, isAsciiId}
+use Rattle.chars.specs.code.Classes.{asciiIdChar, isAsciiId, arrowAt}
+use Rattle.chars.specs.code.Text.{codeAt, charEnd}
 use Rattle.chars.specs.code.Tables.{pairs}
 use Rattle.chars.specs.code.Masks.{inMasks}
 use Rattle.chars.specs.declared.tables.TheConstants.{ALPHABETIC, LOWERCASE, UPPERCASE, ND, ALPHA_NOT_LETTER}
@@ -50,6 +51,9 @@ pub record ClassLaws : Type 0 where
   pub tables-are : pairs ALPHABETIC ∷ pairs LOWERCASE ∷ pairs UPPERCASE ∷ pairs ND ∷ pairs ALPHA_NOT_LETTER ∷ [] ≡ tables
   pub id-masks : (c : ℕ) → c ≤ 0xFFFF → inMasks ID_CHARS BLOCKS c ≡ isIdChar c
   pub start-masks : (c : ℕ) → c ≤ 0xFFFF → inMasks ID_STARTS BLOCKS c ≡ isIdStart c
+  -- `⇒` by its three bytes: where a byte past ASCII stands there is no other operator sign
+  pub arrow-here : (s : List ℕ) (i : ℕ) → arrowAt s i ≡ true → (i + 3 ≤ length s) × (codeAt s i ≡ 0x21D2) × (charEnd s i ≡ i + 3)
+  pub arrow-sign : (s : List ℕ) (i : ℕ) → 0x80 ≤ get_or s i 0 → get_or s i 0 < 0x100 → isOpSign (codeAt s i) ≡ arrowAt s i
   -- an id character of ASCII is seen by its byte
   pub ascii-id : AsciiClass isAsciiId
   -- where a run of ASCII id characters ends at r, and the byte there is ASCII, the run of all id characters ends at r too; past the script the byte

@@ -7,17 +7,18 @@ use mathlib.Core.Option.{Option, some}
 use lib.ListN.{length, drop, get_or, get_or-eq_default}
 use lib.Dec.{eqb, ltb}
 use native.Mathlib.Omega.{arith}
-use borrow.Author.Tests.{ltb-true, ltb-false, eqb-true, ne_eqb}
+use borrow.Author.Tests.{ltb-true, ltb-false, eqb-true, ne_eqb, le-leb}
 use Rattle.chars.specs.paper.Quoted.{oneOf}
 use Rattle.chars.specs.paper.Text.{Char, Text, from, place, headIs, idChar}
 use Rattle.chars.specs.code.Text.{charEnd}
 use Rattle.chars.specs.computed.Runs.{afterRun}
 use Rattle.chars.specs.code.Runs.{AllIn, Within}
 use Rattle.chars.specs.paper.Classes.{isIdStart, isIdChar, isOpSign}
-use Rattle.chars.proofs.Bools.{clash}
+use Rattle.chars.proofs.Bools.{clash, and-both}
 use Rattle.chars.specs.promises.Texts.{Suffix}
-use Rattle.chars.proofs.theorems.Promises.{text-laws}
-use Rattle.token.proofs.Classes.{under-no-id, nul-no-sign, sign-byte}
+use Rattle.chars.specs.code.Classes.{arrowAt}
+use Rattle.chars.proofs.theorems.Promises.{text-laws, class-laws}
+use Rattle.token.proofs.Classes.{under-no-id, nul-no-sign}
 use Rattle.token.proofs.cursor.Wide.{byte-by-byte}
 use Rattle.token.specs.paper.Tests.{isAny, begins, quote, opSign, freeSign, opensComment, notBacktick}
 use Rattle.token.specs.paper.Kinds.{wordOf, runOf}
@@ -35,9 +36,11 @@ use Rattle.token.proofs.gap.Laws.{opens-line, opens-block}
 use Rattle.token.proofs.theorems.Idents.{ident-finds, start-rest, rest-suffix}
 use Rattle.token.specs.code.Refusal.{refusedBy}
 use Rattle.std.specs.Prelude.{Some, None}
-use Rattle.std.specs.Bool.{then_some}
+use Rattle.token.specs.code.ByteClass.{classAt, wideClass, isSign}
+use Rattle.token.proofs.byte_class.Laws.{class-sign, class-wide}
 use Rattle.token.specs.code.Ident.{signEnd}
-open text-laws use {run-stays, run-done, run-place, suffix-trans, drop-suffix, at-char, at-ascii, at-end, next-on, place-from}
+open class-laws use {arrow-here, arrow-sign}
+open text-laws use {ascii-next, run-stays, run-done, run-place, suffix-trans, drop-suffix, at-char, at-ascii, at-end, next-on, place-from}
 
 -- ---- places
 
@@ -103,12 +106,44 @@ module _ (p : ℕ → Bool) (s : List ℕ) (i : ℕ) where
 
 -- ---- an operator sign
 
+double-sign : isOpSign 0x21D2 ≡ true
+unfolding isOpSign
+double-sign = refl
+
 module _ (s : List ℕ) (i : ℕ) where
-  -- where a test tells whether one stands there, and where it ends
-  pub sign-if : (b : Bool) (j : ℕ) → headIs isOpSign (from s i) ≡ b → (b ≡ true → j ≡ charEnd s i) → then_some b j ≡ signEnd s i
+  sign-at : headIs isOpSign (from s i) ≡ true → (j : ℕ) → charEnd s i ≡ j → Some j ≡ signEnd s i
   unfolding signEnd
-  sign-if true j e q = ap Some (q refl) ∙ sym (ap (λ b. cond b (Some (charEnd s i)) None) e)
-  sign-if false j e q = sym (ap (λ b. cond b (Some (charEnd s i)) None) e)
+  sign-at e j q = ap Some (sym q) ∙ sym (ap (λ b. cond b (Some (charEnd s i)) None) e)
+
+  -- an ASCII sign by its class, the double arrow by its bytes, and none
+  pub sign-byte-end : isSign (classAt s i) ≡ true → Some (i + 1) ≡ signEnd s i
+  sign-byte-end e =
+      let b = and-both (ltb (get_or s i 0) 0x80) (isOpSign (get_or s i 0)) (sym (class-sign (get_or s i 0)) ∙ e) in
+      let l = ltb-true (get_or s i 0) 0x80 b.0 in
+      let h = head-low isOpSign s i nul-no-sign l ∙ b.1 in
+      sign-at h (i + 1) (ascii-next s i (head-inside isOpSign s i h) l)
+
+  pub arrow-end : arrowAt s i ≡ true → Some (i + 3) ≡ signEnd s i
+  arrow-end e =
+      let a = arrow-here s i e in
+      let h : i < length s = let l = a.0 in omega arith in
+      sign-at (ap (headIs isOpSign) (at-char s i h) ∙ ap isOpSign a.1 ∙ double-sign) (i + 3) a.2
+
+  pub no-sign-end : isSign (classAt s i) ≡ false → eqb (classAt s i) wideClass && arrowAt s i ≡ false → get_or s i 0 < 0x100 → None ≡ signEnd s i
+  unfolding signEnd
+  no-sign-end e f l = sym (ap (λ b. cond b (Some (charEnd s i)) None) (go (ltb (get_or s i 0) 0x80) refl))
+    where
+      go : (b : Bool) → ltb (get_or s i 0) 0x80 ≡ b → headIs isOpSign (from s i) ≡ false
+      go true q =
+          let m = ltb-true (get_or s i 0) 0x80 q in
+          let z : isOpSign (get_or s i 0) ≡ false = sym (ap (λ b. b && isOpSign (get_or s i 0)) q) ∙ sym (class-sign (get_or s i 0)) ∙ e in
+          head-low isOpSign s i nul-no-sign m ∙ z
+      go false q =
+          let m = ltb-false (get_or s i 0) 0x80 q in
+          let h : i < length s = inside s i (omega arith) in
+          let w : eqb (classAt s i) wideClass ≡ true = class-wide (get_or s i 0) ∙ le-leb 0x80 (get_or s i 0) m in
+          let z : arrowAt s i ≡ false = sym (ap (λ b. b && arrowAt s i) w) ∙ f in
+          ap (headIs isOpSign) (at-char s i h) ∙ arrow-sign s i m l ∙ z
 
   pub sign-none : None ≡ signEnd s i → headIs isOpSign (from s i) ≡ false
   unfolding signEnd
@@ -126,10 +161,6 @@ module _ (s : List ℕ) (i : ℕ) where
           → (i < length s) × (headIs isOpSign (from s i) ≡ true) × (charEnd s i ≡ j)
       go true h e = (head-inside isOpSign s i h, h, cc)
       go false h e = cc
-
--- an ASCII byte tells whether an operator sign stands there
-pub sign-here : (s : List ℕ) (i b : ℕ) (r : Bool) → b ≡ get_or s i 0 → b < 0x80 → r ≡ ltb b 0x80 && isOpSign b → headIs isOpSign (from s i) ≡ r
-sign-here s i b r e l q = head-low isOpSign s i nul-no-sign (omega arith) ∙ ap isOpSign (sym e) ∙ sign-byte b l ∙ sym q
 
 -- two bytes tell whether a comment opens there
 pub comment_bytes : (s : List ℕ) (i : ℕ)
