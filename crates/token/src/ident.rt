@@ -6,6 +6,7 @@ ghost use Rattle.chars.specs.computed.Runs.{afterRun};
 ghost use Rattle.token.specs.paper.Tests.{isAny, opSign, freeSign, opensComment};
 ghost use Rattle.token.specs.computed.Answer.{afterIdent, orPrefixed, scanIdent, scanOperator, scanBacktick};
 ghost use Rattle.token.specs.code.Ident.{signEnd};
+ghost use Rattle.token.specs.code.Names.{lowBefore};
 ghost use Rattle.token.specs.code.Piece.{pieceOf};
 
 use crate::byte_class::Class;
@@ -45,7 +46,7 @@ fn consume_signs(s: &[u8], c: Cursor) -> Cursor
     Cursor { at: i }
 }
 
-/// Past an identifier's rest. Most have no underscore: then one run of id characters is all of it, and no chunks are counted.
+/// Past an identifier's rest. Most have no underscore: then one run of id characters is all of it.
 pub fn skip_id_rest(s: &[u8], c: Cursor) -> Cursor
     requires { c.at ≤ length s.now }
     ensures within { result.at ≤ length s.now }
@@ -53,37 +54,40 @@ pub fn skip_id_rest(s: &[u8], c: Cursor) -> Cursor
 {
     let end = id_run_end(s, c.at);
     if byte_at(s, end) == b'_' {
-        return consume_id_rest(s, Cursor { at: end });
+        return consume_id_rest(s, Cursor { at: end }, false);
     }
     Cursor { at: end }
 }
 
-// The same by chunks, each of zero or more underscores and one or more id characters, then signs where underscores are left.
-fn consume_id_rest(s: &[u8], c: Cursor) -> Cursor
+// The same by chunks, each of zero or more underscores and one or more id characters, then signs where underscores are left. `low`: an underscore
+// came last before c.
+fn consume_id_rest(s: &[u8], c: Cursor, low: bool) -> Cursor
     requires { c.at ≤ length s.now }
-    ensures { (result.at ≤ length s.now) × (from s.now result.at ≡ afterIdent false (from s.now c.at)) }
+    ensures within { result.at ≤ length s.now }
+    ensures rest { from s.now result.at ≡ afterIdent low (from s.now c.at) }
 {
     let mut i = c.at;
-    let mut chunk = i;
+    let mut left = low;
     'chunks: loop {
-        chunk = i;
         loop {
-            if byte_at(s, i) == 0x5F {
-                i = chars::runs::skip_eights(s, i + 1, 0x5F, 0x5F);
+            if byte_at(s, i) == b'_' {
+                i += 1;
+                left = true;
             } else {
                 let end = id_run_end(s, i);
                 if end == i {
                     break 'chunks;
                 }
                 i = end;
+                left = false;
                 break;
             }
         }
     }
-    if chunk == i {
-        return Cursor { at: i };
+    if left {
+        return consume_signs(s, Cursor { at: i });
     }
-    consume_signs(s, Cursor { at: i })
+    Cursor { at: i }
 }
 
 /// Past the operator run that stands there; a comment's opening ends it.
@@ -123,20 +127,31 @@ fn or_prefixed(s: &[u8], kind: TokenKind, start: usize, c: Cursor) -> Piece
     Ok((kind, c))
 }
 
-/// An identifier, a keyword, or the string that an identifier prefixes. It was read up to `rest`, which is behind its first character or further on.
+/// An identifier, a keyword, or the string that an identifier prefixes. It was read up to `rest`, which is behind its first character or, past id
+/// characters and underscores, further on.
 pub fn lex_ident(s: &[u8], c: Cursor, rest: Cursor) -> Piece
     requires within { c.at ≤ length s.now }
     requires starts { headIs isIdStart (from s.now c.at) ≡ true }
     requires rest_within { rest.at ≤ length s.now }
-    requires rest_same { afterIdent false (from s.now rest.at) ≡ afterIdent false (drop 1 (from s.now c.at)) }
+    requires rest_same { afterIdent (lowBefore s.now c.at rest.at) (from s.now rest.at)
+        ≡ afterIdent false (drop 1 (from s.now c.at)) }
     ensures { result ≡ pieceOf (length s.now) (scanIdent (length s.now) (from s.now c.at)) }
 {
-    let end = skip_id_rest(s, rest);
+    let low = is_low(s, c.at, rest.at);
+    let end = consume_id_rest(s, rest, low);
     let word = keyword_of(word_number(s, c.at, end.at));
     match word {
         Some(k) => Ok((TokenKind::Kw(k), end)),
         None => or_prefixed(s, TokenKind::Ident, c.at, end),
     }
+}
+
+// Does an underscore stand last before `end`, and not first?
+fn is_low(s: &[u8], start: usize, end: usize) -> bool
+    requires { end ≤ length s.now }
+    ensures { result ≡ lowBefore s.now start end }
+{
+    end > 0 && s[end - 1] == b'_' && start < end - 1
 }
 
 /// An operator, which was read up to `rest`; a keyword's run is an operator where a comment follows directly.

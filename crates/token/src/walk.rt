@@ -15,7 +15,7 @@ use crate::byte_class::Class;
 use crate::cursor::{Cursor, byte_at, skip_more};
 use crate::digits::Value;
 use crate::form::{put_head_if, put_int_if, put_line_if, put_long_if, put_plain_if, put_str_if};
-use crate::gap::{block_end, line_end_at};
+use crate::gap::line_end_at;
 use crate::keyword::{run_number, word_number};
 use crate::kinds::TokenKind;
 use crate::literal::{NumberLit, digit_value, literal_at};
@@ -189,18 +189,12 @@ fn block_step(out: &mut [u8], s: &[u8], x: Walked) -> Option<Walked>
     ensures further { IfSome result (λ y. x.at < y.at) }
     ensures kept { IfNone result (out.new ≡ out.old) }
 {
-    let end = block_end(s, x.at);
-    if end == x.at {
-        return None;
-    }
+    let end = Cursor { at: x.at }.consume_block_comment(s)?;
     if x.line != x.bytes {
-        return Some(behind_comment(s, x, end));
+        return Some(behind_comment(s, x, end.at));
     }
-    let c = Cursor { at: end }.skip_blanks(s);
-    let next = line_end_at(s, c.at);
-    if next == c.at {
-        return None;
-    }
+    let c = end.skip_blanks(s);
+    let next = line_end_at(s, c.at)?;
     put_line_if(out, x.bytes, c.at, next, true);
     Some(behind_line(s, x, next))
 }

@@ -16,7 +16,6 @@ use Rattle.chars.specs.promises.Codes.{CodeLaws}
 use Rattle.chars.specs.promises.Utf8.{Decoding, ValidLaws}
 use Rattle.chars.specs.promises.Texts.{TextLaws}
 use Rattle.chars.specs.promises.Classes.{tables, ClassLaws}
-use Rattle.chars.specs.promises.Runs.{RunLaws}
 use Rattle.std.specs.Prelude.{None}
 use Rattle.chars.proofs.utf8.Rows.{here, inside, row-00, none-low, none-high}
 use Rattle.chars.proofs.utf8.Codes.{code-one}
@@ -30,7 +29,6 @@ use Rattle.chars.proofs.classes.Laws as classes
 use Rattle.chars.proofs.classes.Masks as masks
 use Rattle.chars.proofs.classes.Arrow as arrows
 use Rattle.chars.proofs.classes.IdRuns as runs
-use Rattle.chars.proofs.runs.Eights as eights
 use Rattle.chars.proofs.classes.Ranges as ranges
 
 abbrev allAscend : List (List Range) → Bool
@@ -166,11 +164,6 @@ class-laws = record {
   arrow-sign = arrows.arrow-sign;
   ascii-id = runs.ascii-id;
   ascii-whole = runs.ascii-whole;
-}
-
-pub run-laws : RunLaws
-run-laws = record {
-  eight-all = eights.eight-all;
 }
 
 -- for contracts of which one is a clause

@@ -1,7 +1,7 @@
 -- How identifiers, operators and backticks are read place by place.
 use Prim.Native.Nat.{ℕ, zero, suc, ◌+◌, ◌-◌, ◌≤◌, ◌<◌}
 use mathlib.Core.Path.{◌≡◌, refl, sym, ◌∙◌, ap, ap₂}
-use mathlib.Core.Bool.{Bool, true, false, cond, ◌&&◌, ◌||◌, or-false}
+use mathlib.Core.Bool.{Bool, true, false, cond, ◌&&◌, ◌||◌, or-false, and-false}
 use mathlib.Core.List.{List, [], ◌∷◌}
 use mathlib.Core.Option.{Option, some}
 use lib.ListN.{length, drop, get_or, get_or-eq_default}
@@ -12,7 +12,6 @@ use Rattle.chars.specs.paper.Quoted.{oneOf}
 use Rattle.chars.specs.paper.Text.{Char, Text, from, place, headIs, idChar}
 use Rattle.chars.specs.code.Text.{charEnd}
 use Rattle.chars.specs.computed.Runs.{afterRun}
-use Rattle.chars.specs.code.Runs.{AllIn, Within}
 use Rattle.chars.specs.paper.Classes.{isIdStart, isIdChar, isOpSign}
 use Rattle.chars.proofs.Bools.{clash, and-both}
 use Rattle.chars.specs.promises.Texts.{Suffix}
@@ -31,7 +30,6 @@ use Rattle.token.specs.declared.kinds.TokenKind.{TokenKind}
 use Rattle.token.specs.declared.kinds.TokenKind.TheVariants as tk
 use Rattle.token.proofs.cursor.Bytes.{any-byte, inside, one-byte}
 use Rattle.token.proofs.theorems.Runs.{after-next, after-stop, run-after, run-suffix}
-use Rattle.token.proofs.cursor.Laws.{all-past}
 use Rattle.token.proofs.gap.Laws.{opens-line, opens-block}
 use Rattle.token.proofs.theorems.Idents.{ident-finds, start-rest, rest-suffix}
 use Rattle.token.specs.code.Refusal.{refusedBy}
@@ -39,8 +37,9 @@ use Rattle.std.specs.Prelude.{Some, None}
 use Rattle.token.specs.code.ByteClass.{classAt, wideClass, isSign}
 use Rattle.token.proofs.byte_class.Laws.{class-sign, class-wide}
 use Rattle.token.specs.code.Ident.{signEnd}
+use Rattle.token.specs.code.Names.{lowBefore}
 open class-laws use {arrow-here, arrow-sign}
-open text-laws use {ascii-next, run-stays, run-done, run-place, suffix-trans, drop-suffix, at-char, at-ascii, at-end, next-on, place-from}
+open text-laws use {ascii-next, wide-tail, run-stays, run-done, run-place, suffix-trans, drop-suffix, at-char, at-ascii, at-end, next-on, place-from}
 
 -- ---- places
 
@@ -244,11 +243,24 @@ module _ (s : List ℕ) (i : ℕ) where
       let f = ap idChar (run-place idChar s i j h e).2 ∙ run-done idChar refl (from s i) in
       sym (rest-none false (from s j) f (any-byte "_" refl s j ∙ rw (ne_eqb (get_or s j 0) 0x5F n))) ∙ (pass-run j h e).1
 
--- past an underscore and those that follow it up to r
-pub pass-unders : (s : List ℕ) (i : ℕ) (u : Bool) → get_or s i 0 ≡ 0x5F → (r : ℕ) → i + 1 ≤ r → r ≤ length s → AllIn 0x5F 0x5F s (i + 1) r
-    → afterIdent true (from s r) ≡ afterIdent u (from s i)
-pass-unders s i u e r l h a =
-    all-past (afterIdent true) s (Within 0x5F 0x5F) (λ k m x. pass-under s k true (omega arith)) (i + 1) r l h a ∙ pass-under s i u e
+-- behind an identifier's first character no underscore came last
+pub first_read : (s : List ℕ) (i j : ℕ) → i < length s → j ≤ length s → from s j ≡ drop 1 (from s i)
+    → afterIdent (lowBefore s i j) (from s j) ≡ afterIdent false (drop 1 (from s i))
+first_read s i j h k e = ap (λ u. afterIdent u (from s j)) (go (ltb i (j - 1)) refl) ∙ ap (afterIdent false) e
+  where
+    ends : j ≡ charEnd s i
+    ends =
+        let n = next-on s i h in
+        let q = e ∙ ap (drop 1) (at-char s i h) in
+        sym (place-from s j k) ∙ ap (place (length s)) q ∙ place-from s (charEnd s i) n.1
+
+    go : (b : Bool) → ltb i (j - 1) ≡ b → eqb (get_or s (j - 1) 0) 0x5F && b ≡ false
+    go false q = and-false (eqb (get_or s (j - 1) 0) 0x5F)
+    go true q =
+        let l = ltb-true i (j - 1) q in
+        let z = ends in
+        let w = (wide-tail s i h (j - 1) l (omega arith)).0 in
+        ap (λ x. x && true) (ne_eqb (get_or s (j - 1) 0) 0x5F (λ f. absurd (omega (arith, w, f))))
 
 -- ---- what is left of a text
 

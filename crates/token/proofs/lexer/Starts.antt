@@ -9,6 +9,8 @@ use Rattle.token.specs.paper.Tests.{isAny, begins, quote, isDigit, opensComment}
 use Rattle.token.specs.computed.Answer.{Found, Start, scan, signOf, afterIdent, scanIdent, scanOperator, scanBacktick, scanString, scanCharSym, scanNumber}
 use Rattle.token.specs.code.Cursor.{cursorAt, peekedOf, peekAt, peekedTo}
 use Rattle.token.specs.code.Lexer.{wordless}
+use Rattle.token.specs.code.Names.{lowBefore}
+use Rattle.token.proofs.ident.Laws.{first_read}
 use Rattle.token.specs.code.Piece.{pieceOf, tokenTo}
 use Rattle.token.specs.declared.kinds.TokenKind.{TokenKind}
 use Rattle.token.specs.declared.kinds.TokenKind.TheVariants as tk
@@ -75,7 +77,7 @@ start-peek s i = go (from s i)
     go [] = refl
     go (c ∷ r) = refl
 
-pub ruleset wide_words = (stuck-piece, scan-peek, peek-stands, start-peek)
+pub ruleset wide_words = (stuck-piece, scan-peek, peek-stands, start-peek, first_read)
 
 -- ---- the same, by the byte
 
@@ -98,8 +100,8 @@ module _ (s : List ℕ) (i : ℕ) (h : i < length s) (e : ltb (get_or s i 0) 0x8
   pub start-byte : headIs isIdStart (from s i) ≡ true
   start-byte = (ascii-start s i h e).0
 
-  pub next-byte : afterIdent false (from s (i + 1)) ≡ afterIdent false (drop 1 (from s i))
-  next-byte = ap (afterIdent false) (ascii-start s i h e).2
+  pub next-byte : afterIdent (lowBefore s i (i + 1)) (from s (i + 1)) ≡ afterIdent false (drop 1 (from s i))
+  next-byte = first_read s i (i + 1) h (omega arith) (ascii-start s i h e).2
 
 pub ruleset words = (stuck-piece, scan-byte, start-byte, next-byte)
 

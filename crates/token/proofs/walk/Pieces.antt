@@ -35,10 +35,9 @@ use Rattle.token.proofs.cursor.Blanks.{one-blank, two-blanks}
 use Rattle.token.proofs.cursor.Bytes.{inside}
 use Rattle.token.proofs.form.Laws.{form-record}
 use Rattle.token.proofs.form.Stores.{head-fields}
-use Rattle.token.proofs.gap.Scans.{GapTo, line-end-lf, line-end-crlf, line-end-found, block-end-found}
+use Rattle.token.proofs.gap.Scans.{GapTo, line-end-lf, line-end-crlf, line-end-found}
 use Rattle.token.proofs.gap.Laws.{opens-line, opens-block}
 use Rattle.token.proofs.names.Laws.{comment-bytes}
-use Rattle.token.specs.code.Gap.{lineEndAfter, blockEnd}
 use Rattle.chars.proofs.Bools.{and-both}
 use Rattle.token.proofs.lexer.Laws.{next-token}
 use Rattle.token.proofs.lexer.Seeks.{gap-strict}
@@ -189,23 +188,13 @@ module _ {s : List ℕ} {x : Walked} (g : Good s x) where
   pub lf-here : eqb x.class.number lfClass ≡ true → GapTo s GapKind.lineEnd x.at (x.at + 1)
   lf-here e =
       let b = or-first (eqb (get_or s x.at 0) 0x0A) false (sym (class-lf (get_or s x.at 0)) ∙ by-class (λ z. eqb z lfClass) e) refl in
-      let q = line-end-lf s x.at b in
-      rw (sym q) at (line-end-found s x.at (λ z. absurd (omega (arith, q, z))))
+      line-end-found s x.at (x.at + 1) (line-end-lf s x.at b)
 
   pub cr-here : eqb x.class.number crClass ≡ true → get_or s (x.at + 1) 0 ≡ 0x0A → GapTo s GapKind.lineEnd x.at (x.at + 2)
   cr-here e n =
       let b = or-first (eqb (get_or s x.at 0) 0x0D) false (sym (class-cr (get_or s x.at 0)) ∙ by-class (λ z. eqb z crClass) e) refl in
       let z : get_or s x.at 0 ≡ 0x0D = eqb-true (get_or s x.at 0) 0x0D b in
-      let q = line-end-crlf s x.at (ne_eqb (get_or s x.at 0) 0x0A (λ y. absurd (omega (arith, z, y)))) (rw (b, eq-eqb (get_or s (x.at + 1) 0) 0x0A n)) in
-      rw (sym q) at (line-end-found s x.at (λ y. absurd (omega (arith, q, y))))
-
--- ---- where the readers say that comments and line ends end
-
-pub block-to : (s : List ℕ) (i e : ℕ) → opensBlock (from s i) ≡ true → e ≡ blockEnd s i → (e ≡ i → ⊥) → GapTo s GapKind.blockComment i e
-block-to s i e o q n = subst (λ z. GapTo s GapKind.blockComment i z) (sym q) (block-end-found s i o (λ z. n (q ∙ z)))
-
-pub line-to : (s : List ℕ) (i e : ℕ) → e ≡ lineEndAfter s i → (e ≡ i → ⊥) → GapTo s GapKind.lineEnd i e
-line-to s i e q n = subst (λ z. GapTo s GapKind.lineEnd i z) (sym q) (line-end-found s i (λ z. n (q ∙ z)))
+      line-end-found s x.at (x.at + 2) (line-end-crlf s x.at (ne_eqb (get_or s x.at 0) 0x0A (λ y. absurd (omega (arith, z, y)))) (rw (b, eq-eqb (get_or s (x.at + 1) 0) 0x0A n)))
 
 -- which comment is opened, by its second byte
 module _ (s : List ℕ) (i : ℕ) (o : opensComment (from s i) ≡ true) where

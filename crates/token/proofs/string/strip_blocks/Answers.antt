@@ -1,21 +1,21 @@
--- Sixteen bytes are left where a turn is made, and the turns from here on end where those from the start on do.
+-- Thirty-two bytes are left where a turn is made, and the turns from here on end where those from the start on do.
 use Rattle.std.proofs.Common.{◌-◌, sym, refl, arith}
-use Rattle.token.specs.code.String.{spanAt, eightsTaken}
+use Rattle.token.specs.code.String.{spanAt, blocksTaken}
 use Rattle.token.proofs.Loops.{going-on, going-stop}
-use Rattle.token.proofs.string.Strips.{eights_apart}
-use Rattle.token.proofs.string.strip_eights.Goals as goal
+use Rattle.token.proofs.string.Strips.{blocks_apart}
+use Rattle.token.proofs.string.strip_blocks.Goals as goal
 
 pub loop-a-init : goal.loop-a-init
-unfolding eightsTaken
+unfolding blocksTaken
 loop-a-init c =
     let a = c.args in
-    (c.requires.0, c.requires.1, record { turns = a.end - a.start; enough = omega arith; same = refl })
+    (c.requires.order, c.requires.within, record { turns = a.end - a.start; enough = omega arith; same = refl })
 
 pub loop-a-preserved : goal.loop-a-preserved
 loop-a-preserved c =
     let l = c.loop-a in
     let e = sym c.loop-a-test.ensures in
-    let h = eights_apart _ _ _ e in
+    let h = blocks_apart _ _ _ e in
     let k = l.invariant.1 in
     (omega arith, omega arith, going-on _ _ _ (spanAt l.a l.b) _ _ e (omega arith) l.invariant.2)
 
