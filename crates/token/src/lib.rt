@@ -18,5 +18,4 @@ mod names; // words and operators, recognised from their ASCII bytes
 mod quoted; // strings and backticks, recognised from their bytes
 mod symbol; // characters and symbols, recognised from their bytes
 mod walk; // the walk over what is recognised from its bytes
-mod literal; // numbers, recognised from their bytes, by so many digits
 pub mod records; // the records, counted, and stored where they fit

@@ -8,17 +8,15 @@ ghost use Rattle.token.specs.code.Records.{storedIf};
 ghost use Rattle.token.specs.code.Form.{byForm, plainForm};
 ghost use Rattle.token.specs.code.ByteClass.{classAt, blankClass, digitClass, lfClass, crClass, tickClass, keywordClass, upToBlank, isSign, inWord};
 ghost use Rattle.token.specs.code.Names.{hereOf};
-ghost use Rattle.token.specs.code.Literal.{literalOf};
 ghost use Rattle.token.specs.code.Walk.{movedTo, plainBehind, valuesBehind, lineBehind, commentBehind, nameNumber, prefixEnd, operatorNumber, beginsName, Good, LeftTo, Opens, Steps};
 
 use crate::byte_class::Class;
 use crate::cursor::{Cursor, byte_at, skip_more};
-use crate::digits::Value;
+use crate::digits::{digit_value, lex_number};
 use crate::form::{put_head_if, put_int_if, put_line_if, put_long_if, put_plain_if, put_str_if};
 use crate::gap::{block_end, line_end_at};
 use crate::keyword::{run_number, word_number};
 use crate::kinds::TokenKind;
-use crate::literal::{NumberLit, digit_value, literal_at};
 use crate::names::{Here, here_at, name_end, opens_with, operator_end, run_end, word_end};
 use crate::quoted::{backtick_end, string_at};
 use crate::symbol::char_sym_end;
@@ -298,43 +296,7 @@ fn digit_step(out: &mut [u8], s: &[u8], x: Walked, end: Here) -> Walked
     behind_values(x, end, INT)
 }
 
-// A number that was read, as an IntLit. One that is too large is left.
-fn int_step(out: &mut [u8], s: &[u8], x: Walked, number: NumberLit) -> Option<Walked>
-    requires short { length s.now ≤ mostBytes }
-    requires good { Good s.now x }
-    requires digit { eqb x.class.number digitClass ≡ true }
-    requires number_is { number ≡ literalOf s.now x.at }
-    requires int { number.long ≡ false }
-    ensures on { IfSome result (λ y. Steps s.now x out.old y out.new) }
-    ensures further { IfSome result (λ y. x.at < y.at) }
-    ensures kept { IfNone result (out.new ≡ out.old) }
-{
-    if Value::INT_MOST < number.value {
-        return None;
-    }
-    put_int_if(out, x.bytes, x.at, number.end, number.value);
-    Some(behind_values(x, here_at(s, number.end), INT))
-}
-
-// The same as a LongLit.
-fn long_step(out: &mut [u8], s: &[u8], x: Walked, number: NumberLit) -> Option<Walked>
-    requires short { length s.now ≤ mostBytes }
-    requires good { Good s.now x }
-    requires digit { eqb x.class.number digitClass ≡ true }
-    requires number_is { number ≡ literalOf s.now x.at }
-    requires long { number.long ≡ true }
-    ensures on { IfSome result (λ y. Steps s.now x out.old y out.new) }
-    ensures further { IfSome result (λ y. x.at < y.at) }
-    ensures kept { IfNone result (out.new ≡ out.old) }
-{
-    if Value::LONG_MOST < number.value {
-        return None;
-    }
-    put_long_if(out, x.bytes, x.at, number.end, number.value);
-    Some(behind_values(x, here_at(s, number.end), LONG))
-}
-
-// A number.
+// A number, by what was read.
 fn number_step(out: &mut [u8], s: &[u8], x: Walked) -> Option<Walked>
     requires short { length s.now ≤ mostBytes }
     requires good { Good s.now x }
@@ -347,11 +309,21 @@ fn number_step(out: &mut [u8], s: &[u8], x: Walked) -> Option<Walked>
     if !next.class.in_word() {
         return Some(digit_step(out, s, x, next));
     }
-    let number = literal_at(s, next.class, x.at);
-    if number.long {
-        return long_step(out, s, x, number);
+    let piece = lex_number(s, Cursor { at: x.at });
+    let Ok((kind, end)) = piece else {
+        return None;
+    };
+    match kind {
+        TokenKind::IntLit(v) => {
+            put_int_if(out, x.bytes, x.at, end.at, v as u64);
+            Some(behind_values(x, here_at(s, end.at), INT))
+        }
+        TokenKind::LongLit(v) => {
+            put_long_if(out, x.bytes, x.at, end.at, v);
+            Some(behind_values(x, here_at(s, end.at), LONG))
+        }
+        _ => None,
     }
-    int_step(out, s, x, number)
 }
 
 // A character or a symbol.
