@@ -15,6 +15,5 @@ pub mod ByteClass
 pub mod Names
 pub mod Quoted
 pub mod Records
-pub mod Symbol
 pub mod Walk
 pub mod Stand

@@ -11,6 +11,7 @@ ghost use Rattle.token.specs.code.Names.{hereOf};
 ghost use Rattle.token.specs.code.Walk.{movedTo, plainBehind, valuesBehind, lineBehind, commentBehind, nameNumber, prefixEnd, operatorNumber, beginsName, Good, LeftTo, Opens, Steps};
 
 use crate::byte_class::Class;
+use crate::charsym::lex_char_sym;
 use crate::cursor::{Cursor, byte_at, skip_more};
 use crate::digits::{digit_value, lex_number};
 use crate::form::{put_head_if, put_int_if, put_line_if, put_long_if, put_plain_if, put_str_if};
@@ -19,7 +20,6 @@ use crate::keyword::{run_number, word_number};
 use crate::kinds::TokenKind;
 use crate::names::{Here, here_at, name_end, opens_with, operator_end, run_end, word_end};
 use crate::quoted::{backtick_end, string_at};
-use crate::symbol::char_sym_end;
 
 const HEAD: usize = TokenKind::HEAD_LENGTH as usize;
 
@@ -335,9 +335,17 @@ fn char_sym_step(out: &mut [u8], s: &[u8], x: Walked) -> Option<Walked>
     ensures further { IfSome result (λ y. x.at < y.at) }
     ensures kept { IfNone result (out.new ≡ out.old) }
 {
-    let end = char_sym_end(s, x.at)?;
-    put_plain_if(out, x.bytes, TokenKind::CHAR_SYM, x.at, end);
-    Some(behind(x, here_at(s, end)))
+    let piece = lex_char_sym(s, Cursor { at: x.at });
+    let Ok((kind, end)) = piece else {
+        return None;
+    };
+    match kind {
+        TokenKind::CharSym => {
+            put_plain_if(out, x.bytes, TokenKind::CHAR_SYM, x.at, end.at);
+            Some(behind(x, here_at(s, end.at)))
+        }
+        _ => None,
+    }
 }
 
 // The kind's number of the word or backtick from `at` to `end`, whose first byte has this class.

@@ -16,11 +16,11 @@ use Rattle.chars.specs.paper.Text.{Text, from, place}
 use Rattle.chars.specs.promises.Texts.{Suffix}
 use Rattle.chars.proofs.Bools.{clash}
 use Rattle.chars.proofs.theorems.Promises.{code_laws, text-laws}
-use Rattle.token.specs.paper.Tests.{isDigit, digitValue, quote, freeSign, opensComment}
+use Rattle.token.specs.paper.Tests.{isDigit, digitValue, apostrophe, quote, freeSign, opensComment}
 use Rattle.token.specs.declared.kinds.Kw.{Kw}
 use Rattle.token.specs.paper.Kinds.{kwNumber, wordOf, runOf, wordKeywords}
 use Rattle.token.specs.paper.Records.{values, recordLength, headLength, intLength, strLength}
-use Rattle.token.specs.computed.Answer.{scan, scanNumber, codesTo, closed, closeString, orPrefixed, prefixedOf, afterIdent}
+use Rattle.token.specs.computed.Answer.{scan, scanNumber, scanCharSym, codesTo, closed, closeString, orPrefixed, prefixedOf, afterIdent}
 use Rattle.token.specs.code.ByteClass.{classAt, digitClass, tickClass, backtickClass, keywordClass, wideClass, slashClass, upToBlank, startsWord, inWord, isSign, asksMore, inRun}
 use Rattle.token.specs.code.Cursor.{cursorAt}
 use Rattle.token.specs.code.Form.{formOf, plainForm, byForm}
@@ -29,7 +29,6 @@ use Rattle.token.specs.code.Names.{hereOf, runTo, nameTo, operatorTo}
 use Rattle.token.specs.code.Piece.{pieceOf, pieceNumber, tokenTo}
 use Rattle.token.specs.code.Quoted.{stringOf}
 use Rattle.token.specs.code.Records.{storedIf}
-use Rattle.token.specs.code.Symbol.{charSymEnd}
 use Rattle.token.specs.code.Walk.{gapAt, Good, plainBehind, valuesBehind, Steps, nameNumber, operatorNumber, LeftTo, Opens}
 use Rattle.token.specs.declared.cursor.Cursor.{Cursor}
 use Rattle.token.specs.declared.kinds.TokenKind.{TokenKind}
@@ -47,8 +46,8 @@ use Rattle.token.proofs.names.Bytes.{Stops, class-inside}
 use Rattle.token.proofs.names.Laws.{name-rest, word-plain, operator-rest, operator-token, operator-cut, operator-comment, run-clear, run-plain}
 use Rattle.token.proofs.ident.Laws.{quote-byte, token-at}
 use Rattle.token.proofs.quoted.Found.{string-found, prefixed-closed, quotes-within, quotes-few}
-use Rattle.token.proofs.symbol.Laws.{symbol-found}
-use Rattle.token.proofs.lexer.Laws.{number_at}
+use Rattle.token.proofs.charsym.Laws.{tick-byte}
+use Rattle.token.proofs.lexer.Laws.{number_at, charsym-at}
 use Rattle.token.proofs.walk.Pieces.{or-first, by-class, found-here, step-valued, step-bare, step-ascii}
 open code_laws use {carry}
 open text-laws use {place-from}
@@ -194,13 +193,20 @@ module _ {s : List ℕ} {x : Walked} (g : Good s x) (k : eqb x.class.number tick
   pub tick-here : get_or s x.at 0 ≡ 0x27
   tick-here = oneOf 0x27 (sym (class-tick (get_or s x.at 0)) ∙ by-class g (λ z. eqb z tickClass) k)
 
-  pub symbol-on : (e : ℕ) → Some e ≡ charSymEnd s x.at → x.at < e
-  symbol-on e q = (symbol-found s x.at e tick-inside tick-here q).0
+  pub tick-opens : apostrophe (from s x.at) ≡ true
+  tick-opens = tick-byte s x.at ∙ eq-eqb (get_or s x.at 0) 0x27 tick-here
 
-  pub step-symbol : (e : ℕ) → Some e ≡ charSymEnd s x.at → (out next : List ℕ)
-      → next ≡ storedIf out x.bytes (byForm (plainForm 7) x.at e false) → Steps s x out (plainBehind x (hereOf s e)) next
-  unfolding values
-  step-symbol e q out next z = step-bare g tick-inside tk.CharSym e (symbol-found s x.at e tick-inside tick-here q).2 refl out next z
+  -- the character or symbol that stands there is what the scanner finds, and ends past where the walk stands
+  module _ (e : Cursor) (f : tokenTo tk.CharSym e ≡ pieceOf (length s) (scanCharSym (from s x.at))) where
+    symbol-found : tokenTo tk.CharSym (cursorAt e.at) ≡ pieceOf (length s) (scan (length s) (from s x.at))
+    symbol-found = f ∙ ap (pieceOf (length s)) (sym (charsym-at s x.at tick-inside tick-opens))
+
+    pub symbol-on : x.at < e.at
+    symbol-on = (found-here s x.at e.at (gapAt x) tk.CharSym tick-inside symbol-found).on
+
+    pub step-symbol : (out next : List ℕ) → next ≡ storedIf out x.bytes (byForm (plainForm 7) x.at e.at false) → Steps s x out (plainBehind x (hereOf s e.at)) next
+    unfolding values
+    step-symbol out next z = step-bare g tick-inside tk.CharSym e.at symbol-found refl out next z
 
 -- ---- words
 
