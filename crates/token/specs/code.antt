@@ -16,4 +16,3 @@ pub mod Names
 pub mod Quoted
 pub mod Records
 pub mod Walk
-pub mod Stand

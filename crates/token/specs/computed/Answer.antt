@@ -8,8 +8,7 @@ use Rattle.chars.specs.paper.Text.{Char, Text, from, place, headIs}
 use Rattle.chars.specs.computed.Runs.{afterRun}
 use Rattle.chars.specs.paper.Classes.{isIdStart, isIdChar}
 use Rattle.token.specs.paper.Tests.{isDigit, isHexDigit, isAny, begins, opensLine, opensBlock, closesBlock, opensComment, endOfLine, quote, threeQuotes, backslash, dollarBrace, digit, digitValue, hexAhead, letterL, opSign, freeSign, notBacktick, apostrophe, plainChar}
-use Rattle.token.specs.computed.Flags.{GapKind, fresh, push, cutOf}
-use Rattle.token.specs.declared.gap.Gap.{Gap}
+use Rattle.token.specs.computed.Flags.{Gap, GapKind, fresh, push, cutOf}
 use Rattle.token.specs.paper.Kinds.{wordOf, runOf, Token}
 use Rattle.token.specs.declared.kinds.Kw.{Kw}
 use Rattle.token.specs.declared.kinds.TokenKind.{TokenKind}
