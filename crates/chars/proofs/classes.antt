@@ -1,4 +1,4 @@
 pub mod Ranges
+pub mod Masks
 pub mod Laws
-pub mod Cyrillic
 pub mod IdRuns

@@ -7,6 +7,7 @@ pub mod Gap
 pub mod Digits
 pub mod String
 pub mod Keyword
+pub mod Ident
 pub mod Charsym
 pub mod Lexer
 pub mod Form

@@ -1,11 +1,11 @@
 // Identifiers, operators and backticks. Document 01, "Piece table".
-ghost use Rattle.std.specs.Prelude.{◌≡◌, true, false, cond, ◌≤◌, length, drop};
+ghost use Rattle.std.specs.Prelude.{◌≡◌, true, false, ◌≤◌, length, drop};
 ghost use Rattle.chars.specs.paper.Classes.{isIdStart};
 ghost use Rattle.chars.specs.paper.Text.{from, headIs};
-ghost use Rattle.chars.specs.code.Text.{charEnd};
 ghost use Rattle.chars.specs.computed.Runs.{afterRun};
 ghost use Rattle.token.specs.paper.Tests.{isAny, opSign, freeSign, opensComment};
 ghost use Rattle.token.specs.computed.Answer.{afterIdent, orPrefixed, scanIdent, scanOperator, scanBacktick};
+ghost use Rattle.token.specs.code.Ident.{signEnd};
 ghost use Rattle.token.specs.code.Piece.{pieceOf};
 
 use crate::cursor::{Cursor, byte_at, two_at};
@@ -15,32 +15,24 @@ use crate::piece::Piece;
 use crate::refusal::{Refusal, Refused};
 use crate::string::lex_prefixed_string;
 
-// Where the operator sign at a place ends; the place itself, if none stands there. Past ASCII the one sign is U+21D2.
-fn sign_end(s: &[u8], at: usize) -> usize
-    ensures { result ≡ cond (opSign (from s.now at)) (charEnd s.now at) at }
+// Where the operator sign ends that stands at a place, if one does. Past ASCII the one sign is U+21D2.
+fn sign_end(s: &[u8], at: usize) -> Option<usize>
+    requires { at ≤ length s.now }
+    ensures { result ≡ signEnd s.now at }
 {
     let b = byte_at(s, at);
     if 0x80 <= b {
         return wide_sign_end(s, at);
     }
-    if chars::classes::is_op_byte(b) {
-        return at + 1;
-    }
-    at
+    chars::classes::is_op_byte(b).then_some(at + 1)
 }
 
 // The same by the character that stands there.
-#[tactic(auto, using(crate::proofs::cursor::Laws::step_within))]
-fn wide_sign_end(s: &[u8], at: usize) -> usize
-    ensures { result ≡ cond (opSign (from s.now at)) (charEnd s.now at) at }
+fn wide_sign_end(s: &[u8], at: usize) -> Option<usize>
+    ensures { result ≡ signEnd s.now at }
 {
-    let Some(here) = chars::text::char_at(s, at) else {
-        return at;
-    };
-    if chars::classes::is_op_char(here.code) {
-        return at + here.width;
-    }
-    at
+    let here = chars::text::char_at(s, at)?;
+    chars::classes::is_op_char(here.code).then_some(at + here.width)
 }
 
 // Past the operator signs that stand there; `//` stops none.
@@ -50,13 +42,10 @@ fn consume_signs(s: &[u8], c: Cursor) -> Cursor
     ensures rest { from s.now result.at ≡ afterRun opSign (from s.now c.at) }
 {
     let mut i = c.at;
-    loop {
-        let next = sign_end(s, i);
-        if next == i {
-            return Cursor { at: i };
-        }
+    while let Some(next) = sign_end(s, i) {
         i = next;
     }
+    Cursor { at: i }
 }
 
 /// Past an identifier's rest. Most have no underscore: then one run of id characters is all of it, and no chunks are counted.
@@ -107,16 +96,13 @@ pub fn consume_op_run(s: &[u8], c: Cursor) -> Cursor
     ensures rest { from s.now result.at ≡ afterRun freeSign (from s.now c.at) }
 {
     let mut d = c;
-    loop {
-        let next = sign_end(s, d.at);
-        if next == d.at {
-            return d;
-        }
+    while let Some(next) = sign_end(s, d.at) {
         if opens_comment(s, d) {
             return d;
         }
         d = Cursor { at: next };
     }
+    d
 }
 
 /// Does `//` or `/*` stand there?
@@ -140,12 +126,12 @@ fn or_prefixed(s: &[u8], kind: TokenKind, start: usize, c: Cursor) -> Piece
     Ok((kind, c))
 }
 
-/// An identifier, a keyword, or the string that an identifier prefixes. Its first character ends at `rest`.
+/// An identifier, a keyword, or the string that an identifier prefixes. It was read up to `rest`, which is behind its first character or further on.
 pub fn lex_ident(s: &[u8], c: Cursor, rest: Cursor) -> Piece
     requires within { c.at ≤ length s.now }
     requires starts { headIs isIdStart (from s.now c.at) ≡ true }
     requires rest_within { rest.at ≤ length s.now }
-    requires rest_is { from s.now rest.at ≡ drop 1 (from s.now c.at) }
+    requires rest_same { afterIdent false (from s.now rest.at) ≡ afterIdent false (drop 1 (from s.now c.at)) }
     ensures { result ≡ pieceOf (length s.now) (scanIdent (length s.now) (from s.now c.at)) }
 {
     let end = skip_id_rest(s, rest);
@@ -156,12 +142,14 @@ pub fn lex_ident(s: &[u8], c: Cursor, rest: Cursor) -> Piece
     }
 }
 
-/// An operator; a keyword's run is an operator where a comment follows directly.
-pub fn lex_op_run(s: &[u8], c: Cursor) -> Piece
-    requires { c.at ≤ length s.now }
+/// An operator, which was read up to `rest`; a keyword's run is an operator where a comment follows directly.
+pub fn lex_op_run(s: &[u8], c: Cursor, rest: Cursor) -> Piece
+    requires within { c.at ≤ length s.now }
+    requires rest_within { rest.at ≤ length s.now }
+    requires rest_same { afterRun freeSign (from s.now rest.at) ≡ afterRun freeSign (from s.now c.at) }
     ensures { result ≡ pieceOf (length s.now) (scanOperator (from s.now c.at)) }
 {
-    let end = consume_op_run(s, c);
+    let end = consume_op_run(s, rest);
     let run = keyword_of(run_number(s, c.at, end.at));
     match run {
         Some(k) => {

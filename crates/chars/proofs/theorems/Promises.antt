@@ -27,9 +27,9 @@ use Rattle.chars.proofs.text.Places as places
 use Rattle.chars.proofs.text.Texts as texts
 use Rattle.chars.proofs.Carry as carries
 use Rattle.chars.proofs.classes.Laws as classes
-use Rattle.chars.proofs.classes.Cyrillic as letters
+use Rattle.chars.proofs.classes.Masks as masks
 use Rattle.chars.proofs.classes.IdRuns as runs
-use Rattle.chars.proofs.runs.Laws as eights
+use Rattle.chars.proofs.runs.Eights as eights
 use Rattle.chars.proofs.classes.Ranges as ranges
 
 abbrev allAscend : List (List Range) → Bool
@@ -139,7 +139,7 @@ text-laws = record {
   run-done = runs.run-done;
 }
 
--- the order of the tables: one computed test over the five
+-- the order of the tables: one computed test over the five; those of the source: by comparing
 pub class-laws : ClassLaws
 unfolding tables
 class-laws = record {
@@ -156,7 +156,11 @@ class-laws = record {
   above-no-start = classes.above-no-start;
   above-no-id = classes.above-no-id;
   above-no-print = classes.above-no-print;
-  russian = letters.russian;
+  russian-start = classes.russian-start;
+  russian-id = classes.russian-id;
+  tables-are = refl;
+  id-masks = masks.id-masks;
+  start-masks = masks.start-masks;
   ascii-id = runs.ascii-id;
   ascii-whole = runs.ascii-whole;
 }

@@ -1,7 +1,5 @@
 -- What the shortcuts of `classes` test: sets of ASCII characters as masks, runs of id characters.
-use Rattle.std.specs.Prelude.{ℕ, ◌-◌, ◌/◌, ◌%◌, ◌^◌, Bool, cond, ◌&&◌, ◌||◌, List, [], ◌∷◌, drop, eqb, ltb}
-use Rattle.chars.specs.paper.Ranges.{◌to◌}
-use Rattle.chars.specs.paper.Utf8.{fits}
+use Rattle.std.specs.Prelude.{ℕ, ◌-◌, ◌/◌, ◌%◌, ◌^◌, Bool, cond, ◌&&◌, eqb, ltb}
 use Rattle.chars.specs.paper.Classes.{isIdChar}
 use Rattle.chars.specs.paper.Text.{Text, headIs}
 
@@ -15,7 +13,3 @@ isAsciiId c = ltb c 0x80 && isIdChar c
 
 abbrev pub asciiIdChar : Text → Bool
 asciiIdChar t = headIs isAsciiId t
-
--- does a Russian letter, U+0410 to U+044F, stand at the place i?
-unfoldable pub cyrillicAt : List ℕ → ℕ → Bool
-cyrillicAt s i = fits (0xD0 to 0xD0 ∷ 0x90 to 0xBF ∷ []) (drop i s) || fits (0xD1 to 0xD1 ∷ 0x80 to 0x8F ∷ []) (drop i s)

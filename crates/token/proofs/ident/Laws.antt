@@ -34,6 +34,9 @@ use Rattle.token.proofs.cursor.Laws.{all-past}
 use Rattle.token.proofs.gap.Laws.{opens-line, opens-block}
 use Rattle.token.proofs.theorems.Idents.{ident-finds, start-rest, rest-suffix}
 use Rattle.token.specs.code.Refusal.{refusedBy}
+use Rattle.std.specs.Prelude.{Some, None}
+use Rattle.std.specs.Bool.{then_some}
+use Rattle.token.specs.code.Ident.{signEnd}
 open text-laws use {run-stays, run-done, run-place, suffix-trans, drop-suffix, at-char, at-ascii, at-end, next-on, place-from}
 
 -- ---- places
@@ -98,26 +101,31 @@ module _ (p : ℕ → Bool) (s : List ℕ) (i : ℕ) where
       go true e = ap (headIs p) (at-ascii s i (ltb-true i (length s) e) l)
       go false e = let h = ltb-false i (length s) e in ap (headIs p) (at-end s i h) ∙ sym (ap p (get_or-eq_default s 0 h) ∙ z)
 
-  pub past-on : (j : ℕ) → headIs p (from s i) ≡ true → j ≡ charEnd s i → j ≡ cond (headIs p (from s i)) (charEnd s i) i
-  past-on j e q = rw e q
+-- ---- an operator sign
 
-  pub past-off : headIs p (from s i) ≡ false → i ≡ cond (headIs p (from s i)) (charEnd s i) i
-  past-off e = rw e
+module _ (s : List ℕ) (i : ℕ) where
+  -- where a test tells whether one stands there, and where it ends
+  pub sign-if : (b : Bool) (j : ℕ) → headIs isOpSign (from s i) ≡ b → (b ≡ true → j ≡ charEnd s i) → then_some b j ≡ signEnd s i
+  unfolding signEnd
+  sign-if true j e q = ap Some (q refl) ∙ sym (ap (λ b. cond b (Some (charEnd s i)) None) e)
+  sign-if false j e q = sym (ap (λ b. cond b (Some (charEnd s i)) None) e)
 
-  -- the code's test, whether that is the place itself
-  pub past-same : i ≡ cond (headIs p (from s i)) (charEnd s i) i → headIs p (from s i) ≡ false
-  past-same e = go (headIs p (from s i)) refl e
+  pub sign-none : None ≡ signEnd s i → headIs isOpSign (from s i) ≡ false
+  unfolding signEnd
+  sign-none e = go (headIs isOpSign (from s i)) refl e
     where
-      go : (b : Bool) → headIs p (from s i) ≡ b → i ≡ cond b (charEnd s i) i → b ≡ false
+      go : (b : Bool) → headIs isOpSign (from s i) ≡ b → None ≡ cond b (Some (charEnd s i)) None → b ≡ false
       go false h e = refl
-      go true h e = let n = next-on s i (head-inside p s i h) in absurd (omega arith)
+      go true h e = cc
 
-  pub past-other : (j : ℕ) → j ≡ cond (headIs p (from s i)) (charEnd s i) i → (j ≡ i → ⊥) → (i < length s) × (headIs p (from s i) ≡ true) × (charEnd s i ≡ j)
-  past-other j e n = go (headIs p (from s i)) refl e
+  pub sign-found : (j : ℕ) → Some j ≡ signEnd s i → (i < length s) × (headIs isOpSign (from s i) ≡ true) × (charEnd s i ≡ j)
+  unfolding signEnd
+  sign-found j e = go (headIs isOpSign (from s i)) refl e
     where
-      go : (b : Bool) → headIs p (from s i) ≡ b → j ≡ cond b (charEnd s i) i → (i < length s) × (headIs p (from s i) ≡ true) × (charEnd s i ≡ j)
-      go true h e = (head-inside p s i h, h, sym e)
-      go false h e = absurd (n e)
+      go : (b : Bool) → headIs isOpSign (from s i) ≡ b → Some j ≡ cond b (Some (charEnd s i)) None
+          → (i < length s) × (headIs isOpSign (from s i) ≡ true) × (charEnd s i ≡ j)
+      go true h e = (head-inside isOpSign s i h, h, cc)
+      go false h e = cc
 
 -- an ASCII byte tells whether an operator sign stands there
 pub sign-here : (s : List ℕ) (i b : ℕ) (r : Bool) → b ≡ get_or s i 0 → b < 0x80 → r ≡ ltb b 0x80 && isOpSign b → headIs isOpSign (from s i) ≡ r
