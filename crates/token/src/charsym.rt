@@ -1,11 +1,11 @@
 // Characters and symbols. Document 01, "Character" and "Symbol".
-ghost use Rattle.std.specs.Prelude.{◌≡◌, true, not, ◌&&◌, ◌≤◌, eqb, length, get_or};
+ghost use Rattle.std.specs.Prelude.{◌≡◌, true, false, not, ◌+◌, ◌&&◌, ◌≤◌, ◌<◌, eqb, length, get_or};
 ghost use Rattle.chars.specs.paper.Classes.{isPrintable};
 ghost use Rattle.chars.specs.paper.Quoted.{between};
 ghost use Rattle.chars.specs.paper.Text.{from};
 ghost use Rattle.token.specs.paper.Tests.{apostrophe, opSign};
-ghost use Rattle.token.specs.computed.Answer.{tickNext, scanCharSym};
-ghost use Rattle.token.specs.code.ByteClass.{upToBlank, startsWord};
+ghost use Rattle.token.specs.computed.Answer.{tickNext, afterIdent, scanCharSym};
+ghost use Rattle.token.specs.code.ByteClass.{classAt, upToBlank, startsWord, isSign};
 ghost use Rattle.token.specs.code.Piece.{pieceOf};
 ghost use Rattle.token.specs.code.Charsym.{escapedChar, plainOf, endOf, runSymbolEnd};
 
@@ -13,6 +13,7 @@ use crate::byte_class::Class;
 use crate::cursor::{Cursor, byte_at};
 use crate::ident::{consume_op_run, opens_comment, skip_id_rest};
 use crate::kinds::TokenKind;
+use crate::names::{run_end, word_end};
 use crate::piece::Piece;
 use crate::refusal::{Refusal, Refused};
 use crate::string::consume_escape;
@@ -97,10 +98,10 @@ fn plain_end(s: &[u8], c: Cursor, b: u8) -> Option<Cursor>
         return wide_end(s, c);
     }
     if class.is_op() {
-        return run_symbol_end(s, c);
+        return operator_symbol_end(s, c, class);
     }
     if begins_word(class) {
-        return Some(skip_id_rest(s, next));
+        return Some(word_symbol_end(s, c));
     }
     if is_semi(s, next, b) {
         return Some(next);
@@ -108,7 +109,38 @@ fn plain_end(s: &[u8], c: Cursor, b: u8) -> Option<Cursor>
     None
 }
 
-// The same where it begins past ASCII.
+// Where the identifier ends that begins there with a byte of ASCII. Most are of ASCII, with nothing behind them that makes more of them.
+#[inline(always)]
+fn word_symbol_end(s: &[u8], c: Cursor) -> Cursor
+    requires { c.at < length s.now }
+    ensures within { result.at ≤ length s.now }
+    ensures rest { from s.now result.at ≡ afterIdent false (from s.now (c.at + 1)) }
+{
+    let end = word_end(s, c.at + 1);
+    if end.class.asks_more() {
+        return skip_id_rest(s, Cursor { at: c.at + 1 });
+    }
+    Cursor { at: end.at }
+}
+
+// Where the run of operator signs ends that begins there with a byte of this class; None, where a comment begins. As with identifiers.
+#[inline(always)]
+fn operator_symbol_end(s: &[u8], c: Cursor, class: Class) -> Option<Cursor>
+    requires within { c.at < length s.now }
+    requires class_is { class.number ≡ classAt s.now c.at }
+    requires sign { isSign class.number ≡ true }
+    ensures { result ≡ runSymbolEnd (length s.now) (from s.now c.at) }
+{
+    if class.in_run() {
+        let end = run_end(s, c.at + 1);
+        if !end.class.asks_more() {
+            return Some(Cursor { at: end.at });
+        }
+    }
+    run_symbol_end(s, c)
+}
+
+// Where the character or the symbol ends that begins there past ASCII; None, where none does.
 #[inline(never)]
 fn wide_end(s: &[u8], c: Cursor) -> Option<Cursor>
     requires within { c.at ≤ length s.now }

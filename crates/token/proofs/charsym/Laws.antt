@@ -9,7 +9,7 @@ use Rattle.std.proofs.lemmas.Option.{same_Some, none-some}
 use lib.ListN.{length, drop, get_or}
 use lib.Dec.{eqb, ltb}
 use native.Mathlib.Omega.{arith}
-use borrow.Author.Tests.{ltb-true, ltb-false, lt-ltb, leb-true, leb-false, eqb-true, eq-eqb, ne_eqb}
+use borrow.Author.Tests.{ltb-true, ltb-false, lt-ltb, leb-true, leb-false, le-leb, eqb-true, eq-eqb, ne_eqb}
 use Rattle.chars.specs.paper.Quoted.{between, oneOf}
 use Rattle.chars.specs.paper.Classes.{isIdStart, isOpSign, isPrintable}
 use Rattle.chars.specs.paper.Text.{Char, Text, from, place, headIs}
@@ -21,14 +21,16 @@ use Rattle.chars.proofs.theorems.Promises.{code_laws, class-laws, text-laws}
 use Rattle.token.proofs.Classes.{sign-no-semi, sign-byte}
 use Rattle.token.specs.paper.Tests.{begins, backslash, apostrophe, isAny, opSign, freeSign, opensComment, plainChar}
 use Rattle.token.specs.computed.Answer.{Found, Esc, unbroken, broken, afterSlash, afterIdent, tickNext, escapedOf, scanCharSym}
-use Rattle.token.specs.code.ByteClass.{classOf, classAt, wideClass, upToBlank, startsWord, isSign}
+use Rattle.token.specs.code.ByteClass.{classOf, classAt, wideClass, upToBlank, startsWord, inWord, asksMore, isSign, inRun}
 use Rattle.token.specs.code.Cursor.{cursorAt}
+use Rattle.token.specs.code.Names.{hereOf, runTo}
 use Rattle.token.specs.code.Piece.{pieceOf, tokenTo}
 use Rattle.token.specs.code.Refusal.{refusedFor, refusedBy, refusalBy}
 use Rattle.token.specs.code.String.{escEnd, escapeOf, endAt}
 use Rattle.token.specs.code.Charsym.{escapedChar, symbolOf, plainOf, endOf, runSymbolEnd}
 use Rattle.token.specs.declared.cursor.Cursor.{Cursor}
 use Rattle.token.specs.declared.kinds.TokenKind.TheVariants as tk
+use Rattle.token.specs.declared.names.Here as names
 use Rattle.token.specs.declared.refusal.Refusal.TheVariants as refusal
 use Rattle.token.specs.declared.refusal.Refused.{Refused}
 use Rattle.token.proofs.Base.{zero-one}
@@ -37,6 +39,7 @@ use Rattle.token.proofs.cursor.Bytes.{any-byte, one-byte, inside, past}
 use Rattle.token.proofs.cursor.Laws.{Here}
 use Rattle.token.proofs.lexer.Laws.{ascii-head}
 use Rattle.token.proofs.names.Bytes.{class-inside}
+use Rattle.token.proofs.names.Laws.{name-rest, word-plain, operator-rest, run-clear, run-plain}
 open code_laws use {agree, carry-span, in-between}
 open class-laws use {sign-no-start}
 open text-laws use {text-drop, text-place, at-ascii, at-end, place-from}
@@ -259,6 +262,9 @@ module _ (s : List ℕ) (i : ℕ) (n : get_or s i 0 ≡ 0x5C → ⊥) where
     symbol-of : i < length s → byte < 0x80 → endOf (length s) (symbolOf (from s i)) ≡ endOf (length s) (plainOf (from s i))
     symbol-of h l = sym (ap (endOf (length s)) (symbol-is s i byte (i + 1) (behind h l) n (sym (printed l) ∙ z)))
 
+    pub run-within : isSign (classOf byte) ≡ true → i < length s
+    run-within o = class-inside s i isSign refl o
+
     -- an operator sign
     pub ascii-run : isSign (classOf byte) ≡ true → runSymbolEnd (length s) (from s i) ≡ endOf (length s) (plainOf (from s i))
     ascii-run o =
@@ -307,6 +313,32 @@ module _ (s : List ℕ) (i : ℕ) (n : get_or s i 0 ≡ 0x5C → ⊥) where
               let h = ltb-true i (length s) q in
               other-ends s i byte (i + 1) (behind h low) no-start no-sign (semi-code ∙ e) ∙ symbol-of h low
           go false q = none-at-end s i (ltb-false i (length s) q)
+
+-- ---- behind whose ASCII bytes nothing makes more of it
+
+module _ (s : List ℕ) (i : ℕ) (h : i < length s) (e : names.Here) where
+  class-here : (j : ℕ) → e ≡ hereOf s j → (e.at ≡ j) × (e.class.number ≡ classAt s e.at)
+  class-here j q =
+      let p : e.at ≡ j = ap (λ (z : names.Here). z.at) q in
+      (p, ap (λ (z : names.Here). z.class.number) q ∙ ap (classAt s) (sym p))
+
+  -- an identifier
+  pub word-run : e ≡ hereOf s (runTo inWord s (i + 1)) → asksMore e.class.number ≡ false → (e.at ≤ length s) × (from s e.at ≡ afterIdent false (from s (i + 1)))
+  word-run q m =
+      let p = class-here _ q in
+      let w = word-plain s i h e.at p.0 (sym (ap asksMore p.1) ∙ m) in
+      let r = name-rest s i h e.at (sym w.0) w.1 in
+      (r.1, r.2)
+
+  -- a run of operator signs
+  pub sign-run : inRun (classAt s i) ≡ true → e ≡ hereOf s (runTo inRun s (i + 1)) → asksMore e.class.number ≡ false → Some (cursorAt e.at) ≡ runSymbolEnd (length s) (from s i)
+  sign-run k q m =
+      let p = class-here _ q in
+      let w = run-plain s i h k e.at p.0 (sym (ap asksMore p.1) ∙ m) in
+      let y = run-clear s i h k in
+      let o : isSign (classAt s i) ≡ true = let l = leb-true 160 (classAt s i) k in le-leb 142 (classAt s i) (omega arith) in
+      let r = operator-rest s i h (sym (class-sign (get_or s i 0)) ∙ o) y e.at (sym w.0) w.1 in
+      run-symbol s i (cursorAt e.at) y r.1 r.2
 
 -- ---- by the class of a byte
 
