@@ -1,11 +1,11 @@
 // Characters and symbols. Document 01, "Character" and "Symbol".
-ghost use Rattle.std.specs.Prelude.{◌≡◌, true, false, not, ◌+◌, ◌&&◌, ◌≤◌, ◌<◌, eqb, length, get_or};
+ghost use Rattle.std.specs.Prelude.{◌≡◌, true, not, ◌&&◌, ◌≤◌, eqb, length, get_or};
 ghost use Rattle.chars.specs.paper.Classes.{isPrintable};
 ghost use Rattle.chars.specs.paper.Quoted.{between};
 ghost use Rattle.chars.specs.paper.Text.{from};
 ghost use Rattle.token.specs.paper.Tests.{apostrophe, opSign};
-ghost use Rattle.token.specs.computed.Answer.{tickNext, afterIdent, scanCharSym};
-ghost use Rattle.token.specs.code.ByteClass.{classAt, upToBlank, startsWord, isSign};
+ghost use Rattle.token.specs.computed.Answer.{tickNext, scanCharSym};
+ghost use Rattle.token.specs.code.ByteClass.{upToBlank, startsWord};
 ghost use Rattle.token.specs.code.Piece.{pieceOf};
 ghost use Rattle.token.specs.code.Charsym.{escapedChar, plainOf, endOf, runSymbolEnd};
 
@@ -80,8 +80,8 @@ fn is_char(s: &[u8], next: Cursor, b: u8) -> bool
     byte_at(s, next.at) == b'\'' && is_plain(b)
 }
 
-// Where the character or the symbol ends that begins with the byte `b`, which opens no escape; None, where none stands there. What begins past ASCII
-// is read by its character.
+// Where the character or the symbol ends that begins with the byte `b`, which opens no escape; None, where none stands there. Most are of ASCII, with
+// nothing behind them that makes more of them.
 #[inline(always)]
 fn plain_end(s: &[u8], c: Cursor, b: u8) -> Option<Cursor>
     requires within { c.at ≤ length s.now }
@@ -94,57 +94,33 @@ fn plain_end(s: &[u8], c: Cursor, b: u8) -> Option<Cursor>
         return Some(Cursor { at: next.at + 1 });
     }
     let class = Class::of(b);
-    if class == Class::WIDE {
-        return wide_end(s, c);
-    }
-    if class.is_op() {
-        return operator_symbol_end(s, c, class);
-    }
     if begins_word(class) {
-        return Some(word_symbol_end(s, c));
-    }
-    if is_semi(s, next, b) {
-        return Some(next);
-    }
-    None
-}
-
-// Where the identifier ends that begins there with a byte of ASCII. Most are of ASCII, with nothing behind them that makes more of them.
-#[inline(always)]
-fn word_symbol_end(s: &[u8], c: Cursor) -> Cursor
-    requires { c.at < length s.now }
-    ensures within { result.at ≤ length s.now }
-    ensures rest { from s.now result.at ≡ afterIdent false (from s.now (c.at + 1)) }
-{
-    let end = word_end(s, c.at + 1);
-    if end.class.asks_more() {
-        return skip_id_rest(s, Cursor { at: c.at + 1 });
-    }
-    Cursor { at: end.at }
-}
-
-// Where the run of operator signs ends that begins there with a byte of this class; None, where a comment begins. As with identifiers.
-#[inline(always)]
-fn operator_symbol_end(s: &[u8], c: Cursor, class: Class) -> Option<Cursor>
-    requires within { c.at < length s.now }
-    requires class_is { class.number ≡ classAt s.now c.at }
-    requires sign { isSign class.number ≡ true }
-    ensures { result ≡ runSymbolEnd (length s.now) (from s.now c.at) }
-{
-    if class.in_run() {
-        let end = run_end(s, c.at + 1);
+        let end = word_end(s, next.at);
         if !end.class.asks_more() {
             return Some(Cursor { at: end.at });
         }
     }
-    run_symbol_end(s, c)
+    if class.in_run() {
+        let end = run_end(s, next.at);
+        if !end.class.asks_more() {
+            return Some(Cursor { at: end.at });
+        }
+    }
+    full_end(s, c)
 }
 
-// Where the character or the symbol ends that begins there past ASCII; None, where none does.
+// An id start of ASCII?
+fn begins_word(class: Class) -> bool
+    ensures { result ≡ not (upToBlank class.number) && startsWord class.number }
+{
+    !class.is_sign() && class.starts_word()
+}
+
+// The same of every character and symbol, by the character that it begins with.
 #[inline(never)]
-fn wide_end(s: &[u8], c: Cursor) -> Option<Cursor>
+fn full_end(s: &[u8], c: Cursor) -> Option<Cursor>
     requires within { c.at ≤ length s.now }
-    requires wide { 0x80 ≤ get_or s.now c.at 0 }
+    requires no_escape { get_or s.now c.at 0 ≡ 0x5C → ⊥ }
     ensures { result ≡ endOf (length s.now) (plainOf (from s.now c.at)) }
 {
     let here = c.peek(s);
@@ -154,11 +130,14 @@ fn wide_end(s: &[u8], c: Cursor) -> Option<Cursor>
     if closes_char(s, code, next) {
         return Some(Cursor { at: next.at + 1 });
     }
+    if chars::classes::is_op_char(code) {
+        return run_symbol_end(s, c);
+    }
     if chars::classes::is_id_start(code) {
         return Some(skip_id_rest(s, next));
     }
-    if chars::classes::is_op_char(code) {
-        return run_symbol_end(s, c);
+    if is_semi(s, code, next) {
+        return Some(next);
     }
     None
 }
@@ -181,34 +160,15 @@ fn run_symbol_end(s: &[u8], c: Cursor) -> Option<Cursor>
     Some(consume_op_run(s, c))
 }
 
-// An id start?
-fn begins_word(class: Class) -> bool
-    ensures { result ≡ not (upToBlank class.number) && startsWord class.number }
+// Is the character a `;` that no operator sign follows?
+fn is_semi(s: &[u8], code: u32, next: Cursor) -> bool
+    ensures { result ≡ eqb code 0x3B && not (opSign (from s.now next.at)) }
 {
-    !class.is_sign() && class.starts_word()
+    code == 0x3B && !sign_at(s, next)
 }
 
-// Is the byte `b` a `;` that no operator sign follows?
-fn is_semi(s: &[u8], next: Cursor, b: u8) -> bool
-    ensures { result ≡ eqb b 0x3B && not (opSign (from s.now next.at)) }
-{
-    b == b';' && !sign_at(s, next)
-}
-
-// Does an operator sign stand there?
+// Does an operator sign stand there? One of them is past ASCII, so a byte does not tell.
 fn sign_at(s: &[u8], c: Cursor) -> bool
-    ensures { result ≡ opSign (from s.now c.at) }
-{
-    let class = Class::at(s, c.at);
-    if class == Class::WIDE {
-        return wide_sign_at(s, c);
-    }
-    class.is_op()
-}
-
-// The same by the character that stands there.
-#[inline(never)]
-fn wide_sign_at(s: &[u8], c: Cursor) -> bool
     ensures { result ≡ opSign (from s.now c.at) }
 {
     let here = c.peek(s);

@@ -9,7 +9,7 @@ use Rattle.std.proofs.lemmas.Option.{same_Some, none-some}
 use lib.ListN.{length, drop, get_or}
 use lib.Dec.{eqb, ltb}
 use native.Mathlib.Omega.{arith}
-use borrow.Author.Tests.{ltb-true, ltb-false, lt-ltb, leb-true, leb-false, le-leb, eqb-true, eq-eqb, ne_eqb}
+use borrow.Author.Tests.{ltb-true, ltb-false, leb-true, le-leb, eqb-true, eq-eqb, ne_eqb}
 use Rattle.chars.specs.paper.Quoted.{between, oneOf}
 use Rattle.chars.specs.paper.Classes.{isIdStart, isOpSign, isPrintable}
 use Rattle.chars.specs.paper.Text.{Char, Text, from, place, headIs}
@@ -18,10 +18,10 @@ use Rattle.chars.proofs.Bools.{and-both}
 use Rattle.chars.specs.promises.Codes.{alike}
 use Rattle.chars.specs.promises.Texts.{ScriptText}
 use Rattle.chars.proofs.theorems.Promises.{code_laws, class-laws, text-laws}
-use Rattle.token.proofs.Classes.{sign-no-semi, sign-byte}
+use Rattle.token.proofs.Classes.{sign-no-semi}
 use Rattle.token.specs.paper.Tests.{begins, backslash, apostrophe, isAny, opSign, freeSign, opensComment, plainChar}
 use Rattle.token.specs.computed.Answer.{Found, Esc, unbroken, broken, afterSlash, afterIdent, tickNext, escapedOf, scanCharSym}
-use Rattle.token.specs.code.ByteClass.{classOf, classAt, wideClass, upToBlank, startsWord, inWord, asksMore, isSign, inRun}
+use Rattle.token.specs.code.ByteClass.{classAt, upToBlank, startsWord, inWord, asksMore, isSign, inRun}
 use Rattle.token.specs.code.Cursor.{cursorAt}
 use Rattle.token.specs.code.Names.{hereOf, runTo}
 use Rattle.token.specs.code.Piece.{pieceOf, tokenTo}
@@ -34,10 +34,9 @@ use Rattle.token.specs.declared.names.Here as names
 use Rattle.token.specs.declared.refusal.Refusal.TheVariants as refusal
 use Rattle.token.specs.declared.refusal.Refused.{Refused}
 use Rattle.token.proofs.Base.{zero-one}
-use Rattle.token.proofs.byte_class.Laws.{class-start, class-sign, class-wide}
+use Rattle.token.proofs.byte_class.Laws.{class-start, class-sign}
 use Rattle.token.proofs.cursor.Bytes.{any-byte, one-byte, inside, past}
 use Rattle.token.proofs.cursor.Laws.{Here}
-use Rattle.token.proofs.lexer.Laws.{ascii-head}
 use Rattle.token.proofs.names.Bytes.{class-inside}
 use Rattle.token.proofs.names.Laws.{name-rest, word-plain, operator-rest, run-clear, run-plain}
 open code_laws use {agree, carry-span, in-between}
@@ -176,21 +175,6 @@ module _ (s : List ℕ) (i code next : ℕ) (h : Here s i code next) where
       go true q = end-none (length s) (from s i) _ (first true q)
       go false q = sym (ap (endOf (length s)) (first false q))
 
-  -- an id start
-  word-ends : isIdStart code ≡ true → (e : ℕ) → e ≤ length s → from s e ≡ afterIdent false (from s next) → Some (cursorAt e) ≡ endOf (length s) (symbolOf (from s i))
-  word-ends f e l q = end-token s e _ _ l q (symbol-at _ _ (from s i) h.text ∙ rw f)
-
-  -- neither
-  module _ (f : isIdStart code ≡ false) (g : isOpSign code ≡ false) where
-    rest-is : symbolOf (from s i) ≡ cond (oneOf ";" code && not (opSign (from s next))) (Found.token tk.CharSym (from s next)) (Found.stuck 16 (from s i))
-    rest-is = symbol-at _ _ (from s i) h.text ∙ rw (f, g)
-
-    semi-ends : oneOf ";" code && not (opSign (from s next)) ≡ true → Some (cursorAt next) ≡ endOf (length s) (symbolOf (from s i))
-    semi-ends e = end-token s next (from s next) _ h.within refl (rest-is ∙ rw e)
-
-    other-ends : oneOf ";" code && not (opSign (from s next)) ≡ false → None ≡ endOf (length s) (symbolOf (from s i))
-    other-ends e = end-none (length s) (from s i) _ (rest-is ∙ rw e)
-
   module _ (n : get_or s i 0 ≡ 0x5C → ⊥) where
     closed-is : plainOf (from s i) ≡ cond (isPrintable code && eqb (get_or s next 0) 0x27) (Found.token tk.CharSym (drop 1 (from s next))) (symbolOf (from s i))
     closed-is =
@@ -203,34 +187,26 @@ module _ (s : List ℕ) (i code next : ℕ) (h : Here s i code next) where
         end-token s (next + 1) _ _ u.0 (sym u.1) (closed-is ∙ rw e)
 
     -- where no character is closed, a symbol
-    pub symbol-is : isPrintable code && eqb (get_or s next 0) 0x27 ≡ false → plainOf (from s i) ≡ symbolOf (from s i)
-    symbol-is e = closed-is ∙ rw e
+    module _ (z : isPrintable code && eqb (get_or s next 0) 0x27 ≡ false) where
+      symbol : endOf (length s) (symbolOf (from s i)) ≡ endOf (length s) (plainOf (from s i))
+      symbol = sym (ap (endOf (length s)) (closed-is ∙ rw z))
 
--- ---- past ASCII
+      pub run-found : isOpSign code ≡ true → runSymbolEnd (length s) (from s i) ≡ endOf (length s) (plainOf (from s i))
+      run-found f = run-ends f ∙ symbol
 
-module _ (s : List ℕ) (i code next : ℕ) (h : Here s i code next) (w : 0x80 ≤ get_or s i 0) where
-  no-escape : get_or s i 0 ≡ 0x5C → ⊥
-  no-escape e = absurd (omega (arith, w, e))
+      pub word-found : isIdStart code ≡ true → (e : ℕ) → e ≤ length s → from s e ≡ afterIdent false (from s next) → Some (cursorAt e) ≡ endOf (length s) (plainOf (from s i))
+      word-found f e l q = end-token s e _ _ l q (symbol-at _ _ (from s i) h.text ∙ rw f) ∙ symbol
 
-  no-semi : oneOf ";" code ≡ false
-  no-semi =
-      sym (ap (isAny ";") h.text) ∙ any-byte ";" refl s i ∙ or-false (eqb (get_or s i 0) 0x3B) ∙ ne_eqb (get_or s i 0) 0x3B (λ e. absurd (omega (arith, w, e)))
+      -- neither a sign nor an id start
+      module _ (g : isOpSign code ≡ false) (f : isIdStart code ≡ false) where
+        rest-is : symbolOf (from s i) ≡ cond (eqb code 0x3B && not (opSign (from s next))) (Found.token tk.CharSym (from s next)) (Found.stuck 16 (from s i))
+        rest-is = symbol-at _ _ (from s i) h.text ∙ rw (f, g, or-false (eqb code 0x3B))
 
-  pub wide-closed : isPrintable code && eqb (get_or s next 0) 0x27 ≡ true → Some (cursorAt (next + 1)) ≡ endOf (length s) (plainOf (from s i))
-  wide-closed = closed-ends s i code next h no-escape
+        pub semi-found : eqb code 0x3B && not (opSign (from s next)) ≡ true → Some (cursorAt next) ≡ endOf (length s) (plainOf (from s i))
+        semi-found e = end-token s next (from s next) _ h.within refl (rest-is ∙ rw e) ∙ symbol
 
-  module _ (z : isPrintable code && eqb (get_or s next 0) 0x27 ≡ false) where
-    symbol : endOf (length s) (symbolOf (from s i)) ≡ endOf (length s) (plainOf (from s i))
-    symbol = sym (ap (endOf (length s)) (symbol-is s i code next h no-escape z))
-
-    pub wide-word : isIdStart code ≡ true → (e : ℕ) → e ≤ length s → from s e ≡ afterIdent false (from s next) → Some (cursorAt e) ≡ endOf (length s) (plainOf (from s i))
-    wide-word f e l q = word-ends s i code next h f e l q ∙ symbol
-
-    pub wide-run : isOpSign code ≡ true → runSymbolEnd (length s) (from s i) ≡ endOf (length s) (plainOf (from s i))
-    wide-run f = run-ends s i code next h f ∙ symbol
-
-    pub wide-other : isIdStart code ≡ false → isOpSign code ≡ false → None ≡ endOf (length s) (plainOf (from s i))
-    wide-other f g = other-ends s i code next h f g (rw no-semi) ∙ symbol
+        pub none-found : eqb code 0x3B && not (opSign (from s next)) ≡ false → None ≡ endOf (length s) (plainOf (from s i))
+        none-found e = end-none (length s) (from s i) _ (rest-is ∙ rw e) ∙ symbol
 
 -- ---- ASCII, by its byte
 
@@ -258,62 +234,6 @@ module _ (s : List ℕ) (i : ℕ) (n : get_or s i 0 ≡ 0x5C → ⊥) where
       let l : byte < 0x80 = omega (arith, k.1) in
       closed-ends s i byte (i + 1) (behind h l) n (sym (printed l) ∙ e)
 
-  module _ (z : closes ≡ false) where
-    symbol-of : i < length s → byte < 0x80 → endOf (length s) (symbolOf (from s i)) ≡ endOf (length s) (plainOf (from s i))
-    symbol-of h l = sym (ap (endOf (length s)) (symbol-is s i byte (i + 1) (behind h l) n (sym (printed l) ∙ z)))
-
-    pub run-within : isSign (classOf byte) ≡ true → i < length s
-    run-within o = class-inside s i isSign refl o
-
-    -- an operator sign
-    pub ascii-run : isSign (classOf byte) ≡ true → runSymbolEnd (length s) (from s i) ≡ endOf (length s) (plainOf (from s i))
-    ascii-run o =
-        let b = and-both (ltb byte 0x80) (isOpSign byte) (sym (class-sign byte) ∙ o) in
-        let l = ltb-true byte 0x80 b.0 in
-        let h = class-inside s i isSign refl o in
-        run-ends s i byte (i + 1) (behind h l) b.1 ∙ symbol-of h l
-
-    -- an id start
-    pub word-within : not (upToBlank (classOf byte)) && startsWord (classOf byte) ≡ true → i < length s
-    word-within u = class-inside s i startsWord refl (and-both (not (upToBlank (classOf byte))) (startsWord (classOf byte)) u).1
-
-    pub ascii-word : not (upToBlank (classOf byte)) && startsWord (classOf byte) ≡ true → (e : ℕ) → e ≤ length s → from s e ≡ afterIdent false (from s (i + 1))
-        → Some (cursorAt e) ≡ endOf (length s) (plainOf (from s i))
-    ascii-word u e m q =
-        let b = and-both (ltb byte 0x80) (isIdStart byte) (sym (class-start byte) ∙ u) in
-        let l = ltb-true byte 0x80 b.0 in
-        let h = word-within u in
-        word-ends s i byte (i + 1) (behind h l) b.1 e m q ∙ symbol-of h l
-
-    -- neither, nor past ASCII
-    module _ (w : eqb (classOf byte) wideClass ≡ false) (o : isSign (classOf byte) ≡ false) (u : not (upToBlank (classOf byte)) && startsWord (classOf byte) ≡ false) where
-      low : byte < 0x80
-      low = leb-false 0x80 byte (sym (class-wide byte) ∙ w)
-
-      no-start : isIdStart byte ≡ false
-      no-start = sym (ap (λ x. x && isIdStart byte) (lt-ltb byte 0x80 low)) ∙ sym (class-start byte) ∙ u
-
-      no-sign : isOpSign byte ≡ false
-      no-sign = sym (ap (λ x. x && isOpSign byte) (lt-ltb byte 0x80 low)) ∙ sym (class-sign byte) ∙ o
-
-      semi-code : oneOf ";" byte && not (opSign (from s (i + 1))) ≡ eqb byte 0x3B && not (opSign (from s (i + 1)))
-      semi-code = ap (λ x. x && not (opSign (from s (i + 1)))) (or-false (eqb byte 0x3B))
-
-      pub ascii-semi : eqb byte 0x3B && not (opSign (from s (i + 1))) ≡ true → Some (cursorAt (i + 1)) ≡ endOf (length s) (plainOf (from s i))
-      ascii-semi e =
-          let b = eqb-true byte 0x3B (and-both (eqb byte 0x3B) (not (opSign (from s (i + 1)))) e).0 in
-          let h = inside s i (omega arith) in
-          semi-ends s i byte (i + 1) (behind h low) no-start no-sign (semi-code ∙ e) ∙ symbol-of h low
-
-      pub ascii-other : eqb byte 0x3B && not (opSign (from s (i + 1))) ≡ false → None ≡ endOf (length s) (plainOf (from s i))
-      ascii-other e = go (ltb i (length s)) refl
-        where
-          go : (b : Bool) → ltb i (length s) ≡ b → None ≡ endOf (length s) (plainOf (from s i))
-          go true q =
-              let h = ltb-true i (length s) q in
-              other-ends s i byte (i + 1) (behind h low) no-start no-sign (semi-code ∙ e) ∙ symbol-of h low
-          go false q = none-at-end s i (ltb-false i (length s) q)
-
 -- ---- behind whose ASCII bytes nothing makes more of it
 
 module _ (s : List ℕ) (i : ℕ) (h : i < length s) (e : names.Here) where
@@ -340,27 +260,33 @@ module _ (s : List ℕ) (i : ℕ) (h : i < length s) (e : names.Here) where
       let r = operator-rest s i h (sym (class-sign (get_or s i 0)) ∙ o) y e.at (sym w.0) w.1 in
       run-symbol s i (cursorAt e.at) y r.1 r.2
 
--- ---- by the class of a byte
+pub word-inside : (s : List ℕ) (i : ℕ) → not (upToBlank (classAt s i)) && startsWord (classAt s i) ≡ true → i < length s
+word-inside s i u = class-inside s i startsWord refl (and-both (not (upToBlank (classAt s i))) (startsWord (classAt s i)) u).1
 
-pub wide-byte : (s : List ℕ) (i : ℕ) → eqb (classAt s i) wideClass ≡ true → 0x80 ≤ get_or s i 0
-wide-byte s i w = leb-true 0x80 (get_or s i 0) (sym (class-wide (get_or s i 0)) ∙ w)
+pub run-inside : (s : List ℕ) (i : ℕ) → inRun (classAt s i) ≡ true → i < length s
+run-inside s i k = class-inside s i inRun refl k
 
--- an operator sign
+-- a symbol that ends with its ASCII bytes
+module _ (s : List ℕ) (i : ℕ) (n : get_or s i 0 ≡ 0x5C → ⊥) (z : eqb (get_or s (i + 1) 0) 0x27 && between 0x20 0x7E (get_or s i 0) ≡ false) where
+  open-here : get_or s i 0 < 0x80 → isPrintable (get_or s i 0) && eqb (get_or s (i + 1) 0) 0x27 ≡ false
+  open-here l = sym (printed s i n l) ∙ z
 
-pub sign-here : (s : List ℕ) (i : ℕ) → eqb (classAt s i) wideClass ≡ false → isSign (classAt s i) ≡ opSign (from s i)
-sign-here s i w = go (ltb i (length s)) refl
-  where
-    l : get_or s i 0 < 0x80
-    l = leb-false 0x80 (get_or s i 0) (sym (class-wide (get_or s i 0)) ∙ w)
+  module _ (e : names.Here) (m : asksMore e.class.number ≡ false) where
+    pub ascii-run : inRun (classAt s i) ≡ true → e ≡ hereOf s (runTo inRun s (i + 1)) → Some (cursorAt e.at) ≡ endOf (length s) (plainOf (from s i))
+    ascii-run k q =
+        let o : isSign (classAt s i) ≡ true = let l = leb-true 160 (classAt s i) k in le-leb 142 (classAt s i) (omega arith) in
+        let b = and-both (ltb (get_or s i 0) 0x80) (isOpSign (get_or s i 0)) (sym (class-sign (get_or s i 0)) ∙ o) in
+        let l = ltb-true (get_or s i 0) 0x80 b.0 in
+        let h = run-inside s i k in
+        sign-run s i h e k q m ∙ run-found s i _ (i + 1) (behind s i n h l) n (open-here l) b.1
 
-    go : (b : Bool) → ltb i (length s) ≡ b → isSign (classAt s i) ≡ opSign (from s i)
-    go true q = sym (ascii-head s i (ltb-true i (length s) q) isOpSign l ∙ sign-byte (get_or s i 0) l ∙ sym (class-sign (get_or s i 0)))
-    go false q =
-        end (isSign (classAt s i)) refl
-      where
-        end : (b : Bool) → isSign (classAt s i) ≡ b → b ≡ opSign (from s i)
-        end true o = let h = class-inside s i isSign refl o in let k = ltb-false i (length s) q in absurd (omega arith)
-        end false o = sym (ap opSign (at-end s i (ltb-false i (length s) q)))
+    pub ascii-word : not (upToBlank (classAt s i)) && startsWord (classAt s i) ≡ true → e ≡ hereOf s (runTo inWord s (i + 1)) → Some (cursorAt e.at) ≡ endOf (length s) (plainOf (from s i))
+    ascii-word u q =
+        let b = and-both (ltb (get_or s i 0) 0x80) (isIdStart (get_or s i 0)) (sym (class-start (get_or s i 0)) ∙ u) in
+        let l = ltb-true (get_or s i 0) 0x80 b.0 in
+        let h = word-inside s i u in
+        let r = word-run s i h e q m in
+        word-found s i _ (i + 1) (behind s i n h l) n (open-here l) b.1 e.at r.0 r.1
 
 -- ---- from the `'` on; m is the text after it
 
