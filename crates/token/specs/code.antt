@@ -15,7 +15,5 @@ pub mod Ascii
 pub mod ByteClass
 pub mod Names
 pub mod Quoted
-pub mod Literal
 pub mod Records
-pub mod Symbol
 pub mod Walk

@@ -24,6 +24,7 @@ pub struct Span {
 
 /// Past an escape, from behind its backslash.
 #[tactic(auto, using(crate::proofs::string::Escapes::escape_by), unfolding(crate::specs::paper::Tests::isDigit))]
+#[inline(always)]
 pub fn consume_escape(s: &[u8], c: Cursor) -> Result<Cursor, Refused>
     requires { c.at ≤ length s.now }
     ensures { result ≡ escapeOf (length s.now) (from s.now c.at) }
@@ -49,6 +50,7 @@ pub fn consume_escape(s: &[u8], c: Cursor) -> Result<Cursor, Refused>
 
 // Past the four hex digits of a `\u` escape.
 #[tactic(auto, using(crate::proofs::string::Escapes::four_hexes))]
+#[inline(always)]
 fn consume_hexes(s: &[u8], c: Cursor) -> Result<Cursor, Refused>
     requires { c.at ≤ length s.now }
     ensures { result ≡ hexesOf (length s.now) (from s.now c.at) }
