@@ -21,11 +21,11 @@ fn lex_word(s: &[u8], c: Cursor) -> Piece
     ensures { result ≡ pieceOf (length s.now) (scan (length s.now) (from s.now c.at)) }
 {
     let b = s[c.at];
-    if chars::classes::is_ascii_start(b) {
-        return crate::ident::lex_ident(s, c, Cursor { at: c.at + 1 });
-    }
     if 0x80 <= b {
         return lex_wide_word(s, c);
+    }
+    if chars::classes::is_ascii_start(b) {
+        return crate::ident::lex_ident(s, c, Cursor { at: c.at + 1 });
     }
     if chars::classes::is_op_byte(b) {
         return crate::ident::lex_op_run(s, c, c);
@@ -45,7 +45,7 @@ fn lex_wide_word(s: &[u8], c: Cursor) -> Piece
     ensures { result ≡ pieceOf (length s.now) (scan (length s.now) (from s.now c.at)) }
 {
     let here = c.peek(s);
-    let Some((code, _)) = here else {
+    let Some((code, next)) = here else {
         return Err(Refused {
             what: Refusal::NoPiece,
             place: c.at,
@@ -55,7 +55,7 @@ fn lex_wide_word(s: &[u8], c: Cursor) -> Piece
         return crate::ident::lex_op_run(s, c, c);
     }
     if chars::classes::is_id_start(code) {
-        return crate::ident::lex_ident(s, c, c.step(s));
+        return crate::ident::lex_ident(s, c, next);
     }
     Err(Refused {
         what: Refusal::NoPiece,

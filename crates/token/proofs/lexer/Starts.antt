@@ -77,7 +77,7 @@ start-peek s i = go (from s i)
     go [] = refl
     go (c ∷ r) = refl
 
-pub ruleset wide_words = (stuck-piece, scan-peek, peek-stands, start-peek, first_read)
+pub ruleset wide_words = (stuck-piece, scan-peek, peek-stands, start-peek)
 
 -- ---- the same, by the byte
 
