@@ -1,2 +1,3 @@
 pub mod Promises
 pub mod Encodes
+pub mod StdUtf8

@@ -5,6 +5,7 @@ ghost use Rattle.chars.specs.paper.Utf8.{fits, codeOf, LongestValid};
 ghost use Rattle.chars.specs.code.Utf8.{widthAt, decodeAt, rowsOver};
 ghost use Rattle.chars.specs.computed.Valid.{validPrefix};
 ghost use Rattle.chars.specs.promises.Utf8.{Decoding, ValidLaws, EncodingLaws};
+ghost use Rattle.chars.specs.promises.StdUtf8.{StdLaws};
 
 use crate::runs::{InRange, run_end};
 
@@ -150,11 +151,12 @@ fn skip_threes(s: &[u8], at: usize) -> usize
 /// The length of the longest prefix that is a sequence of well-formed characters.
 // Runs of ASCII and of characters of three bytes are passed in loops of their own, and characters of two bytes are tested before the others.
 // A step is a run or a character: no iterator takes such steps. `valid_laws`: there is one such prefix, and a text is well-formed where it is
-// all of it.
+// all of it. `std_laws`: it is the longest prefix that is UTF-8 by std.
 pub fn valid_prefix(s: &[u8]) -> usize
     ensures value { result ≡ validPrefix s.now }
     ensures longest { LongestValid s.now result }
     ensures valid_laws { ValidLaws }
+    ensures std_laws { StdLaws }
 {
     let mut i = 0;
     while i < s.len() {

@@ -15,7 +15,7 @@ use Rattle.chars.proofs.Bools.{clash, and-both}
 use Rattle.chars.proofs.utf8.Valid.{width-found}
 
 -- a byte of a row lies in its range
-inside : (a b x : ℕ) (r : Bool) → between a b x && r ≡ true → (a ≤ x) × (x ≤ b) × (r ≡ true)
+pub inside : (a b x : ℕ) (r : Bool) → between a b x && r ≡ true → (a ≤ x) × (x ≤ b) × (r ≡ true)
 inside a b x r e =
     let p = and-both (between a b x) r e in
     let q = and-both (leb a x) (leb x b) p.0 in

@@ -2,6 +2,7 @@
 use Rattle.std.proofs.Common.{◌∙◌, sym, arith}
 use Rattle.chars.specs.paper.Utf8.{here, later}
 use Rattle.chars.proofs.theorems.Promises.{valid-laws}
+use Rattle.chars.proofs.theorems.StdUtf8.{std-laws}
 use Rattle.chars.proofs.utf8.Valid.{valid}
 use Rattle.chars.proofs.utf8.Stands.{stands, nothing}
 use Rattle.chars.proofs.utf8.Widths.{width-within, valid-stop, valid-next, valid-end, valid-ascii, valid-row, valid-rows}
@@ -27,7 +28,7 @@ pub returns-in_default : goal.returns-in_default
 returns-in_default c =
     let s = c.args.s.now in
     let e = sym (valid-stop s _ c.loop-i-test.true (nothing s _ c.in_default.ensures)) ∙ c.loop-i.invariant.same in
-    record { value = e; longest = rw e (valid s); valid_laws = valid-laws }
+    record { value = e; longest = rw e (valid s); valid_laws = valid-laws; std_laws = std-laws }
 
 pub loop-i-smaller-then-w-eq3 : goal.loop-i-smaller-then-w-eq3
 loop-i-smaller-then-w-eq3 c =
@@ -67,4 +68,4 @@ pub returns : goal.returns
 returns c =
     let s = c.args.s.now in
     let e = sym (valid-end s _ c.loop-i-test.false) ∙ c.loop-i.invariant.same in
-    record { value = e; longest = rw e (valid s); valid_laws = valid-laws }
+    record { value = e; longest = rw e (valid s); valid_laws = valid-laws; std_laws = std-laws }
