@@ -1,3 +1,4 @@
 pub mod Bools
 pub mod Carry
+pub mod Prefix
 pub mod theorems

@@ -3,6 +3,6 @@
 
 pub mod tables; // range tables of Unicode 16.0
 pub mod utf8; // one character at a byte offset; the longest valid prefix
-pub mod runs; // bytes of a range, or other than four, eight by one test
+pub mod runs; // where a run of bytes of a set ends, sixteen bytes at a time
 pub mod classes; // id start, id character, operator sign, printable
 pub mod text; // a script read character by character

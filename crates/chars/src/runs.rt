@@ -1,7 +1,113 @@
-// Bytes of a range, and bytes that are none of four, or of two: eight by one test, or thirty-two. `&` looks at all of them, without a branch.
-ghost use Rattle.std.specs.Prelude.{◌≡◌, false, ◌+◌, ◌≤◌, length};
-ghost use Rattle.chars.specs.code.Runs.{stepsOver, AllIn, twoIn, fourIn, eightIn, sixteenIn, thirtyTwoIn, NoneOf, twoNot, fourNot, eightNot, NeitherOf, twoNeither, fourNeither, eightNeither};
+//! Where a run of bytes of a set ends.
+ghost use Rattle.std.specs.Prelude.{◌≡◌, ◌+◌, ◌≤◌, length, false, ℕ, Bool, not, ◌||◌, ◌&&◌, ◌==◌, nat_le, map, drop};
+ghost use Rattle.chars.specs.code.Runs.{stepsOver, AllIn, twoIn, fourIn, eightIn, sixteenIn, thirtyTwoIn, Each, Other, twoNot, fourNot, eightNot, NeitherOf, twoNeither, fourNeither, eightNeither};
 ghost use Rattle.chars.specs.promises.Runs.{RunLaws};
+ghost use Rattle.std.specs.List.{prefix_len};
+ghost use Rattle.std.specs.Simd.Lanes.{mask_l};
+
+use std::simd::prelude::*;
+
+/// How many bytes are looked at together.
+const LANES: usize = 16;
+
+/// A set of bytes, which a run consists of.
+pub trait ByteSet {
+    ghost holds: { ℕ → Bool };
+
+    /// Whether the byte is in the set.
+    fn has(b: u8) -> bool
+        ensures { result ≡ holds b };
+
+    /// A bit for each of sixteen bytes, the lowest for the first: 1 where the byte is not in the set.
+    fn outside(block: u8x16) -> u64
+        ensures { result ≡ mask_l (map (λ b. not (holds b)) block) };
+}
+
+/// Where the bytes of the set end that stand from `at` on; `at` itself, where none does.
+#[inline(always)]
+pub fn run_end<C: ByteSet>(s: &[u8], at: usize) -> usize
+    ensures { result ≡ at + prefix_len C.holds (drop at s.now) }
+{
+    let mut end = at;
+    'by_block: while LANES <= s.len() && end <= s.len() - LANES {
+        let outside = C::outside(u8x16::from_slice(&s[end..]));
+        if outside != 0 {
+            return end + outside.trailing_zeros() as usize;
+        }
+        end += LANES;
+    }
+    while end < s.len() && C::has(s[end]) {
+        end += 1;
+    }
+    end
+}
+
+/// Whether sixteen bytes of the set stand from `at` on.
+#[inline(always)]
+pub fn block_at<C: ByteSet>(s: &[u8], at: usize) -> bool
+    ensures { result ≡ nat_le LANES (prefix_len C.holds (drop at s.now)) }
+{
+    if s.len() < LANES || s.len() - LANES < at {
+        return false;
+    }
+    C::outside(u8x16::from_slice(&s[at..])) == 0
+}
+
+/// The bytes from LOW to HIGH, both included.
+pub struct InRange<const LOW: u8, const HIGH: u8>;
+
+impl<const LOW: u8, const HIGH: u8> ByteSet for InRange<LOW, HIGH> {
+    ghost holds = { λ b. nat_le LOW b && nat_le b HIGH };
+
+    #[inline(always)]
+    fn has(b: u8) -> bool {
+        LOW <= b && b <= HIGH
+    }
+
+    #[inline(always)]
+    fn outside(block: u8x16) -> u64 {
+        (block.simd_lt(u8x16::splat(LOW)) | block.simd_gt(u8x16::splat(HIGH))).to_bitmask()
+    }
+}
+
+/// The two bytes A and B.
+pub struct OneOf<const A: u8, const B: u8>;
+
+impl<const A: u8, const B: u8> ByteSet for OneOf<A, B> {
+    ghost holds = { λ b. b == A || b == B };
+
+    #[inline(always)]
+    fn has(b: u8) -> bool {
+        b == A || b == B
+    }
+
+    #[inline(always)]
+    fn outside(block: u8x16) -> u64 {
+        (block.simd_ne(u8x16::splat(A)) & block.simd_ne(u8x16::splat(B))).to_bitmask()
+    }
+}
+
+/// All bytes but A, B, C and D.
+pub struct NoneOf<const A: u8, const B: u8, const C: u8, const D: u8>;
+
+impl<const A: u8, const B: u8, const C: u8, const D: u8> ByteSet for NoneOf<A, B, C, D> {
+    ghost holds = { λ b. not (b == A || b == B || b == C || b == D) };
+
+    #[inline(always)]
+    fn has(b: u8) -> bool {
+        b != A && b != B && b != C && b != D
+    }
+
+    #[inline(always)]
+    fn outside(block: u8x16) -> u64 {
+        (block.simd_eq(u8x16::splat(A))
+            | block.simd_eq(u8x16::splat(B))
+            | block.simd_eq(u8x16::splat(C))
+            | block.simd_eq(u8x16::splat(D))).to_bitmask()
+    }
+}
+
+// ---- until every caller goes by `run_end`
 
 #[tactic(auto, unfolding(crate::specs::code::Runs::twoIn))]
 fn two_in(s: &[u8], at: usize, low: u8, high: u8) -> bool
@@ -20,7 +126,7 @@ fn four_in(s: &[u8], at: usize, low: u8, high: u8) -> bool
 }
 
 // Whether eight bytes stand at a place, all of them in the range. The second clause: then each of them is.
-#[tactic(auto, using(crate::proofs::runs::Laws::run_laws), unfolding(crate::specs::code::Runs::eightBy))]
+#[tactic(auto, using(crate::proofs::runs::Eights::run_laws), unfolding(crate::specs::code::Runs::eightBy))]
 pub fn eight_in(s: &[u8], at: usize, low: u8, high: u8) -> bool
     ensures value { result ≡ eightIn low high s.now at }
     ensures run_laws { RunLaws }
@@ -35,7 +141,7 @@ pub fn eight_in(s: &[u8], at: usize, low: u8, high: u8) -> bool
 }
 
 // The place to which all bytes lie in the range, eight at a time: no eight more stand there. The last fact has it by equation.
-#[tactic(auto, using(crate::proofs::runs::Laws::eight_turn, crate::proofs::runs::Laws::steps_stop))]
+#[tactic(auto, using(crate::proofs::runs::Eights::eight_turn, crate::proofs::runs::Eights::steps_stop))]
 pub fn skip_eights(s: &[u8], at: usize, low: u8, high: u8) -> usize
     ensures { (at ≤ result) × (at ≤ length s.now → result ≤ length s.now) × AllIn low high s.now at result × (eightIn low high s.now result ≡ false) × (result ≡ stepsOver 8 (eightIn low high) s.now at) }
 {
@@ -72,7 +178,7 @@ fn thirty_two_in(s: &[u8], at: usize, low: u8, high: u8) -> bool
 }
 
 // As `skip_eights`, by thirty-twos: for long runs.
-#[tactic(auto, using(crate::proofs::runs::Laws::long_turn, crate::proofs::runs::Laws::steps_stop))]
+#[tactic(auto, using(crate::proofs::runs::Eights::long_turn, crate::proofs::runs::Eights::steps_stop))]
 pub fn skip_long(s: &[u8], at: usize, low: u8, high: u8) -> usize
     ensures { (at ≤ result) × (at ≤ length s.now → result ≤ length s.now) × AllIn low high s.now at result × (thirtyTwoIn low high s.now result ≡ false) × (result ≡ stepsOver 32 (thirtyTwoIn low high) s.now at) }
 {
@@ -121,9 +227,9 @@ fn eight_not(s: &[u8], at: usize, a: u8, b: u8, c: u8, d: u8) -> bool
 }
 
 // The place to which no byte is one of the four, eight at a time: no eight more stand there.
-#[tactic(auto, using(crate::proofs::runs::Laws::not_turn, crate::proofs::runs::Laws::steps_stop))]
+#[tactic(auto, using(crate::proofs::runs::Eights::not_turn, crate::proofs::runs::Eights::steps_stop))]
 pub fn skip_except_four(s: &[u8], at: usize, a: u8, b: u8, c: u8, d: u8) -> usize
-    ensures { (at ≤ result) × (at ≤ length s.now → result ≤ length s.now) × NoneOf a b c d s.now at result × (eightNot a b c d s.now result ≡ false) × (result ≡ stepsOver 8 (eightNot a b c d) s.now at) }
+    ensures { (at ≤ result) × (at ≤ length s.now → result ≤ length s.now) × Each (Other a b c d) s.now at result × (eightNot a b c d s.now result ≡ false) × (result ≡ stepsOver 8 (eightNot a b c d) s.now at) }
 {
     let mut end = at;
     while eight_not(s, end, a, b, c, d) {
@@ -163,7 +269,7 @@ fn eight_neither(s: &[u8], at: usize, a: u8, b: u8) -> bool
 }
 
 // As `skip_except_four`, for two bytes.
-#[tactic(auto, using(crate::proofs::runs::Laws::neither_turn, crate::proofs::runs::Laws::steps_stop))]
+#[tactic(auto, using(crate::proofs::runs::Eights::neither_turn, crate::proofs::runs::Eights::steps_stop))]
 pub fn skip_except_two(s: &[u8], at: usize, a: u8, b: u8) -> usize
     ensures { (at ≤ result) × (at ≤ length s.now → result ≤ length s.now) × NeitherOf a b s.now at result × (eightNeither a b s.now result ≡ false) × (result ≡ stepsOver 8 (eightNeither a b) s.now at) }
 {

@@ -6,7 +6,7 @@ ghost use Rattle.chars.specs.code.Utf8.{widthAt, decodeAt, rowsOver};
 ghost use Rattle.chars.specs.computed.Valid.{validPrefix};
 ghost use Rattle.chars.specs.promises.Utf8.{Decoding, ValidLaws, EncodingLaws};
 
-use crate::runs::{skip_eights, skip_long};
+use crate::runs::{InRange, run_end};
 
 /// A character: its code, and how many bytes it has.
 #[derive(Clone, Copy, Debug, PartialEq, Eq)]
@@ -102,19 +102,11 @@ pub fn decode(s: &[u8], at: usize) -> Option<Decoded>
     })
 }
 
-// The place past the ASCII bytes that stand from `at` on. Where one stands, thirty-twos and eights go first: at most seven are left then.
+// The place past the ASCII bytes that stand from `at` on.
 fn ascii_end(s: &[u8], at: usize) -> usize
     ensures { result ≡ rowsOver (0x00 to 0x7F ∷ []) s.now at }
 {
-    if !byte_in(s, at, 0x00, 0x7F) {
-        return at;
-    }
-    let from = skip_long(s, at, 0x00, 0x7F);
-    let mut i = skip_eights(s, from, 0x00, 0x7F);
-    while byte_in(s, i, 0x00, 0x7F) {
-        i += 1;
-    }
-    i
+    run_end::<InRange<0x00, 0x7F>>(s, at)
 }
 
 // Whether a character of three bytes stands at `at` that begins with E1 to EC.

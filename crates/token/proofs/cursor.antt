@@ -1,4 +1,5 @@
 pub mod Wide
 pub mod Bytes
 pub mod Laws
+pub mod Runs
 pub mod Blanks

@@ -1,5 +1,5 @@
 pub mod Laws
-pub mod Seeks
+pub mod Found
 pub mod Trails
 pub mod Turns
 pub mod Starts

@@ -1,4 +1,4 @@
 pub mod Measures
 pub mod Reach
-pub mod Turns
+pub mod Ends
 pub mod Told

@@ -7,6 +7,7 @@ pub mod Gap
 pub mod Digits
 pub mod String
 pub mod Keyword
+pub mod Ident
 pub mod Charsym
 pub mod Lexer
 pub mod Form
@@ -16,4 +17,3 @@ pub mod Names
 pub mod Quoted
 pub mod Records
 pub mod Walk
-pub mod Stand

@@ -12,7 +12,7 @@
 // may make more of a word or a run that it follows directly.
 ghost use Rattle.std.specs.Prelude.{◌≡◌, ◌+◌, ◌*◌};
 ghost use Rattle.token.specs.paper.Records.{headLength};
-ghost use Rattle.token.specs.code.ByteClass.{classOf, classAt, upToBlank, startsWord, inWord, asksMore, isSign, inRun, isOrdinary};
+ghost use Rattle.token.specs.code.ByteClass.{classOf, classAt, upToBlank, startsWord, inWord, asksMore, isSign, inRun, isOrdinary, inLineEnd};
 
 use crate::cursor::byte_at;
 use crate::kinds::TokenKind;
@@ -125,6 +125,13 @@ impl Class {
         ensures { result ≡ isOrdinary self.number }
     {
         self.number % 2 == 0
+    }
+
+    /// LF or CR, of which line ends are made?
+    pub fn in_line_end(self) -> bool
+        ensures { result ≡ inLineEnd self.number }
+    {
+        self == Class::LF || self == Class::CR
     }
 
     /// Length and kind of a sign's record, as one number. A sign's class is twice its kind's number, and the kind stands in the upper two bytes: so

@@ -6,6 +6,8 @@ ghost use Rattle.chars.specs.computed.Runs.{afterRun};
 ghost use Rattle.token.specs.paper.Tests.{isAny};
 ghost use Rattle.token.specs.code.Cursor.{peekAt};
 
+use chars::runs::{OneOf, run_end};
+
 /// A byte offset in a script, which goes in by value and comes back advanced.
 #[derive(Clone, Copy, Debug, PartialEq, Eq)]
 pub struct Cursor {
@@ -84,20 +86,14 @@ impl Cursor {
     }
 }
 
-/// The same from a place on: spaces by eights, then byte by byte.
-#[tactic(auto, using(crate::proofs::cursor::Blanks::blanks))]
+/// The same from a place on.
 pub fn skip_more(s: &[u8], at: usize) -> Cursor
     requires { at ≤ length s.now }
     ensures { (result.at ≤ length s.now) × (at ≤ result.at) × (from s.now result.at ≡ afterRun (isAny " \t") (from s.now at)) }
 {
-    let mut i = chars::runs::skip_eights(s, at, 0x20, 0x20);
-    while i < s.len() {
-        if !is_blank(s[i]) {
-            return Cursor { at: i };
-        }
-        i += 1;
+    Cursor {
+        at: run_end::<OneOf<b' ', b'\t'>>(s, at),
     }
-    Cursor { at: i }
 }
 
 fn is_blank(b: u8) -> bool

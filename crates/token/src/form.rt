@@ -18,7 +18,8 @@ pub fn head_of(length: u16, number: u16) -> u32
     length as u32 + 65536 * (number as u32)
 }
 
-// Length and kind, start, end and cut.
+// Length and kind, start, end and cut. This and the three that follow are compiled into each caller, where most of a form is known.
+#[inline(always)]
 #[tactic(auto, using(crate::proofs::form::Stores::put_head))]
 fn put_head(out: &mut [u8], w: usize, head: u32, start: usize, end: usize, cut: bool)
     requires { w + headLength ≤ length out.old }
@@ -31,23 +32,27 @@ fn put_head(out: &mut [u8], w: usize, head: u32, start: usize, end: usize, cut: 
 }
 
 // The values: as many bytes of them as the record's length has.
+#[inline(always)]
 #[tactic(auto, using(crate::proofs::form::Laws::record_stores))]
 fn put_values(out: &mut [u8], w: usize, size: u16, values: u64)
-    requires { Known size × (w + (size - headLength) ≤ length out.old) }
+    requires known { Known size }
+    requires room { w + (size - headLength) ≤ length out.old }
     ensures { out.new ≡ sets out.old w (take (size - headLength) (le8 values)) }
 {
     match size {
-        TokenKind::NEWLINE_LENGTH => out[w] = (values % 256) as u8,
-        TokenKind::INT_LIT_LENGTH => put4(out, w, (values % 4294967296) as usize),
+        TokenKind::NEWLINE_LENGTH => out[w] = values.to_le_bytes()[0],
+        TokenKind::INT_LIT_LENGTH => put4(out, w, values as usize),
         TokenKind::LONG_LIT_LENGTH => put8(out, w, values),
         _ => {}
     }
 }
 
-// A record by its form.
+/// A record by its form.
+#[inline(always)]
 #[tactic(auto, using(crate::proofs::form::Laws::record_stores))]
 pub fn put_record(out: &mut [u8], w: usize, form: Form, start: usize, end: usize, cut: bool)
-    requires { Known form.length × (w + form.length ≤ length out.old) }
+    requires known { Known form.length }
+    requires room { w + form.length ≤ length out.old }
     ensures { out.new ≡ sets out.old w (byForm form start end cut) }
 {
     put_head(out, w, head_of(form.length, form.number), start, end, cut);
@@ -59,126 +64,32 @@ pub fn put_record(out: &mut [u8], w: usize, form: Form, start: usize, end: usize
     );
 }
 
-// The same, where it fits.
+/// The same, where it fits.
+#[inline(always)]
 #[tactic(auto, using(crate::proofs::form::Shapes::fitting))]
 pub fn put_if(out: &mut [u8], w: usize, form: Form, start: usize, end: usize, cut: bool)
-    requires { Known form.length × (w + form.length ≤ 18446744073709551615) }
+    requires known { Known form.length }
+    requires room { w + form.length ≤ 18446744073709551615 }
     ensures { out.new ≡ storedIf out.old w (byForm form start end cut) }
 {
     if w + form.length as usize <= out.len() {
         put_record(out, w, form, start, end, cut);
-        return;
     }
 }
 
-// The same for each shape by itself, where no cut is set: what is known of it is compiled in. A token without values, by its length and kind.
+/// The same for one of the nine signs, by its length and kind as one number: made of its form, these cost an instruction more a sign.
 #[tactic(auto, using(crate::proofs::form::Shapes::fitting))]
-pub fn put_head_if(out: &mut [u8], w: usize, head: u32, start: usize, end: usize)
+pub fn put_head_if(out: &mut [u8], w: usize, head: u32, start: usize, end: usize, cut: bool)
     requires { w + headLength ≤ 18446744073709551615 }
-    ensures { out.new ≡ storedIf out.old w (headBytes head start end false) }
+    ensures { out.new ≡ storedIf out.old w (headBytes head start end cut) }
 {
     if w + TokenKind::HEAD_LENGTH as usize <= out.len() {
-        put_head(out, w, head, start, end, false);
-        return;
+        put_head(out, w, head, start, end, cut);
     }
 }
 
-// A token without values, by its kind's number.
-#[tactic(auto, using(crate::proofs::form::Shapes::head_plain))]
-pub fn put_plain_if(out: &mut [u8], w: usize, number: u16, start: usize, end: usize)
-    requires { w + headLength ≤ 18446744073709551615 }
-    ensures { out.new ≡ storedIf out.old w (byForm (plainForm number) start end false) }
-{
-    put_head_if(out, w, head_of(TokenKind::HEAD_LENGTH, number), start, end);
-}
-
-// A line end, with its after-comment mark.
-#[tactic(auto, using(crate::proofs::form::Shapes::fitting))]
-pub fn put_line_if(out: &mut [u8], w: usize, start: usize, end: usize, mark: bool)
-    requires { w + lineLength ≤ 18446744073709551615 }
-    ensures { out.new ≡ storedIf out.old w (byForm (formOf (tk.Newline mark)) start end false) }
-{
-    if w + TokenKind::NEWLINE_LENGTH as usize <= out.len() {
-        put_head(
-            out,
-            w,
-            head_of(TokenKind::NEWLINE_LENGTH, TokenKind::NEWLINE),
-            start,
-            end,
-            false,
-        );
-        out[w + TokenKind::HEAD_LENGTH as usize] = bit_of(mark);
-        return;
-    }
-}
-
-// A string, with where its content starts and ends.
-#[tactic(auto, using(crate::proofs::form::Shapes::fitting))]
-pub fn put_str_if(out: &mut [u8], w: usize, start: usize, end: usize, from: usize, to: usize)
-    requires { w + strLength ≤ 18446744073709551615 }
-    ensures { out.new ≡ storedIf out.old w (byForm (formOf (tk.Str from to)) start end false) }
-{
-    if w + TokenKind::STR_LENGTH as usize <= out.len() {
-        put_head(
-            out,
-            w,
-            head_of(TokenKind::STR_LENGTH, TokenKind::STR),
-            start,
-            end,
-            false,
-        );
-        put4(out, w + TokenKind::HEAD_LENGTH as usize, from);
-        put4(out, w + TokenKind::HEAD_LENGTH as usize + 4, to);
-        return;
-    }
-}
-
-// An IntLit, with its value.
-#[tactic(auto, using(crate::proofs::form::Shapes::fitting))]
-pub fn put_int_if(out: &mut [u8], w: usize, start: usize, end: usize, v: u64)
-    requires { w + intLength ≤ 18446744073709551615 }
-    ensures { out.new ≡ storedIf out.old w (byForm (formOf (tk.IntLit v)) start end false) }
-{
-    if w + TokenKind::INT_LIT_LENGTH as usize <= out.len() {
-        put_head(
-            out,
-            w,
-            head_of(TokenKind::INT_LIT_LENGTH, TokenKind::INT_LIT),
-            start,
-            end,
-            false,
-        );
-        put4(
-            out,
-            w + TokenKind::HEAD_LENGTH as usize,
-            (v % 4294967296) as usize,
-        );
-        return;
-    }
-}
-
-// A LongLit, with its value.
-#[tactic(auto, using(crate::proofs::form::Shapes::fitting))]
-pub fn put_long_if(out: &mut [u8], w: usize, start: usize, end: usize, v: u64)
-    requires { w + longLength ≤ 18446744073709551615 }
-    ensures { out.new ≡ storedIf out.old w (byForm (formOf (tk.LongLit v)) start end false) }
-{
-    if w + TokenKind::LONG_LIT_LENGTH as usize <= out.len() {
-        put_head(
-            out,
-            w,
-            head_of(TokenKind::LONG_LIT_LENGTH, TokenKind::LONG_LIT),
-            start,
-            end,
-            false,
-        );
-        put8(out, w + TokenKind::HEAD_LENGTH as usize, v);
-        return;
-    }
-}
-
-// A record as it stands in bytes.
-#[derive(Clone, Copy)]
+/// A record as it stands in bytes.
+#[derive(Clone, Copy, Debug, PartialEq, Eq)]
 pub struct Held {
     pub number: u64,
     pub length: u64,
@@ -208,8 +119,8 @@ fn read_values(bytes: &[u8], at: usize, size: u64) -> u64
     }
 }
 
-// Every record is read here. Every byte is allowed: past the end a byte counts as 0. The second clause: what is stored is read back, and what is
-// read is stored again.
+/// Every record is read here. Every byte is allowed: past the end a byte counts as 0. The second clause: what is stored is read back, and what is
+/// read is stored again.
 #[tactic(auto, using(crate::proofs::form::ReadBack::reads), unfolding(crate::specs::code::Form::heldAt))]
 pub fn read_record(bytes: &[u8], at: usize) -> Held
     requires { at + mostLength ≤ 18446744073709551615 }

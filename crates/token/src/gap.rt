@@ -1,79 +1,14 @@
-// Gaps: blanks, comments and line ends, and what is kept of them for marks and cuts. Document 01, "Piece table".
-ghost use Rattle.std.specs.Prelude.{◌≡◌, true, not, ◌||◌, ◌+◌, ◌*◌, ◌≤◌, length, drop, get_or};
+// Comments. Document 01, "Piece table".
+ghost use Rattle.std.specs.Prelude.{◌≡◌, true, not, ◌+◌, ◌*◌, ◌≤◌, length, drop, get_or};
 ghost use Rattle.chars.specs.paper.Text.{from};
 ghost use Rattle.chars.specs.computed.Runs.{afterRun};
 ghost use Rattle.token.specs.paper.Tests.{endOfLine, endsLine, opensLine, opensBlock};
-ghost use Rattle.token.specs.computed.Flags.{GapKind, fresh, push, cutOf};
 ghost use Rattle.token.specs.computed.Answer.{close};
-ghost use Rattle.token.specs.code.Gap.{closedOf, fourOpen, openings, lineEndAfter, blockEnd};
+ghost use Rattle.token.specs.code.Gap.{closedOf, fourOpen, openings};
 
 use crate::cursor::{Cursor, byte_at, two_at};
-
-/// What is kept of a gap while its pieces pass by.
-#[derive(Clone, Copy, Debug, PartialEq, Eq)]
-pub struct Gap {
-    pub newline: bool, // a line end of the gap came
-    pub comment: bool, // a comment came since its last line end
-    pub pending: bool, // a block comment came after a line end, and only blanks since
-    pub cut: bool, // the cut is set
-}
-
-impl Gap {
-    /// The gap's start.
-    pub fn new() -> Self
-        ensures { result ≡ fresh }
-    {
-        Gap {
-            newline: false,
-            comment: false,
-            pending: false,
-            cut: false,
-        }
-    }
-
-    /// After a line end more.
-    pub fn line_end(self) -> Gap
-        ensures { result ≡ push GapKind.lineEnd self }
-    {
-        Gap {
-            newline: true,
-            comment: false,
-            pending: false,
-            cut: self.cut,
-        }
-    }
-
-    /// After a line comment more.
-    pub fn line_comment(self) -> Gap
-        ensures { result ≡ push GapKind.lineComment self }
-    {
-        Gap {
-            newline: self.newline,
-            comment: true,
-            pending: false,
-            cut: self.cut || self.pending,
-        }
-    }
-
-    /// After a block comment more.
-    pub fn block_comment(self) -> Gap
-        ensures { result ≡ push GapKind.blockComment self }
-    {
-        Gap {
-            newline: self.newline,
-            comment: true,
-            pending: self.newline,
-            cut: self.cut || self.pending,
-        }
-    }
-
-    /// The cut of the token that ends the gap.
-    pub fn cut_of(self) -> bool
-        ensures { result ≡ cutOf self }
-    {
-        self.cut || self.pending
-    }
-}
+use crate::names::opens_with;
+use chars::runs::{InRange, NoneOf, run_end};
 
 // Does an LF or a CR LF stand at a place? Most bytes are above both.
 #[tactic(auto, using(crate::proofs::gap::Laws::line_ends))]
@@ -138,8 +73,24 @@ fn pass_openings(s: &[u8], at: usize) -> Nest
     Nest { at: i, depth }
 }
 
-// From inside a comment, with so many more open: past the outermost's end. What is neither `*` nor `/` is passed by eights first, since most
-// comments have no other mark inside.
+// From inside a comment: to its first `*` or `/`, since most comments have no mark inside but their end; or past the `/*` that stand there.
+#[inline(always)]
+fn first_mark(s: &[u8], at: usize) -> Nest
+    requires { at ≤ length s.now }
+    ensures within { result.at ≤ length s.now }
+    ensures depth_in { result.depth ≤ result.at }
+    ensures same { close result.depth 0 (from s.now result.at) ≡ close 0 0 (from s.now at) }
+{
+    if opens_with(byte_at(s, at)) {
+        return pass_openings(s, at);
+    }
+    Nest {
+        at: run_end::<NoneOf<b'*', b'/', b'*', b'/'>>(s, at),
+        depth: 0,
+    }
+}
+
+// From inside a comment, with so many more open: past the outermost's end.
 #[tactic(auto, using(crate::proofs::gap::Laws::block_turns))]
 fn close_block(s: &[u8], at: usize, inner: usize) -> Option<Cursor>
     requires some { 1 ≤ length s.now }
@@ -147,7 +98,7 @@ fn close_block(s: &[u8], at: usize, inner: usize) -> Option<Cursor>
     requires inner_in { inner ≤ at }
     ensures { result ≡ closedOf (length s.now) (close inner 0 (from s.now at)) }
 {
-    let mut i = chars::runs::skip_except_two(s, at, 0x2A, 0x2F);
+    let mut i = at;
     let mut depth = inner;
     let last = s.len() - 1;
     while i < last {
@@ -169,59 +120,27 @@ fn close_block(s: &[u8], at: usize, inner: usize) -> Option<Cursor>
 }
 
 impl Cursor {
-    /// Past the line comment that begins there, up to the line end or the end of script. What is above both line-end bytes is passed by eights.
+    /// Past the line comment that begins there, up to the line end or the end of script. What is above both line-end bytes goes first.
     #[tactic(auto, using(crate::proofs::gap::Laws::line_runs))]
     pub fn consume_line_comment(self, s: &[u8]) -> Cursor
         requires { (self.at ≤ length s.now) × (opensLine (from s.now self.at) ≡ true) }
         ensures { (result.at ≤ length s.now) × (from s.now result.at ≡ afterRun (λ t. not (endOfLine t)) (drop 2 (from s.now self.at))) }
     {
-        let mut i = chars::runs::skip_eights(s, self.at + 2, 0x0E, 0xFF);
-        while i < s.len() {
-            if line_ends_at(s, i) {
-                return Cursor { at: i };
-            }
+        let mut i = run_end::<InRange<0x0E, 0xFF>>(s, self.at + 2);
+        while i < s.len() && !line_ends_at(s, i) {
             i += 1;
         }
         Cursor { at: i }
     }
 
     /// Past the block comment that begins there; nothing, where it is open at the end of script. Nested ones are counted, so that any depth takes one pass and no stack.
+    #[inline(never)] // its loop has registers of its own then
     pub fn consume_block_comment(self, s: &[u8]) -> Option<Cursor>
         requires within { self.at ≤ length s.now }
         requires opens { opensBlock (from s.now self.at) ≡ true }
         ensures { result ≡ closedOf (length s.now) (close 0 0 (drop 2 (from s.now self.at))) }
     {
-        let nest = pass_openings(s, self.at + 2);
+        let nest = first_mark(s, self.at + 2);
         close_block(s, nest.at, nest.depth)
     }
-}
-
-/// Past the LF or CR LF that stands there; the place itself, where none does.
-#[tactic(auto, using(crate::proofs::gap::Laws::line_ends), unfolding(crate::specs::code::Gap::lineEndAfter))]
-pub fn line_end_at(s: &[u8], at: usize) -> usize
-    requires { at ≤ length s.now }
-    ensures { result ≡ lineEndAfter s.now at }
-{
-    let b = byte_at(s, at);
-    if b == b'\n' {
-        return at + 1;
-    }
-    if two_at(s, at, b'\r', b'\n') {
-        return at + 2;
-    }
-    at
-}
-
-/// Past the block comment that begins there; the place itself, where it is open at the end of script.
-#[tactic(auto, using(crate::proofs::gap::Scans::end_closed))]
-pub fn block_end(s: &[u8], at: usize) -> usize
-    requires within { at ≤ length s.now }
-    requires opens { opensBlock (from s.now at) ≡ true }
-    ensures { result ≡ blockEnd s.now at }
-{
-    let closed = Cursor { at }.consume_block_comment(s);
-    let Some(end) = closed else {
-        return at;
-    };
-    end.at
 }

@@ -1,11 +1,11 @@
 // Identifiers, operators and backticks. Document 01, "Piece table".
-ghost use Rattle.std.specs.Prelude.{◌≡◌, true, false, cond, ◌≤◌, length, drop};
+ghost use Rattle.std.specs.Prelude.{◌≡◌, true, false, ◌≤◌, length, drop};
 ghost use Rattle.chars.specs.paper.Classes.{isIdStart};
 ghost use Rattle.chars.specs.paper.Text.{from, headIs};
-ghost use Rattle.chars.specs.code.Text.{charEnd};
 ghost use Rattle.chars.specs.computed.Runs.{afterRun};
 ghost use Rattle.token.specs.paper.Tests.{isAny, opSign, freeSign, opensComment};
 ghost use Rattle.token.specs.computed.Answer.{afterIdent, orPrefixed, scanIdent, scanOperator, scanBacktick};
+ghost use Rattle.token.specs.code.Ident.{signEnd};
 ghost use Rattle.token.specs.code.Piece.{pieceOf};
 
 use crate::cursor::{Cursor, byte_at, two_at};
@@ -14,33 +14,32 @@ use crate::kinds::{TokenKind, keyword_of};
 use crate::piece::Piece;
 use crate::refusal::{Refusal, Refused};
 use crate::string::lex_prefixed_string;
+use chars::runs::{OneOf, run_end};
 
-// Where the operator sign at a place ends; the place itself, if none stands there. Past ASCII the one sign is U+21D2.
-fn sign_end(s: &[u8], at: usize) -> usize
-    ensures { result ≡ cond (opSign (from s.now at)) (charEnd s.now at) at }
+// Where the operator sign at a place ends; nothing, if none stands there. Past ASCII the one sign is U+21D2.
+fn sign_end(s: &[u8], at: usize) -> Option<usize>
+    ensures { result ≡ signEnd s.now at }
 {
     let b = byte_at(s, at);
     if 0x80 <= b {
         return wide_sign_end(s, at);
     }
     if chars::classes::is_op_byte(b) {
-        return at + 1;
+        return Some(at + 1);
     }
-    at
+    None
 }
 
 // The same by the character that stands there.
 #[tactic(auto, using(crate::proofs::cursor::Laws::step_within))]
-fn wide_sign_end(s: &[u8], at: usize) -> usize
-    ensures { result ≡ cond (opSign (from s.now at)) (charEnd s.now at) at }
+fn wide_sign_end(s: &[u8], at: usize) -> Option<usize>
+    ensures { result ≡ signEnd s.now at }
 {
-    let Some(here) = chars::text::char_at(s, at) else {
-        return at;
-    };
+    let here = chars::text::char_at(s, at)?;
     if chars::classes::is_op_char(here.code) {
-        return at + here.width;
+        return Some(at + here.width);
     }
-    at
+    None
 }
 
 // Past the operator signs that stand there; `//` stops none.
@@ -50,13 +49,10 @@ fn consume_signs(s: &[u8], c: Cursor) -> Cursor
     ensures rest { from s.now result.at ≡ afterRun opSign (from s.now c.at) }
 {
     let mut i = c.at;
-    loop {
-        let next = sign_end(s, i);
-        if next == i {
-            return Cursor { at: i };
-        }
+    while let Some(next) = sign_end(s, i) {
         i = next;
     }
+    Cursor { at: i }
 }
 
 /// Past an identifier's rest. Most have no underscore: then one run of id characters is all of it, and no chunks are counted.
@@ -77,27 +73,18 @@ fn consume_id_rest(s: &[u8], c: Cursor) -> Cursor
     requires { c.at ≤ length s.now }
     ensures { (result.at ≤ length s.now) × (from s.now result.at ≡ afterIdent false (from s.now c.at)) }
 {
-    let mut i = c.at;
-    let mut chunk = i;
-    'chunks: loop {
-        chunk = i;
-        loop {
-            if byte_at(s, i) == 0x5F {
-                i = chars::runs::skip_eights(s, i + 1, 0x5F, 0x5F);
-            } else {
-                let end = chars::classes::id_run_end(s, i);
-                if end == i {
-                    break 'chunks;
-                }
-                i = end;
-                break;
+    let mut chunk = c.at;
+    loop {
+        let behind = run_end::<OneOf<b'_', b'_'>>(s, chunk);
+        let end = chars::classes::id_run_end(s, behind);
+        if end == behind {
+            if behind == chunk {
+                return Cursor { at: chunk };
             }
+            return consume_signs(s, Cursor { at: behind });
         }
+        chunk = end;
     }
-    if chunk == i {
-        return Cursor { at: i };
-    }
-    consume_signs(s, Cursor { at: i })
 }
 
 /// Past the operator run that stands there; a comment's opening ends it.
@@ -107,16 +94,13 @@ pub fn consume_op_run(s: &[u8], c: Cursor) -> Cursor
     ensures rest { from s.now result.at ≡ afterRun freeSign (from s.now c.at) }
 {
     let mut d = c;
-    loop {
-        let next = sign_end(s, d.at);
-        if next == d.at {
-            return d;
-        }
+    while let Some(next) = sign_end(s, d.at) {
         if opens_comment(s, d) {
             return d;
         }
         d = Cursor { at: next };
     }
+    d
 }
 
 /// Does `//` or `/*` stand there?

@@ -11,7 +11,7 @@ mod string; // strings and escapes
 mod keyword; // keywords, by their bytes
 mod ident; // identifiers, operators and backticks
 mod charsym; // characters and symbols
-mod lexer; // one step over a script: the gap, then one token
+mod lexer; // one token, by its first byte
 pub mod form; // one record, stored and read back
 mod byte_class; // what a byte is, by a table
 mod names; // words and operators, recognised from their ASCII bytes

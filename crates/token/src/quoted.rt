@@ -1,5 +1,5 @@
 // Strings and backticks that are recognised from their bytes, as nearly all are. Each answers by the place where it ends; None says that it declines,
-// and `lexer::next_token` reads the token, or refuses it.
+// and `lexer::lex_token` reads the token, or refuses it.
 ghost use Rattle.std.specs.Prelude.{◌≡◌, true, ◌≤◌, ◌<◌, length};
 ghost use Rattle.chars.specs.paper.Quoted.{oneOf};
 ghost use Rattle.chars.specs.paper.Text.{from};
@@ -11,7 +11,8 @@ ghost use Rattle.token.specs.code.Quoted.{decimalEnd, unicodeEnd, codedEnd, esca
 use crate::byte_class::Class;
 use crate::cursor::{Cursor, byte_at, two_at};
 use crate::digits::is_digit;
-use crate::string::{consume_quotes, three_quotes};
+use crate::string::{consume_quotes, skip_ordinary, three_quotes};
+use chars::runs::{NoneOf, run_end};
 
 // Each of the following goes past an escape, from its backslash on; None, where it is refused.
 
@@ -118,12 +119,12 @@ fn item_end(s: &[u8], at: usize, b: u8, prefixed: bool) -> Option<usize>
     }
 }
 
-// Where the single string ends whose content begins there; None, where it is refused.
-fn single_end(s: &[u8], at: usize, prefixed: bool) -> Option<usize>
+// Where the single string ends whose content goes on there, whatever stands in it.
+fn items_end(s: &[u8], at: usize, prefixed: bool) -> Option<usize>
     requires { at ≤ length s.now }
     ensures { result ≡ closedTo s.now (closeSingle prefixed (from s.now at)) }
 {
-    let mut i = chars::runs::skip_except_four(s, at, 0x0A, 0x22, 0x24, 0x5C);
+    let mut i = at;
     while i < s.len() {
         let b = s[i];
         if Class::of(b).is_ordinary() {
@@ -135,6 +136,18 @@ fn single_end(s: &[u8], at: usize, prefixed: bool) -> Option<usize>
         }
     }
     None
+}
+
+// Where the single string ends whose content begins there; None, where it is refused. In most all is ordinary.
+fn single_end(s: &[u8], at: usize, prefixed: bool) -> Option<usize>
+    requires { at ≤ length s.now }
+    ensures { result ≡ closedTo s.now (closeSingle prefixed (from s.now at)) }
+{
+    let end = skip_ordinary(s, Cursor { at }).at;
+    if byte_at(s, end) == b'"' {
+        return Some(end + 1);
+    }
+    items_end(s, end, prefixed)
 }
 
 // Does a backslash stand there, or `${`?
@@ -196,15 +209,9 @@ pub fn backtick_end(s: &[u8], at: usize) -> Option<usize>
     requires { at < length s.now }
     ensures { result ≡ backtickEnd s.now at }
 {
-    let mut i = chars::runs::skip_except_two(s, at + 1, 0x60, 0x60);
-    while i < s.len() {
-        if s[i] == b'`' {
-            if i == at + 1 {
-                return None;
-            }
-            return Some(i + 1);
-        }
-        i += 1;
+    let end = run_end::<NoneOf<b'`', b'`', b'`', b'`'>>(s, at + 1);
+    if s.len() <= end || end == at + 1 {
+        return None;
     }
-    None
+    Some(end + 1)
 }

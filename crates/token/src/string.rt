@@ -5,7 +5,7 @@ ghost use Rattle.chars.specs.computed.Runs.{afterRun};
 ghost use Rattle.token.specs.paper.Tests.{isAny, quote, threeQuotes};
 ghost use Rattle.token.specs.computed.Answer.{closed, closeTriple, closeString, prefixedOf, scanString, plainContent};
 ghost use Rattle.token.specs.code.Piece.{pieceOf};
-ghost use Rattle.token.specs.code.String.{endedOf, escapeOf, hexesOf, isOrdinary, dollarOf, closeSingle, singleItem, tripleItem, lastOff, spanKind, eightsOff, eightsTaken};
+ghost use Rattle.token.specs.code.String.{endedOf, escapeOf, hexesOf, isOrdinary, dollarOf, closeSingle, singleItem, tripleItem, lastOff, spanKind, blocksOff, blocksTaken};
 ghost use Rattle.chars.specs.promises.Texts.{Suffix};
 
 use crate::cursor::{Cursor, byte_at, two_at};
@@ -13,6 +13,7 @@ use crate::digits::consume_digits;
 use crate::kinds::TokenKind;
 use crate::piece::Piece;
 use crate::refusal::{Refusal, Refused};
+use chars::runs::{NoneOf, OneOf, block_at, run_end};
 
 /// A string's content: where it starts and ends.
 #[derive(Clone, Copy, Debug, PartialEq, Eq)]
@@ -78,10 +79,10 @@ fn is_ordinary(b: u8) -> bool
     }
 }
 
-// Past the ordinary characters that stand there. A byte of 0x80 or more is never one of the four others, so no character is decoded. Most strings
-// are read by `quoted`, eights of bytes first; this is for those that it declines.
+/// Past the ordinary characters that stand there. A byte of 0x80 or more is never one of the four others, so no character is decoded.
 #[tactic(auto, using(crate::proofs::string::Laws::skip_run))]
-fn skip_ordinary(s: &[u8], c: Cursor) -> Cursor
+#[inline(always)]
+pub fn skip_ordinary(s: &[u8], c: Cursor) -> Cursor
     requires { c.at ≤ length s.now }
     ensures { (c.at ≤ result.at) × (result.at ≤ length s.now) × (from s.now result.at ≡ afterRun (headIs isOrdinary) (from s.now c.at)) }
 {
@@ -89,14 +90,9 @@ fn skip_ordinary(s: &[u8], c: Cursor) -> Cursor
     if !is_ordinary(byte_at(s, at)) {
         return c;
     }
-    let mut i = at;
-    while i < s.len() {
-        if !is_ordinary(s[i]) {
-            return Cursor { at: i };
-        }
-        i += 1;
+    Cursor {
+        at: run_end::<NoneOf<b'\n', b'"', b'$', b'\\'>>(s, at),
     }
-    Cursor { at: i }
 }
 
 // Past a `$` in a prefixed string, unless `{` follows.
@@ -165,19 +161,13 @@ pub fn three_quotes(s: &[u8], at: usize) -> bool
 }
 
 /// Past all quotes that stand there.
-#[tactic(auto, using(crate::proofs::string::Laws::quote_run))]
 pub fn consume_quotes(s: &[u8], c: Cursor) -> Cursor
     requires { c.at ≤ length s.now }
     ensures { (result.at ≤ length s.now) × (from s.now result.at ≡ afterRun quote (from s.now c.at)) }
 {
-    let mut i = chars::runs::skip_eights(s, c.at, 0x22, 0x22);
-    while i < s.len() {
-        if s[i] != 0x22 {
-            return Cursor { at: i };
-        }
-        i += 1;
+    Cursor {
+        at: run_end::<OneOf<b'"', b'"'>>(s, c.at),
     }
-    Cursor { at: i }
 }
 
 // One step in a triple string, where no three quotes close it.
@@ -246,33 +236,30 @@ fn last_off(s: &[u8], start: usize, end: usize) -> usize
     end
 }
 
-// Are the first eight bytes and the last eight of the text from `start` to `end` quotes, sixteen in all?
-#[tactic(auto, unfolding(crate::specs::code::String::eightsOff))]
-fn eights_off(s: &[u8], start: usize, end: usize) -> bool
+// Are the first sixteen bytes and the last sixteen of the text from `start` to `end` quotes, thirty-two in all?
+#[tactic(auto, unfolding(crate::specs::code::String::blocksOff))]
+fn blocks_off(s: &[u8], start: usize, end: usize) -> bool
     requires order { start ≤ end }
     requires within { end ≤ length s.now }
-    ensures { result ≡ eightsOff s.now start end }
+    ensures { result ≡ blocksOff s.now start end }
 {
-    if end - start < 16 {
-        return false;
-    }
-    if chars::runs::eight_in(s, start, 0x22, 0x22) {
-        return chars::runs::eight_in(s, end - 8, 0x22, 0x22);
-    }
-    false
+    32 <= end - start
+        && block_at::<OneOf<b'"', b'"'>>(s, start)
+        && block_at::<OneOf<b'"', b'"'>>(s, end - 16)
 }
 
-// The quotes at both ends of a string taken off by eights: what is left has the same content.
-#[tactic(auto, using(crate::proofs::string::Strips::eights_apart))]
-fn strip_eights(s: &[u8], start: usize, end: usize) -> Span
-    requires { (start ≤ end) × (end ≤ length s.now) }
-    ensures { result ≡ eightsTaken s.now start end }
+// The quotes at both ends of a string taken off by sixteens: what is left has the same content.
+#[tactic(auto, using(crate::proofs::string::Strips::blocks_apart))]
+fn strip_blocks(s: &[u8], start: usize, end: usize) -> Span
+    requires order { start ≤ end }
+    requires within { end ≤ length s.now }
+    ensures { result ≡ blocksTaken s.now start end }
 {
     let mut a = start;
     let mut b = end;
-    while eights_off(s, a, b) {
-        a += 8;
-        b -= 8;
+    while blocks_off(s, a, b) {
+        a += 16;
+        b -= 16;
     }
     Span { start: a, end: b }
 }
@@ -285,7 +272,7 @@ fn strip_many(s: &[u8], start: usize, end: usize) -> Span
     requires suffix { Suffix (from s.now end) (from s.now start) }
     ensures { spanKind result ≡ plainContent (length s.now) (from s.now start) (from s.now end) }
 {
-    let left = strip_eights(s, start, end);
+    let left = strip_blocks(s, start, end);
     let mut a = left.start;
     let mut b = left.end;
     while a < b {

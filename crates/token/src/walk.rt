@@ -1,25 +1,28 @@
-// The walk over what is recognised from its bytes, as nearly everything is: each record is stored where it fits. Where something else stands, and at
-// the end, it stops, and `lexer::next_token` reads on.
-ghost use Rattle.std.specs.Prelude.{◌≡◌, true, false, cond, List, ℕ, ◌+◌, ◌≤◌, ◌<◌, eqb, length, IfSome, IfNone};
+// One walk over a script, to its end or to what is refused: each piece is read where it stands, and each token's record is stored where it fits.
+ghost use Rattle.std.specs.Prelude.{◌≡◌, true, false, cond, List, ℕ, ◌+◌, ◌≤◌, ◌<◌, eqb, length, Err, IfOk, IfErr, IfSome, IfNone};
 ghost use Rattle.chars.specs.paper.Text.{from};
-ghost use Rattle.token.specs.paper.Tests.{opensBlock, opensComment};
+ghost use Rattle.token.specs.paper.Tests.{isAny, opensBlock, opensComment};
 ghost use Rattle.token.specs.paper.Records.{mostBytes, headLength, lineLength};
-ghost use Rattle.token.specs.code.Records.{storedIf};
+ghost use Rattle.token.specs.computed.Answer.{scan};
+ghost use Rattle.token.specs.code.Records.{storedIf, measuredFrom, storedFrom};
 ghost use Rattle.token.specs.code.Form.{byForm, plainForm};
 ghost use Rattle.token.specs.code.ByteClass.{classAt, blankClass, digitClass, lfClass, crClass, tickClass, keywordClass, upToBlank, isSign, inWord};
 ghost use Rattle.token.specs.code.Names.{hereOf};
-ghost use Rattle.token.specs.code.Walk.{movedTo, plainBehind, valuesBehind, lineBehind, commentBehind, nameNumber, prefixEnd, operatorNumber, beginsName, Good, LeftTo, Opens, Steps};
+ghost use Rattle.token.specs.code.Piece.{pieceOf};
+ghost use Rattle.token.specs.code.Walk.{beginning, movedTo, plainBehind, valuesBehind, lineBehind, commentBehind, blockBehind, nameNumber, prefixEnd, operatorNumber, beginsName, stateAt, Good, LeftTo, Opens, Refuses, Steps};
 
 use crate::byte_class::Class;
 use crate::charsym::lex_char_sym;
 use crate::cursor::{Cursor, byte_at, skip_more};
 use crate::digits::{digit_value, lex_number};
-use crate::form::{put_head_if, put_int_if, put_line_if, put_long_if, put_plain_if, put_str_if};
-use crate::gap::{block_end, line_end_at};
+use crate::form::{put_head_if, put_if, put_record};
 use crate::keyword::{run_number, word_number};
-use crate::kinds::TokenKind;
+use crate::kinds::{Form, TokenKind};
+use crate::lexer::lex_token;
 use crate::names::{Here, here_at, name_end, opens_with, operator_end, run_end, word_end};
+use crate::piece::Piece;
 use crate::quoted::{backtick_end, string_at};
+use crate::refusal::{Refusal, Refused};
 
 const HEAD: usize = TokenKind::HEAD_LENGTH as usize;
 
@@ -31,24 +34,42 @@ const INT: usize = TokenKind::INT_LIT_LENGTH as usize;
 
 const LONG: usize = TokenKind::LONG_LIT_LENGTH as usize;
 
-/// Where a walk stands, while no cut is set and none may come: its place with the class of its byte, the record bytes so far, and how many of them are
-/// values. `line` and `mark` are what `bytes` was just behind the last line end and the last comment: these came since the last token exactly if it
-/// is so still. So a token changes neither.
+/// Where a walk stands: its place with the class of its byte, the record bytes so far, and how many of them are values. `line` and `mark` are what
+/// `bytes` was just behind the last line end and the last comment: these came since the last token exactly if it is so still, so a token changes
+/// neither. `cut` is set, where the token that ends the gap there has the cut.
 #[derive(Clone, Copy, Debug, PartialEq, Eq)]
-pub struct Walked {
+pub struct Stand {
     pub at: usize,
     pub class: Class,
     pub bytes: usize,
     pub values: usize,
     pub line: usize,
     pub mark: usize,
+    pub cut: bool,
+}
+
+impl Stand {
+    /// At the start of a script. No line end and no comment came, for which one byte too many stands.
+    pub fn start(s: &[u8]) -> Stand
+        ensures { result ≡ beginning s.now }
+    {
+        Stand {
+            at: 0,
+            class: Class::at(s, 0),
+            bytes: 0,
+            values: 0,
+            line: 1,
+            mark: 1,
+            cut: false,
+        }
+    }
 }
 
 // At another place, behind blanks.
-fn at_place(x: Walked, to: Here) -> Walked
+fn at_place(x: Stand, to: Here) -> Stand
     ensures { result ≡ movedTo x to }
 {
-    Walked {
+    Stand {
         at: to.at,
         class: to.class,
         ..x
@@ -56,41 +77,43 @@ fn at_place(x: Walked, to: Here) -> Walked
 }
 
 // Behind a token without values.
-fn behind(x: Walked, end: Here) -> Walked
+fn behind(x: Stand, end: Here) -> Stand
     requires { x.bytes + headLength ≤ 18446744073709551615 }
     ensures { result ≡ plainBehind x end }
 {
-    Walked {
+    Stand {
         at: end.at,
         class: end.class,
         bytes: x.bytes + HEAD,
+        cut: false,
         ..x
     }
 }
 
 // Behind a token with values, whose record has this length.
-fn behind_values(x: Walked, end: Here, length: usize) -> Walked
+fn behind_values(x: Stand, end: Here, length: usize) -> Stand
     requires some { headLength ≤ length }
     requires room { x.bytes + length ≤ 18446744073709551615 }
     requires values { x.values ≤ x.bytes }
     ensures { result ≡ valuesBehind x end length }
 {
-    Walked {
+    Stand {
         at: end.at,
         class: end.class,
         bytes: x.bytes + length,
         values: x.values + (length - HEAD),
+        cut: false,
         ..x
     }
 }
 
 // Behind a line end.
-fn behind_line(s: &[u8], x: Walked, end: usize) -> Walked
+fn behind_line(s: &[u8], x: Stand, end: usize) -> Stand
     requires room { x.bytes + lineLength ≤ 18446744073709551615 }
     requires values { x.values ≤ x.bytes }
     ensures { result ≡ lineBehind s.now x end }
 {
-    Walked {
+    Stand {
         at: end,
         class: Class::at(s, end),
         bytes: x.bytes + LINE,
@@ -100,11 +123,11 @@ fn behind_line(s: &[u8], x: Walked, end: usize) -> Walked
     }
 }
 
-// Behind a comment that no cut comes of.
-fn behind_comment(s: &[u8], x: Walked, end: usize) -> Walked
+// Behind a comment that no cut comes of; or past blanks behind it.
+fn behind_comment(s: &[u8], x: Stand, end: usize) -> Stand
     ensures { result ≡ commentBehind s.now x end }
 {
-    Walked {
+    Stand {
         at: end,
         class: Class::at(s, end),
         mark: x.bytes,
@@ -116,7 +139,7 @@ fn behind_comment(s: &[u8], x: Walked, end: usize) -> Walked
 // nothing then.
 
 // Past the blank that stands there and those behind it. Most blanks stand alone.
-fn blank_step(s: &[u8], x: Walked) -> Walked
+fn blank_step(s: &[u8], x: Stand) -> Stand
     requires short { length s.now ≤ mostBytes }
     requires good { Good s.now x }
     requires blank { eqb x.class.number blankClass ≡ true }
@@ -138,7 +161,7 @@ fn blank_step(s: &[u8], x: Walked) -> Walked
 }
 
 // One of the nine signs.
-fn sign_step(out: &mut [u8], s: &[u8], x: Walked) -> Walked
+fn sign_step(out: &mut [u8], s: &[u8], x: Stand) -> Stand
     requires short { length s.now ≤ mostBytes }
     requires good { Good s.now x }
     requires sign { upToBlank x.class.number ≡ true }
@@ -146,77 +169,92 @@ fn sign_step(out: &mut [u8], s: &[u8], x: Walked) -> Walked
     ensures on { Steps s.now x out.old result out.new }
     ensures further { result.at ≡ x.at + 1 }
 {
-    put_head_if(out, x.bytes, x.class.sign_head(), x.at, x.at + 1);
+    put_head_if(out, x.bytes, x.class.sign_head(), x.at, x.at + 1, x.cut);
     behind(x, here_at(s, x.at + 1))
 }
 
 // An LF.
-fn line_step(out: &mut [u8], s: &[u8], x: Walked) -> Walked
+fn line_step(out: &mut [u8], s: &[u8], x: Stand) -> Stand
     requires short { length s.now ≤ mostBytes }
     requires good { Good s.now x }
     requires lf { eqb x.class.number lfClass ≡ true }
     ensures on { Steps s.now x out.old result out.new }
     ensures further { result.at ≡ x.at + 1 }
 {
-    put_line_if(out, x.bytes, x.at, x.at + 1, x.mark == x.bytes);
+    let form = Form::line(x.mark == x.bytes);
+    put_if(out, x.bytes, form, x.at, x.at + 1, false);
     behind_line(s, x, x.at + 1)
 }
 
-// CR LF.
-fn return_step(out: &mut [u8], s: &[u8], x: Walked) -> Option<Walked>
+// A CR: a line end before an LF, else refused.
+fn return_step(out: &mut [u8], s: &[u8], x: Stand) -> Result<Stand, Refused>
     requires short { length s.now ≤ mostBytes }
     requires good { Good s.now x }
     requires cr { eqb x.class.number crClass ≡ true }
-    ensures on { IfSome result (λ y. Steps s.now x out.old y out.new) }
-    ensures further { IfSome result (λ y. x.at < y.at) }
-    ensures kept { IfNone result (out.new ≡ out.old) }
+    ensures on { IfOk result (λ y. Steps s.now x out.old y out.new) }
+    ensures further { IfOk result (λ y. x.at < y.at) }
+    ensures refused { IfErr result (λ e. Refuses s.now x out.old e) }
+    ensures kept { IfErr result (λ e. out.new ≡ out.old) }
 {
     if byte_at(s, x.at + 1) != b'\n' {
-        return None;
+        return Err(Refused {
+            what: Refusal::LoneCr,
+            place: x.at,
+        });
     }
-    put_line_if(out, x.bytes, x.at, x.at + 2, x.mark == x.bytes);
-    Some(behind_line(s, x, x.at + 2))
+    let form = Form::line(x.mark == x.bytes);
+    put_if(out, x.bytes, form, x.at, x.at + 2, false);
+    Ok(behind_line(s, x, x.at + 2))
 }
 
-// A block comment. Where a line end of its gap came, a cut may come of it, unless a line end follows past blanks, which is then passed too.
-fn block_step(out: &mut [u8], s: &[u8], x: Walked) -> Option<Walked>
+// Behind a block comment and the blanks after it, where a line end of its gap came: the cut comes of it, unless a line end follows.
+fn behind_block(s: &[u8], x: Stand, end: usize) -> Stand
+    ensures { result ≡ blockBehind s.now x end }
+{
+    let y = behind_comment(s, x, end);
+    Stand {
+        cut: x.cut || !y.class.in_line_end(),
+        ..y
+    }
+}
+
+// A block comment.
+fn block_step(s: &[u8], x: Stand) -> Result<Stand, Refused>
     requires short { length s.now ≤ mostBytes }
     requires good { Good s.now x }
     requires opened { opensBlock (from s.now x.at) ≡ true }
-    ensures on { IfSome result (λ y. Steps s.now x out.old y out.new) }
-    ensures further { IfSome result (λ y. x.at < y.at) }
-    ensures kept { IfNone result (out.new ≡ out.old) }
+    ensures on { IfOk result (λ y. (out : List ℕ) → Steps s.now x out y out) }
+    ensures further { IfOk result (λ y. x.at < y.at) }
+    ensures refused { IfErr result (λ e. (out : List ℕ) → Refuses s.now x out e) }
 {
-    let end = block_end(s, x.at);
-    if end == x.at {
-        return None;
-    }
+    let closed = Cursor { at: x.at }.consume_block_comment(s);
+    let Some(end) = closed else {
+        return Err(Refused {
+            what: Refusal::OpenComment,
+            place: x.at,
+        });
+    };
     if x.line != x.bytes {
-        return Some(behind_comment(s, x, end));
+        return Ok(behind_comment(s, x, end.at));
     }
-    let c = Cursor { at: end }.skip_blanks(s);
-    let next = line_end_at(s, c.at);
-    if next == c.at {
-        return None;
-    }
-    put_line_if(out, x.bytes, c.at, next, true);
-    Some(behind_line(s, x, next))
+    let c = end.skip_blanks(s);
+    Ok(behind_block(s, x, c.at))
 }
 
 // A comment.
-fn comment_step(out: &mut [u8], s: &[u8], x: Walked) -> Option<Walked>
+fn comment_step(s: &[u8], x: Stand) -> Result<Stand, Refused>
     requires short { length s.now ≤ mostBytes }
     requires good { Good s.now x }
     requires opened { opensComment (from s.now x.at) ≡ true }
-    ensures on { IfSome result (λ y. Steps s.now x out.old y out.new) }
-    ensures further { IfSome result (λ y. x.at < y.at) }
-    ensures kept { IfNone result (out.new ≡ out.old) }
+    ensures on { IfOk result (λ y. (out : List ℕ) → Steps s.now x out y out) }
+    ensures further { IfOk result (λ y. x.at < y.at) }
+    ensures refused { IfErr result (λ e. (out : List ℕ) → Refuses s.now x out e) }
 {
     if byte_at(s, x.at + 1) == b'/' {
         let end = Cursor { at: x.at }.consume_line_comment(s);
-        return Some(behind_comment(s, x, end.at));
+        return Ok(behind_comment(s, x, end.at));
     }
-    block_step(out, s, x)
+    block_step(s, x)
 }
 
 // Does a comment begin with the byte of this class at a place?
@@ -242,18 +280,19 @@ fn operator_number(s: &[u8], at: usize, end: Here) -> u16
 }
 
 // Stores an operator's record, where it fits: its keyword is looked for there only.
-fn put_run_if(out: &mut [u8], s: &[u8], w: usize, at: usize, end: Here)
-    requires left { LeftTo s.now at end.at }
-    requires room { w + headLength ≤ 18446744073709551615 }
-    ensures { out.new ≡ storedIf out.old w (byForm (plainForm (operatorNumber s.now at end)) at end.at false) }
+fn put_run_if(out: &mut [u8], s: &[u8], x: Stand, end: Here)
+    requires left { LeftTo s.now x.at end.at }
+    requires room { x.bytes + headLength ≤ 18446744073709551615 }
+    ensures { out.new ≡ storedIf out.old x.bytes (byForm (plainForm (operatorNumber s.now x.at end)) x.at end.at x.cut) }
 {
-    if w + HEAD <= out.len() {
-        put_plain_if(out, w, operator_number(s, at, end), at, end.at);
+    if x.bytes + HEAD <= out.len() {
+        let form = Form::plain(operator_number(s, x.at, end));
+        put_record(out, x.bytes, form, x.at, end.at, x.cut);
     }
 }
 
 // An operator.
-fn run_step(out: &mut [u8], s: &[u8], x: Walked) -> Option<Walked>
+fn run_step(out: &mut [u8], s: &[u8], x: Stand) -> Option<Stand>
     requires short { length s.now ≤ mostBytes }
     requires good { Good s.now x }
     requires sign { isSign x.class.number ≡ true }
@@ -263,27 +302,12 @@ fn run_step(out: &mut [u8], s: &[u8], x: Walked) -> Option<Walked>
     ensures kept { IfNone result (out.new ≡ out.old) }
 {
     let end = operator_end(s, x.at + 1)?;
-    put_run_if(out, s, x.bytes, x.at, end);
+    put_run_if(out, s, x, end);
     Some(behind(x, end))
 }
 
-// An operator, or a comment.
-fn op_step(out: &mut [u8], s: &[u8], x: Walked) -> Option<Walked>
-    requires short { length s.now ≤ mostBytes }
-    requires good { Good s.now x }
-    requires sign { isSign x.class.number ≡ true }
-    ensures on { IfSome result (λ y. Steps s.now x out.old y out.new) }
-    ensures further { IfSome result (λ y. x.at < y.at) }
-    ensures kept { IfNone result (out.new ≡ out.old) }
-{
-    if is_comment(s, x.class, x.at) {
-        return comment_step(out, s, x);
-    }
-    run_step(out, s, x)
-}
-
 // A number of one digit, as many are.
-fn digit_step(out: &mut [u8], s: &[u8], x: Walked, end: Here) -> Walked
+fn digit_step(out: &mut [u8], s: &[u8], x: Stand, end: Here) -> Stand
     requires short { length s.now ≤ mostBytes }
     requires good { Good s.now x }
     requires digit { eqb x.class.number digitClass ≡ true }
@@ -292,12 +316,13 @@ fn digit_step(out: &mut [u8], s: &[u8], x: Walked, end: Here) -> Walked
     ensures on { Steps s.now x out.old result out.new }
     ensures further { result.at ≡ x.at + 1 }
 {
-    put_int_if(out, x.bytes, x.at, end.at, digit_value(s, x.at));
+    let form = Form::int(digit_value(s, x.at));
+    put_if(out, x.bytes, form, x.at, end.at, x.cut);
     behind_values(x, end, INT)
 }
 
-// A number, by what was read.
-fn number_step(out: &mut [u8], s: &[u8], x: Walked) -> Option<Walked>
+// A number; None, where it is refused.
+fn number_step(out: &mut [u8], s: &[u8], x: Stand) -> Option<Stand>
     requires short { length s.now ≤ mostBytes }
     requires good { Good s.now x }
     requires digit { eqb x.class.number digitClass ≡ true }
@@ -315,11 +340,13 @@ fn number_step(out: &mut [u8], s: &[u8], x: Walked) -> Option<Walked>
     };
     match kind {
         TokenKind::IntLit(v) => {
-            put_int_if(out, x.bytes, x.at, end.at, v as u64);
+            let form = Form::int(v as u64);
+            put_if(out, x.bytes, form, x.at, end.at, x.cut);
             Some(behind_values(x, here_at(s, end.at), INT))
         }
         TokenKind::LongLit(v) => {
-            put_long_if(out, x.bytes, x.at, end.at, v);
+            let form = Form::long(v);
+            put_if(out, x.bytes, form, x.at, end.at, x.cut);
             Some(behind_values(x, here_at(s, end.at), LONG))
         }
         _ => None,
@@ -327,7 +354,7 @@ fn number_step(out: &mut [u8], s: &[u8], x: Walked) -> Option<Walked>
 }
 
 // A character or a symbol.
-fn char_sym_step(out: &mut [u8], s: &[u8], x: Walked) -> Option<Walked>
+fn char_sym_step(out: &mut [u8], s: &[u8], x: Stand) -> Option<Stand>
     requires short { length s.now ≤ mostBytes }
     requires good { Good s.now x }
     requires tick { eqb x.class.number tickClass ≡ true }
@@ -341,7 +368,8 @@ fn char_sym_step(out: &mut [u8], s: &[u8], x: Walked) -> Option<Walked>
     };
     match kind {
         TokenKind::CharSym => {
-            put_plain_if(out, x.bytes, TokenKind::CHAR_SYM, x.at, end.at);
+            let form = Form::plain(TokenKind::CHAR_SYM);
+            put_if(out, x.bytes, form, x.at, end.at, x.cut);
             Some(behind(x, here_at(s, end.at)))
         }
         _ => None,
@@ -364,13 +392,14 @@ fn name_number(s: &[u8], class: Class, at: usize, end: usize) -> u16
 }
 
 // Stores a word's record, where it fits: its keyword is looked for there only.
-fn put_word_if(out: &mut [u8], s: &[u8], class: Class, w: usize, at: usize, end: usize)
-    requires left { eqb class.number keywordClass ≡ true → LeftTo s.now at end }
-    requires room { w + headLength ≤ 18446744073709551615 }
-    ensures { out.new ≡ storedIf out.old w (byForm (plainForm (nameNumber s.now class.number at end)) at end false) }
+fn put_word_if(out: &mut [u8], s: &[u8], x: Stand, end: usize)
+    requires left { eqb x.class.number keywordClass ≡ true → LeftTo s.now x.at end }
+    requires room { x.bytes + headLength ≤ 18446744073709551615 }
+    ensures { out.new ≡ storedIf out.old x.bytes (byForm (plainForm (nameNumber s.now x.class.number x.at end)) x.at end x.cut) }
 {
-    if w + HEAD <= out.len() {
-        put_plain_if(out, w, name_number(s, class, at, end), at, end);
+    if x.bytes + HEAD <= out.len() {
+        let form = Form::plain(name_number(s, x.class, x.at, end));
+        put_record(out, x.bytes, form, x.at, end, x.cut);
     }
 }
 
@@ -401,7 +430,7 @@ fn content_off(prefixed: bool, quotes: usize) -> usize
 }
 
 // A string whose opening stands at `mark`, plain or prefixed by what stands before it.
-fn string_step(out: &mut [u8], s: &[u8], x: Walked, mark: usize) -> Option<Walked>
+fn string_step(out: &mut [u8], s: &[u8], x: Stand, mark: usize) -> Option<Stand>
     requires short { length s.now ≤ mostBytes }
     requires good { Good s.now x }
     requires opened { Opens s.now x mark }
@@ -412,12 +441,13 @@ fn string_step(out: &mut [u8], s: &[u8], x: Walked, mark: usize) -> Option<Walke
     let prefixed = x.at < mark;
     let string = string_at(s, mark, prefixed)?;
     let off = content_off(prefixed, string.quotes);
-    put_str_if(out, x.bytes, x.at, string.end, x.at + off, string.end - off);
+    let form = Form::span(x.at + off, string.end - off);
+    put_if(out, x.bytes, form, x.at, string.end, x.cut);
     Some(behind_values(x, here_at(s, string.end), TEXT))
 }
 
 // An identifier, keyword or backtick, or a string, prefixed by one or plain.
-fn name_step(out: &mut [u8], s: &[u8], x: Walked) -> Option<Walked>
+fn name_step(out: &mut [u8], s: &[u8], x: Stand) -> Option<Stand>
     requires short { length s.now ≤ mostBytes }
     requires good { Good s.now x }
     requires begins { beginsName x.class.number ≡ true }
@@ -430,7 +460,7 @@ fn name_step(out: &mut [u8], s: &[u8], x: Walked) -> Option<Walked>
     if end.class == Class::QUOTE && number <= TokenKind::BACKTICK_ID {
         return string_step(out, s, x, end.at);
     }
-    put_plain_if(out, x.bytes, number, x.at, end.at);
+    put_if(out, x.bytes, Form::plain(number), x.at, end.at, x.cut);
     Some(behind(x, end))
 }
 
@@ -441,19 +471,17 @@ fn begins_name(class: Class) -> bool
     class == Class::BACKTICK || class == Class::QUOTE || !class.is_sign() && class.starts_word()
 }
 
-// The others, each by its class; and words and operators again, of which the byte behind them makes more.
-fn other_step(out: &mut [u8], s: &[u8], x: Walked) -> Option<Walked>
+// A piece that is recognised from its bytes; None, where none is.
+fn quick_step(out: &mut [u8], s: &[u8], x: Stand) -> Option<Stand>
     requires short { length s.now ≤ mostBytes }
     requires good { Good s.now x }
+    requires no_comment { opensComment (from s.now x.at) ≡ false }
     ensures on { IfSome result (λ y. Steps s.now x out.old y out.new) }
     ensures further { IfSome result (λ y. x.at < y.at) }
     ensures kept { IfNone result (out.new ≡ out.old) }
 {
     if x.class.is_op() {
-        return op_step(out, s, x);
-    }
-    if x.class == Class::CR {
-        return return_step(out, s, x);
+        return run_step(out, s, x);
     }
     if x.class == Class::TICK {
         return char_sym_step(out, s, x);
@@ -464,8 +492,29 @@ fn other_step(out: &mut [u8], s: &[u8], x: Walked) -> Option<Walked>
     None
 }
 
+// A token that was read there: its record is stored, where it fits, or it is refused.
+fn put_piece(out: &mut [u8], s: &[u8], x: Stand, piece: Piece) -> Result<Stand, Refused>
+    requires short { length s.now ≤ mostBytes }
+    requires good { Good s.now x }
+    requires within { x.at < length s.now }
+    requires no_gap { isAny " \t\n\r" (from s.now x.at) ≡ false }
+    requires no_comment { opensComment (from s.now x.at) ≡ false }
+    requires piece_is { piece ≡ pieceOf (length s.now) (scan (length s.now) (from s.now x.at)) }
+    ensures on { IfOk result (λ y. Steps s.now x out.old y out.new) }
+    ensures further { IfOk result (λ y. x.at < y.at) }
+    ensures refused { IfErr result (λ e. Refuses s.now x out.old e) }
+    ensures kept { IfErr result (λ e. out.new ≡ out.old) }
+{
+    let Ok((kind, end)) = piece else {
+        return Err(piece.unwrap_err());
+    };
+    let form = kind.form();
+    put_if(out, x.bytes, form, x.at, end.at, x.cut);
+    Ok(behind_values(x, here_at(s, end.at), form.length as usize))
+}
+
 // As far as blanks, signs, words, LFs, runs of operator signs and numbers stand there of which no byte behind them makes more, as most pieces are.
-fn walk_words(out: &mut [u8], s: &[u8], start: Walked) -> Walked
+fn walk_words(out: &mut [u8], s: &[u8], start: Stand) -> Stand
     requires short { length s.now ≤ mostBytes }
     requires good { Good s.now start }
     ensures { Steps s.now start out.old result out.new }
@@ -481,7 +530,7 @@ fn walk_words(out: &mut [u8], s: &[u8], start: Walked) -> Walked
             if end.class.asks_more() {
                 return x;
             }
-            put_word_if(out, s, x.class, x.bytes, x.at, end.at);
+            put_word_if(out, s, x, end.at);
             x = behind(x, end);
         } else if x.class == Class::LF {
             x = line_step(out, s, x);
@@ -490,7 +539,7 @@ fn walk_words(out: &mut [u8], s: &[u8], start: Walked) -> Walked
             if end.class.asks_more() {
                 return x;
             }
-            put_run_if(out, s, x.bytes, x.at, end);
+            put_run_if(out, s, x, end);
             x = behind(x, end);
         } else if x.class == Class::DIGIT {
             let Some(y) = number_step(out, s, x) else {
@@ -503,18 +552,50 @@ fn walk_words(out: &mut [u8], s: &[u8], start: Walked) -> Walked
     }
 }
 
-/// The same, and between them every other piece that is recognised from its bytes.
-pub fn walk_pieces(out: &mut [u8], s: &[u8], start: Walked) -> Walked
+// Another token, by the reader of its kind.
+fn token_step(out: &mut [u8], s: &[u8], x: Stand) -> Result<Stand, Refused>
+    requires short { length s.now ≤ mostBytes }
+    requires good { Good s.now x }
+    requires within { x.at < length s.now }
+    requires no_gap { isAny " \t\n\r" (from s.now x.at) ≡ false }
+    requires no_comment { opensComment (from s.now x.at) ≡ false }
+    ensures on { IfOk result (λ y. Steps s.now x out.old y out.new) }
+    ensures further { IfOk result (λ y. x.at < y.at) }
+    ensures refused { IfErr result (λ e. Refuses s.now x out.old e) }
+    ensures kept { IfErr result (λ e. out.new ≡ out.old) }
+{
+    let piece = lex_token(s, Cursor { at: x.at });
+    put_piece(out, s, x, piece)
+}
+
+/// To the end of script, or to what is refused. While no cut is set, as nearly always, words and all that is as short go in a loop of their own.
+pub fn walk(out: &mut [u8], s: &[u8], start: Stand) -> Result<Stand, Refused>
     requires short { length s.now ≤ mostBytes }
     requires good { Good s.now start }
-    ensures { Steps s.now start out.old result out.new }
+    ensures on { IfOk result (λ y. Steps s.now start out.old y out.new) }
+    ensures ended { IfOk result (λ y. y.at ≡ length s.now) }
+    ensures refused { IfErr result (λ e. measuredFrom s.now (stateAt start) ≡ Err e) }
+    ensures out_after { IfErr result (λ e. out.new ≡ storedFrom s.now (stateAt start) out.old) }
 {
     let mut x = start;
     loop {
-        let y = walk_words(out, s, x);
-        let Some(z) = other_step(out, s, y) else {
-            return y;
+        if !x.cut {
+            x = walk_words(out, s, x);
+        }
+        x = if is_comment(s, x.class, x.at) {
+            comment_step(s, x)?
+        } else if x.class == Class::CR {
+            return_step(out, s, x)?
+        } else if let Some(y) = quick_step(out, s, x) {
+            y
+        } else if x.class == Class::BLANK {
+            blank_step(s, x)
+        } else if x.class == Class::LF {
+            line_step(out, s, x)
+        } else if x.at < s.len() {
+            token_step(out, s, x)?
+        } else {
+            return Ok(x);
         };
-        x = z;
     }
 }

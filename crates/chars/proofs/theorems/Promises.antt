@@ -29,7 +29,7 @@ use Rattle.chars.proofs.Carry as carries
 use Rattle.chars.proofs.classes.Laws as classes
 use Rattle.chars.proofs.classes.Cyrillic as letters
 use Rattle.chars.proofs.classes.IdRuns as runs
-use Rattle.chars.proofs.runs.Laws as eights
+use Rattle.chars.proofs.runs.Eights as eights
 use Rattle.chars.proofs.classes.Ranges as ranges
 
 abbrev allAscend : List (List Range) → Bool

@@ -14,7 +14,10 @@ use Rattle.chars.specs.paper.Utf8.{table37, fits, Row, here, later, width}
 use Rattle.chars.specs.computed.Valid.{validFrom}
 use Rattle.chars.specs.code.Runs.{stepsIn, AllIn}
 use Rattle.chars.specs.code.Utf8.{rowAt, rowsOver}
+use Rattle.std.proofs.lemmas.Bool.{cases_lt}
+use Rattle.std.specs.List.{prefix_len}
 use Rattle.chars.proofs.Bools.{and-both}
+use Rattle.chars.proofs.Prefix.{end, within, passed, stopped}
 use Rattle.chars.proofs.runs.Laws.{over-on}
 use Rattle.chars.proofs.utf8.Rows as rows
 use Rattle.chars.proofs.utf8.Valid.{width-found, width-fit, fit-length, fit-within}
@@ -145,3 +148,30 @@ module _ (s : List ℕ) where
   ascii-to i j b w a =
       let z : j ≡ i + (j - i) = omega arith in
       ap (rowsOver ascii s) z ∙ ascii-low (j - i) i (omega arith) (λ k m n. a k m (omega arith))
+
+  -- the test of the run that `ascii_end` passes
+  abbrev is-ascii : ℕ → Bool
+  is-ascii b = leb 0x00 b && leb b 0x7F
+
+  ascii-out : (j : ℕ) → (j < length s → is-ascii (get_or s j 0) ≡ false) → rowAt ascii s j ≡ false
+  ascii-out j out = elim (cases_lt j (length s)) [
+    | inl h ↦ ap (fits ascii) (rows.here s j h) ∙ grind (arith, out h)
+    | inr h ↦ ap (fits ascii) (drop_of_length-le s h)
+  ]
+
+  -- where the run ends, no row stands
+  pub ascii_run : (i : ℕ) → i + prefix_len is-ascii (drop i s) ≡ rowsOver ascii s i
+  ascii_run i =
+      let j = end is-ascii s i in
+      let e = rows_end ascii s j (ascii-out j (stopped is-ascii s i)) in
+      elim (cases_lt (length s) i) [
+        | inl h ↦
+            let z : j ≡ i = ap (λ l. i + prefix_len is-ascii l) (drop_of_length-le s (omega arith)) ∙ omega arith in
+            e ∙ ap (rowsOver ascii s) z
+        | inr h ↦
+            let each : AllIn 0x00 0x7F s i j =
+            λ k l m.
+            let a = and-both (leb 0x00 (get_or s k 0)) (leb (get_or s k 0) 0x7F) (passed is-ascii s i k l m) in
+            (leb-true _ _ a.0, leb-true _ _ a.1) in
+            e ∙ ascii-to i j (omega arith) (within is-ascii s i h) each
+      ]

@@ -1,21 +1,22 @@
--- The run of blanks, byte by byte and by eights.
+-- The run of blanks.
 use Prim.Native.Nat.{ℕ, ◌+◌, ◌≤◌, ◌<◌}
 use mathlib.Core.Path.{◌≡◌, refl, sym, ◌∙◌, ap}
-use mathlib.Core.Bool.{Bool, true, false, cond}
+use mathlib.Core.Bool.{Bool, true, false, cond, ◌||◌, or-false}
 use mathlib.Core.Logic.{◌⊎◌, inl, inr}
 use mathlib.Core.List.{List}
 use lib.ListN.{length, get_or}
-use lib.Dec.{leb, ltb}
+use lib.Dec.{eqb, leb, ltb}
 use native.Mathlib.Omega.{arith}
 use borrow.Author.Tests.{leb-true, ltb-true}
 use Rattle.chars.specs.paper.Quoted.{codes, oneOf}
 use Rattle.chars.specs.paper.Text.{from}
 use Rattle.chars.specs.computed.Runs.{afterRun}
-use Rattle.chars.specs.code.Runs.{AllIn, Within}
+use Rattle.chars.proofs.Prefix.{end}
 use Rattle.chars.proofs.theorems.Promises.{code_laws, text-laws}
 use Rattle.token.specs.paper.Tests.{isAny}
 use Rattle.token.proofs.cursor.Bytes.{any-byte, inside}
-use Rattle.token.proofs.cursor.Laws.{run-past, all-past}
+use Rattle.token.proofs.cursor.Laws.{run-past}
+use Rattle.token.proofs.cursor.Runs.{run-to}
 open code_laws use {carry}
 open text-laws use {at-ascii, run-stays}
 
@@ -52,9 +53,16 @@ two-blanks s i e f =
     let m : i + 2 ≡ i + 1 + 1 = omega arith in
     (omega arith, ap (λ j. afterRun (isAny " \t") (from s j)) m ∙ sym (rw (blanks-at s i, e, blanks-at s (i + 1), f)))
 
--- spaces that are passed together
-pub spaces-past : (s : List ℕ) (i r : ℕ) → i ≤ r → r ≤ length s → AllIn 0x20 0x20 s i r → afterRun (isAny " \t") (from s r) ≡ afterRun (isAny " \t") (from s i)
-spaces-past s =
-    all-past (afterRun (isAny " \t")) s (Within 0x20 0x20) (λ k h a. let z : get_or s k 0 ≡ 0x20 = omega arith in sym (blanks-at s k ∙ rw z))
+-- a blank, as the set of the run has it
+is-blank : (b : ℕ) → eqb b 0x20 || eqb b 0x09 ≡ oneOf " \t" b
+is-blank b = ap (λ x. eqb b 0x20 || x) (sym (or-false (eqb b 0x09)))
+
+-- where the bytes end that are blanks, the run does
+pub blanks-to : (s : List ℕ) (i r : ℕ) → i ≤ length s → r ≡ end (λ b. eqb b 0x20 || eqb b 0x09) s i
+    → (i ≤ r) × (r ≤ length s) × (from s r ≡ afterRun (isAny " \t") (from s i))
+blanks-to s =
+    run-to (isAny " \t") s (λ b. eqb b 0x20 || eqb b 0x09)
+    (λ k h e. let z = sym (is-blank (get_or s k 0)) ∙ e in sym (blanks-at s k ∙ rw z))
+    (λ k h e. let z = sym (is-blank (get_or s k 0)) ∙ e in sym (blanks-at s k ∙ rw z))
 
 pub ruleset blanks = (blank-or, blanks-at)

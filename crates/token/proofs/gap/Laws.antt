@@ -1,7 +1,7 @@
 -- Comments, by eights first, then byte by byte.
 use Prim.Native.Nat.{ℕ, suc, ◌+◌, ◌-◌, ◌*◌, ◌≤◌, ◌<◌}
 use mathlib.Core.Path.{◌≡◌, refl, sym, ◌∙◌, ap}
-use mathlib.Core.Bool.{Bool, true, false, cond, not, ◌&&◌}
+use mathlib.Core.Bool.{Bool, true, false, cond, not, ◌&&◌, ◌||◌}
 use mathlib.Core.List.{List, ◌∷◌}
 use mathlib.Core.Option.{some, none}
 use mathlib.Core.Logic.{◌⊎◌, inl, inr}
@@ -11,7 +11,7 @@ use native.Mathlib.Omega.{arith}
 use borrow.Author.Tests.{ltb-true, ltb-false, leb-true, eqb-true, ne_eqb}
 use Rattle.chars.specs.paper.Text.{Char, Text, from}
 use Rattle.chars.specs.computed.Runs.{afterRun}
-use Rattle.chars.specs.code.Runs.{AllIn, Within, NeitherOf, Neither}
+use Rattle.chars.proofs.Prefix.{end}
 use Rattle.chars.proofs.Bools.{and-both}
 use Rattle.chars.proofs.theorems.Promises.{text-laws}
 use Rattle.token.proofs.Loops.{Going, going-on, going-stop, steps-keep}
@@ -22,7 +22,8 @@ use Rattle.token.specs.code.Cursor.{cursorAt}
 use Rattle.token.specs.code.Gap.{closedOf, opensAt, fourOpen, nestAt, fourMore, fourPassed, openings}
 use Rattle.token.specs.declared.gap.Nest.{Nest}
 use Rattle.token.proofs.cursor.Bytes.{two-bytes, one-byte, inside}
-use Rattle.token.proofs.cursor.Laws.{run-past, all-past}
+use Rattle.token.proofs.cursor.Laws.{run-past}
+use Rattle.token.proofs.cursor.Runs.{passed-to, neither}
 use Rattle.std.specs.Prelude.{Some, None}
 open text-laws use {at-char, at-ascii, at-end, place-from, run-stays}
 
@@ -140,8 +141,11 @@ line-done s i h = rw (at-end s i h)
 pub ruleset line_runs = (line-at, line-done)
 
 -- no byte above both line-end bytes begins a line end: such bytes are passed together
-pub line-past : (s : List ℕ) (i r : ℕ) → i ≤ r → r ≤ length s → AllIn 0x0E 0xFF s i r → afterRun inLine (from s r) ≡ afterRun inLine (from s i)
-line-past s = all-past (afterRun inLine) s (Within 0x0E 0xFF) (λ k h a. sym (line-at s k ∙ rw (above k (omega arith))))
+pub line-past : (s : List ℕ) (i r : ℕ) → i ≤ length s → r ≡ end (λ b. leb 0x0E b && leb b 0xFF) s i
+    → (i ≤ r) × (r ≤ length s) × (afterRun inLine (from s r) ≡ afterRun inLine (from s i))
+line-past s =
+    passed-to (afterRun inLine) s (λ b. leb 0x0E b && leb b 0xFF)
+    (λ k h e. let a = leb-true 0x0E (get_or s k 0) (and-both (leb 0x0E (get_or s k 0)) _ e).0 in sym (line-at s k ∙ rw (above k (omega arith))))
   where
     above : (i : ℕ) → 0x0D < get_or s i 0 → endsLine (from s i) ≡ false
     above i h = rw (lf-bytes s i, crlf-bytes s i, ne_eqb (get_or s i 0) 0x0A (λ e. omega arith), ne_eqb (get_or s i 0) 0x0D (λ e. omega arith))
@@ -223,9 +227,14 @@ closed-none n = refl
 
 pub ruleset block_turns = (close-more, close-less, close-ends, close-on, close-last, closed-at, closed-none)
 
--- bytes that are passed together
-pub block-past : (s : List ℕ) (d i r : ℕ) → i ≤ r → r ≤ length s → NeitherOf 0x2A 0x2F s i r → close d 0 (from s r) ≡ close d 0 (from s i)
-block-past s d = all-past (close d 0) s (Neither 0x2A 0x2F) (λ k m o. sym (block-on s k d m (λ e n. o.0 e) (λ e n. o.1 e)))
+-- bytes that are no mark are passed together
+abbrev pub noMark : ℕ → Bool
+noMark b = not (((eqb b 0x2A || eqb b 0x2F) || eqb b 0x2A) || eqb b 0x2F)
+
+pub block-past : (s : List ℕ) (d i r : ℕ) → i ≤ length s → r ≡ end noMark s i → (i ≤ r) × (r ≤ length s) × (close d 0 (from s r) ≡ close d 0 (from s i))
+block-past s d =
+    passed-to (close d 0) s noMark
+    (λ k m e. let o = neither 0x2A 0x2F (get_or s k 0) e in sym (block-on s k d m (λ x n. o.0 x) (λ x n. o.1 x)))
 
 -- the code's test for four more that open
 open-within : (s : List ℕ) (i : ℕ) → fourOpen s i ≡ true → i + 8 ≤ length s

@@ -1,7 +1,7 @@
 -- Line ends and comments by where they end: the scanner finds them there.
 use Prim.Native.Nat.{ℕ, ◌+◌, ◌≤◌, ◌<◌}
 use mathlib.Core.Path.{◌≡◌, refl, sym, ◌∙◌, ap}
-use mathlib.Core.Bool.{Bool, true, false, cond, not, ◌&&◌}
+use mathlib.Core.Bool.{true, not, ◌&&◌}
 use mathlib.Core.List.{List}
 use mathlib.Core.Option.{Option, none, some}
 use lib.ListN.{length, drop, get_or}
@@ -11,16 +11,17 @@ use borrow.Author.Tests.{eqb-true}
 use Rattle.chars.specs.paper.Text.{Text, from, place}
 use Rattle.chars.specs.computed.Runs.{afterRun}
 use Rattle.chars.proofs.theorems.Promises.{text-laws}
-use Rattle.token.specs.paper.Tests.{begins, endOfLine, opensLine, opensBlock}
+use Rattle.token.specs.paper.Tests.{endOfLine, opensLine, opensBlock}
 use Rattle.token.specs.computed.Flags.{GapKind}
 use Rattle.token.specs.computed.Answer.{Found, scan, close, blockOr}
-use Rattle.token.specs.code.Gap.{closedOf, lineEndAfter, placeOr, blockEnd}
+use Rattle.token.specs.code.Cursor.{cursorAt}
+use Rattle.token.specs.code.Gap.{closedOf}
 use Rattle.token.proofs.cursor.Bytes.{inside}
-use Rattle.token.proofs.gap.Laws.{Pair, pair-at, line-opens, block-opens, lf-bytes, crlf-bytes}
-use Rattle.token.proofs.lexer.Seeks.{gap-strict, left-at}
+use Rattle.token.proofs.gap.Laws.{pair-at, line-opens, block-opens}
+use Rattle.token.proofs.lexer.Found.{gap-strict, left-at}
 use Rattle.token.proofs.lexer.Laws.{later-place, lf-scan, crlf-scan, line-scan, block-scan}
 use Rattle.std.specs.Prelude.{Some, None}
-use Rattle.std.specs.Prelude as code
+use Rattle.std.proofs.lemmas.Option.{same_Some, none-some}
 use Rattle.token.specs.declared.cursor.Cursor.{Cursor}
 open text-laws use {at-char, place-from}
 
@@ -41,31 +42,16 @@ module _ (s : List ℕ) (i : ℕ) where
 
   -- ---- line ends
 
-  crlf-pair : begins "\r\n" (from s i) ≡ true → Pair s i 0x0D 0x0A
-  crlf-pair e = pair-at s i 0x0D 0x0A (omega arith) (omega arith) (omega arith) (omega arith) (sym (crlf-bytes s i) ∙ e)
+  pub lf-found : eqb (get_or s i 0) 0x0A ≡ true → GapTo s GapKind.lineEnd i (i + 1)
+  lf-found e =
+      let z = eqb-true (get_or s i 0) 0x0A e in
+      let h = inside s i (omega arith) in
+      record { found = lf-scan s i h z; on = omega arith; within = omega arith }
 
-  -- where the code's tests say that one ends
-  pub line-end-lf : eqb (get_or s i 0) 0x0A ≡ true → i + 1 ≡ lineEndAfter s i
-  unfolding lineEndAfter
-  line-end-lf e = sym (rw (lf-bytes s i ∙ e))
-
-  pub line-end-crlf : eqb (get_or s i 0) 0x0A ≡ false → eqb (get_or s i 0) 0x0D && eqb (get_or s (i + 1) 0) 0x0A ≡ true → i + 2 ≡ lineEndAfter s i
-  unfolding lineEndAfter
-  line-end-crlf e f = sym (rw (lf-bytes s i ∙ e, crlf-bytes s i ∙ f))
-
-  -- where one stands, the scanner finds it
-  pub line-end-found : (lineEndAfter s i ≡ i → ⊥) → GapTo s GapKind.lineEnd i (lineEndAfter s i)
-  unfolding lineEndAfter
-  line-end-found = go (begins "\n" (from s i)) (begins "\r\n" (from s i)) refl refl
-    where
-      go : (a b : Bool) → begins "\n" (from s i) ≡ a → begins "\r\n" (from s i) ≡ b → (cond a (i + 1) (cond b (i + 2) i) ≡ i → ⊥)
-          → GapTo s GapKind.lineEnd i (cond a (i + 1) (cond b (i + 2) i))
-      go true b e f n =
-          let z = eqb-true (get_or s i 0) 0x0A (sym (lf-bytes s i) ∙ e) in
-          let h = inside s i (omega arith) in
-          record { found = lf-scan s i h z; on = omega arith; within = omega arith }
-      go false true e f n = let p = crlf-pair f in record { found = crlf-scan s i p; on = omega arith; within = p.within }
-      go false false e f n = absurd (n refl)
+  pub crlf-found : eqb (get_or s i 0) 0x0D && eqb (get_or s (i + 1) 0) 0x0A ≡ true → GapTo s GapKind.lineEnd i (i + 2)
+  crlf-found e =
+      let p = pair-at s i 0x0D 0x0A (omega arith) (omega arith) (omega arith) (omega arith) e in
+      record { found = crlf-scan s i p; on = omega arith; within = p.within }
 
   -- ---- comments
 
@@ -75,24 +61,21 @@ module _ (s : List ℕ) (i : ℕ) where
       let p = line-opens s i o in
       rw (place-from s j l) at (gap-to GapKind.lineComment (from s j) (omega (arith, p.within)) (line-scan s i j o q))
 
-  -- where the code says that a block comment ends
-  abbrev pub endOr : code.Option Cursor → ℕ
-  endOr (Some e) = e.at
-  endOr None = i
-
-  pub end_closed : blockEnd s i ≡ endOr (closedOf (length s) (close 0 0 (drop 2 (from s i))))
-  unfolding closedOf blockEnd
-  end_closed = go (close 0 0 (drop 2 (from s i)))
+  -- a block comment, where it is closed; and where it is open at the end of script
+  pub block-found : (e : Cursor) → opensBlock (from s i) ≡ true → Some e ≡ closedOf (length s) (close 0 0 (drop 2 (from s i))) → GapTo s GapKind.blockComment i e.at
+  unfolding closedOf
+  block-found e o q = go (close 0 0 (drop 2 (from s i))) refl q
     where
-      go : (x : Option Text) → placeOr (length s) i x ≡ endOr (closedOf (length s) x)
-      go none = refl
-      go (some r) = refl
+      go : (x : Option Text) → close 0 0 (drop 2 (from s i)) ≡ x → Some e ≡ closedOf (length s) x → GapTo s GapKind.blockComment i e.at
+      go none f q = absurd (none-some e (sym q))
+      go (some r) f q =
+          let d = same_Some e (cursorAt (place (length s) r)) q in
+          rw (ap (λ (c : Cursor). c.at) d) (gap-to GapKind.blockComment r (omega (arith, (block-opens s i o).within)) (block-scan s i o ∙ ap (blockOr (from s i)) f))
 
-  -- where it is closed, the scanner finds it
-  pub block-end-found : opensBlock (from s i) ≡ true → (blockEnd s i ≡ i → ⊥) → GapTo s GapKind.blockComment i (blockEnd s i)
-  unfolding blockEnd
-  block-end-found o = go (close 0 0 (drop 2 (from s i))) refl
+  pub block-open : opensBlock (from s i) ≡ true → None ≡ closedOf (length s) (close 0 0 (drop 2 (from s i))) → scan (length s) (from s i) ≡ Found.stuck 2 (from s i)
+  unfolding closedOf
+  block-open o q = go (close 0 0 (drop 2 (from s i))) refl q
     where
-      go : (x : Option Text) → close 0 0 (drop 2 (from s i)) ≡ x → (placeOr (length s) i x ≡ i → ⊥) → GapTo s GapKind.blockComment i (placeOr (length s) i x)
-      go none e n = absurd (n refl)
-      go (some r) e n = gap-to GapKind.blockComment r (omega (arith, (block-opens s i o).within)) (block-scan s i o ∙ ap (blockOr (from s i)) e)
+      go : (x : Option Text) → close 0 0 (drop 2 (from s i)) ≡ x → None ≡ closedOf (length s) x → scan (length s) (from s i) ≡ Found.stuck 2 (from s i)
+      go none f q = block-scan s i o ∙ ap (blockOr (from s i)) f
+      go (some r) f q = absurd (none-some (cursorAt (place (length s) r)) q)

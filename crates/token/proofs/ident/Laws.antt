@@ -12,7 +12,7 @@ use Rattle.chars.specs.paper.Quoted.{oneOf}
 use Rattle.chars.specs.paper.Text.{Char, Text, from, place, headIs, idChar}
 use Rattle.chars.specs.code.Text.{charEnd}
 use Rattle.chars.specs.computed.Runs.{afterRun}
-use Rattle.chars.specs.code.Runs.{AllIn, Within}
+use Rattle.chars.proofs.Prefix.{end, passed, stopped}
 use Rattle.chars.specs.paper.Classes.{isIdStart, isIdChar, isOpSign}
 use Rattle.chars.proofs.Bools.{clash}
 use Rattle.chars.specs.promises.Texts.{Suffix}
@@ -30,10 +30,13 @@ use Rattle.token.specs.declared.kinds.TokenKind.{TokenKind}
 use Rattle.token.specs.declared.kinds.TokenKind.TheVariants as tk
 use Rattle.token.proofs.cursor.Bytes.{any-byte, inside, one-byte}
 use Rattle.token.proofs.theorems.Runs.{after-next, after-stop, run-after, run-suffix}
-use Rattle.token.proofs.cursor.Laws.{all-past}
+use Rattle.token.proofs.cursor.Runs.{passed-to, twice}
 use Rattle.token.proofs.gap.Laws.{opens-line, opens-block}
 use Rattle.token.proofs.theorems.Idents.{ident-finds, start-rest, rest-suffix}
 use Rattle.token.specs.code.Refusal.{refusedBy}
+use Rattle.std.specs.Prelude.{Some, None}
+use Rattle.std.specs.Prelude as code
+use Rattle.std.proofs.lemmas.Option.{same_Some, none-some}
 open text-laws use {run-stays, run-done, run-place, suffix-trans, drop-suffix, at-char, at-ascii, at-end, next-on, place-from}
 
 -- ---- places
@@ -98,26 +101,29 @@ module _ (p : ℕ → Bool) (s : List ℕ) (i : ℕ) where
       go true e = ap (headIs p) (at-ascii s i (ltb-true i (length s) e) l)
       go false e = let h = ltb-false i (length s) e in ap (headIs p) (at-end s i h) ∙ sym (ap p (get_or-eq_default s 0 h) ∙ z)
 
-  pub past-on : (j : ℕ) → headIs p (from s i) ≡ true → j ≡ charEnd s i → j ≡ cond (headIs p (from s i)) (charEnd s i) i
-  past-on j e q = rw e q
+  abbrev pub endIf : Bool → code.Option ℕ
+  endIf b = cond b (Some (charEnd s i)) None
 
-  pub past-off : headIs p (from s i) ≡ false → i ≡ cond (headIs p (from s i)) (charEnd s i) i
+  pub past-on : (j : ℕ) → headIs p (from s i) ≡ true → j ≡ charEnd s i → Some j ≡ endIf (headIs p (from s i))
+  past-on j e q = rw e (ap Some q)
+
+  pub past-off : headIs p (from s i) ≡ false → None ≡ endIf (headIs p (from s i))
   past-off e = rw e
 
-  -- the code's test, whether that is the place itself
-  pub past-same : i ≡ cond (headIs p (from s i)) (charEnd s i) i → headIs p (from s i) ≡ false
-  past-same e = go (headIs p (from s i)) refl e
+  -- what the code's answer says
+  pub past-none : None ≡ endIf (headIs p (from s i)) → headIs p (from s i) ≡ false
+  past-none e = go (headIs p (from s i)) e
     where
-      go : (b : Bool) → headIs p (from s i) ≡ b → i ≡ cond b (charEnd s i) i → b ≡ false
-      go false h e = refl
-      go true h e = let n = next-on s i (head-inside p s i h) in absurd (omega arith)
+      go : (b : Bool) → None ≡ endIf b → b ≡ false
+      go false e = refl
+      go true e = absurd (none-some (charEnd s i) e)
 
-  pub past-other : (j : ℕ) → j ≡ cond (headIs p (from s i)) (charEnd s i) i → (j ≡ i → ⊥) → (i < length s) × (headIs p (from s i) ≡ true) × (charEnd s i ≡ j)
-  past-other j e n = go (headIs p (from s i)) refl e
+  pub past-some : (j : ℕ) → Some j ≡ endIf (headIs p (from s i)) → (i < length s) × (headIs p (from s i) ≡ true) × (charEnd s i ≡ j)
+  past-some j e = go (headIs p (from s i)) refl e
     where
-      go : (b : Bool) → headIs p (from s i) ≡ b → j ≡ cond b (charEnd s i) i → (i < length s) × (headIs p (from s i) ≡ true) × (charEnd s i ≡ j)
-      go true h e = (head-inside p s i h, h, sym e)
-      go false h e = absurd (n e)
+      go : (b : Bool) → headIs p (from s i) ≡ b → Some j ≡ endIf b → (i < length s) × (headIs p (from s i) ≡ true) × (charEnd s i ≡ j)
+      go true h e = (head-inside p s i h, h, sym (same_Some j (charEnd s i) e))
+      go false h e = absurd (none-some j (sym e))
 
 -- an ASCII byte tells whether an operator sign stands there
 pub sign-here : (s : List ℕ) (i b : ℕ) (r : Bool) → b ≡ get_or s i 0 → b < 0x80 → r ≡ ltb b 0x80 && isOpSign b → headIs isOpSign (from s i) ≡ r
@@ -205,11 +211,30 @@ module _ (s : List ℕ) (i : ℕ) where
       let f = ap idChar (run-place idChar s i j h e).2 ∙ run-done idChar refl (from s i) in
       sym (rest-none false (from s j) f (any-byte "_" refl s j ∙ rw (ne_eqb (get_or s j 0) 0x5F n))) ∙ (pass-run j h e).1
 
--- past an underscore and those that follow it up to r
-pub pass-unders : (s : List ℕ) (i : ℕ) (u : Bool) → get_or s i 0 ≡ 0x5F → (r : ℕ) → i + 1 ≤ r → r ≤ length s → AllIn 0x5F 0x5F s (i + 1) r
-    → afterIdent true (from s r) ≡ afterIdent u (from s i)
-pass-unders s i u e r l h a =
-    all-past (afterIdent true) s (Within 0x5F 0x5F) (λ k m x. pass-under s k true (omega arith)) (i + 1) r l h a ∙ pass-under s i u e
+-- past the underscores that stand there, be there any
+pub unders-to : (s : List ℕ) (i r : ℕ) → i ≤ length s → r ≡ end (λ b. eqb b 0x5F || eqb b 0x5F) s i
+    → (i ≤ r) × (r ≤ length s) × (afterIdent (ltb i r) (from s r) ≡ afterIdent false (from s i)) × (get_or s r 0 ≡ 0x5F → ⊥)
+unders-to s i r h e =
+    let t = passed-to (afterIdent true) s q (λ k l b. pass-under s k true (under k b)) i r h e in
+    (t.0, t.1, go (ltb i r) refl t.2, stop)
+  where
+    q : ℕ → Bool
+    q b = eqb b 0x5F || eqb b 0x5F
+
+    under : (k : ℕ) → q (get_or s k 0) ≡ true → get_or s k 0 ≡ 0x5F
+    under k b = eqb-true (get_or s k 0) 0x5F (sym (twice _) ∙ b)
+
+    go : (x : Bool) → ltb i r ≡ x → afterIdent true (from s r) ≡ afterIdent true (from s i) → afterIdent x (from s r) ≡ afterIdent false (from s i)
+    go true l p =
+        let b = under i (passed q s i i (omega arith) (rw (← e) (ltb-true i r l))) in
+        p ∙ sym (pass-under s i true b) ∙ pass-under s i false b
+    go false l p = let z : r ≡ i = omega (arith, ltb-false i r l, e) in ap (λ j. afterIdent false (from s j)) z
+
+    stop : get_or s r 0 ≡ 0x5F → ⊥
+    stop b =
+        let l = under-inside s r b in
+        let f = sym (ap (λ j. q (get_or s j 0)) e ∙ stopped q s i (rw e at l)) ∙ ap q b in
+        clash f
 
 -- ---- what is left of a text
 

@@ -18,13 +18,11 @@ use Rattle.chars.specs.promises.Codes.{every}
 use Rattle.chars.specs.promises.Texts.{AsciiClass}
 use Rattle.chars.proofs.theorems.Promises.{code_laws, text-laws}
 use Rattle.token.specs.paper.Tests.{isAny, begins, digit, isDigit, quote, apostrophe, opSign, opensLine, opensBlock, opensComment, isHexDigit, hexAhead, letterL, notBacktick, freeSign, backslash, plainChar, endOfLine}
-use Rattle.token.specs.code.Lexer.{wordless, seek, nextOf, passedOf, NextAnswer, nextToken, nextLine, passedTo, Sought}
-use Rattle.token.specs.computed.Flags.{GapKind, push, cutOf}
+use Rattle.token.specs.code.Lexer.{wordless}
+use Rattle.token.specs.computed.Flags.{GapKind}
 use Rattle.token.specs.computed.Answer.{Found, Start, startOf, signOf, scan, scanAs, scanReturn, scanLine, scanBlock, blockOr, close, Numeral, numeral, readDigits, numberOf, scanNumber, Closing, closed, wrong, closeString, prefixedOf, plainOf, orPrefixed, afterIdent, codesTo, wordOr, scanIdent, runOr, scanOperator, backtickOr, scanBacktick, scanString, Esc, unbroken, broken, afterSlash, escapedOf, scanCharSym}
 use Rattle.token.specs.code.Cursor.{cursorAt}
 use Rattle.token.specs.code.Piece.{pieceOf, PieceAnswer, tokenTo}
-use Rattle.token.specs.code.Gap.{closedOf}
-use Rattle.token.specs.declared.gap.Gap.{Gap}
 use Rattle.token.specs.declared.kinds.TokenKind.{TokenKind}
 use mathlib.Core.Logic.{◌⊎◌, inl, inr}
 use mathlib.Core.Option.{Option, none, some}
@@ -32,16 +30,14 @@ use Rattle.token.specs.paper.Kinds.{wordOf, runOf}
 use Rattle.token.specs.declared.kinds.Kw.{Kw}
 use Rattle.token.specs.declared.kinds.TokenKind.TheVariants as tk
 use Rattle.token.specs.declared.cursor.Cursor.{Cursor}
-use Rattle.token.proofs.Base.{zero-one, some-parts, ok-parts}
-use Rattle.token.proofs.gap.Laws.{Pair, pair-at, opens-line, crlf-bytes}
+use Rattle.token.proofs.Base.{zero-one, ok-parts}
+use Rattle.token.proofs.gap.Laws.{Pair, crlf-bytes}
 use Rattle.token.proofs.theorems.Dispatch.{Fact, start-fact, clear, clear-head, scan-by, digit-one, quote-any, starts-lf, starts-cr, starts-sign, starts-number, starts-word, starts-operator, starts-backtick, starts-string, starts-tick, starts-line, starts-block}
 use Rattle.token.proofs.cursor.Bytes.{any-byte}
-use Rattle.token.proofs.lexer.Seeks.{gap-strict, seek-line, seek-block, seek-end, seek-token, seek-stuck, left-at}
 use Rattle.token.proofs.theorems.Shorter.{Strict}
-use Rattle.token.specs.code.Refusal.{refusedFor, refusalBy}
-use Rattle.std.specs.Prelude.{Some, None, Ok, Err}
-use Rattle.token.specs.declared.refusal.Refusal.TheVariants as refusal
-use Rattle.std.specs.Prelude as code
+use Rattle.token.specs.code.Refusal.{refusalBy}
+use Rattle.token.specs.declared.refusal.Refused.{Refused}
+use Rattle.std.specs.Prelude.{Err}
 open code_laws use {carry, no-member}
 open text-laws use {head-byte, at-char, at-end, at-ascii, place-from, next-on}
 
@@ -239,26 +235,6 @@ comment-kind n s k r o e = go (opened n s o)
     go (Opened.block q f) = inr (cc)
     go (Opened.unclosed f) = zero-one (cc)
 
-pub comment-token : (n : ℕ) (s : Text) (k : TokenKind) (r : Text) → opensComment s ≡ true → scan n s ≡ Found.token k r → ⊥
-comment-token n s k r o e = go (opened n s o)
-  where
-    go : Opened n s (scan n s) → ⊥
-    go (Opened.line q f) = zero-one (cc)
-    go (Opened.block q f) = zero-one (cc)
-    go (Opened.unclosed f) = zero-one (cc)
-
-pub comment-stuck : (n : ℕ) (s : Text) (j : ℕ) (r : Text) → opensComment s ≡ true → scan n s ≡ Found.stuck j r → (j ≡ 2) × (r ≡ s)
-comment-stuck n s j r o e = go (opened n s o)
-  where
-    go : Opened n s (scan n s) → (j ≡ 2) × (r ≡ s)
-    go (Opened.line q f) = zero-one (cc)
-    go (Opened.block q f) = zero-one (cc)
-    go (Opened.unclosed f) = (cc, cc)
-
-comment-on : (n : ℕ) (g : Gap) (c : Char) (s r : Text) (k : GapKind) → (k ≡ GapKind.lineComment) ⊎ (k ≡ GapKind.blockComment) → scan n (c ∷ s) ≡ Found.gap k r → seek n 0 g (c ∷ s) ≡ seek n 0 (push k g) r
-comment-on n g c s r k (inl e) f = seek-line n g c s r (f ∙ ap (λ x. Found.gap x r) e) ∙ ap (λ x. seek n 0 (push x g) r) (sym e)
-comment-on n g c s r k (inr e) f = seek-block n g c s r (f ∙ ap (λ x. Found.gap x r) e) ∙ ap (λ x. seek n 0 (push x g) r) (sym e)
-
 -- what is left of a text starts no earlier, and later where something is taken
 drop-place : (k : ℕ) (s : List ℕ) (i : ℕ) → i ≤ length s → (i ≤ place (length s) (drop k (from s i))) × (place (length s) (drop k (from s i)) ≤ length s)
 drop-place zero s i l = let e = place-from s i l in (omega arith, omega arith)
@@ -312,6 +288,14 @@ no-gap n c s k r z w e = go (startOf (c ∷ s)) refl (start-fact (c ∷ s))
     go Start.charSym p (Fact.charSym y q) = found _ (scan-by n (c ∷ s) Start.charSym p) (charsym-gapless (c ∷ s))
     go Start.other p (Fact.other q) = found _ (scan-by n (c ∷ s) Start.other p) refl
 
+-- what is no blank and no line end is a comment, if it is a gap piece
+pub gap-kind : (n : ℕ) (c : Char) (s : Text) (k : GapKind) (r : Text) → isAny " \t\n\r" (c ∷ s) ≡ false → scan n (c ∷ s) ≡ Found.gap k r → (k ≡ GapKind.lineComment) ⊎ (k ≡ GapKind.blockComment)
+gap-kind n c s k r w e = go (opensComment (c ∷ s)) refl
+  where
+    go : (b : Bool) → opensComment (c ∷ s) ≡ b → (k ≡ GapKind.lineComment) ⊎ (k ≡ GapKind.blockComment)
+    go true o = comment-kind n (c ∷ s) k r o e
+    go false o = absurd (no-gap n c s k r o w e)
+
 -- neither a blank nor an LF or CR
 pub no-line-end : (s : List ℕ) (i : ℕ) → isAny " \t" (from s i) ≡ false → (get_or s i 0 ≡ 0x0A → ⊥) → (get_or s i 0 ≡ 0x0D → ⊥) → isAny " \t\n\r" (from s i) ≡ false
 no-line-end s i a b c =
@@ -338,6 +322,11 @@ module _ (s : List ℕ) (i : ℕ) where
   unfolding scanReturn begins
   crlf-scan p = return-scan (ap (isAny "\r") p.text) ∙ ap scanReturn p.text
 
+  -- a CR without an LF
+  pub lone-scan : isAny "\r" (from s i) ≡ true → eqb (get_or s i 0) 0x0D && eqb (get_or s (i + 1) 0) 0x0A ≡ false → scan (length s) (from s i) ≡ Found.stuck 1 (from s i)
+  unfolding scanReturn
+  lone-scan b e = return-scan b ∙ rw (crlf-bytes s i ∙ e)
+
   pub line-scan : (j : ℕ) → opensLine (from s i) ≡ true → from s j ≡ afterRun (λ u. not (endOfLine u)) (drop 2 (from s i))
       → scan (length s) (from s i) ≡ Found.gap GapKind.lineComment (from s j)
   unfolding scanLine
@@ -347,123 +336,34 @@ module _ (s : List ℕ) (i : ℕ) where
   unfolding scanBlock
   block-scan o = scan-by (length s) (from s i) Start.block (starts-block (from s i) o)
 
--- ---- steps
+-- ---- pieces by their places
 
-module _ (s : List ℕ) (i : ℕ) (g : Gap) (h : i < length s) where
+module _ (s : List ℕ) (i : ℕ) (h : i < length s) where
   abbrev m : ℕ
   m = length s
 
-  -- a token: from its piece to the step
-  pub next-token : (k : TokenKind) (e : Cursor) (cut : Bool) → cut ≡ cutOf g → tokenTo k e ≡ pieceOf m (scan m (from s i)) → nextToken k i e cut ≡ nextOf m (seek m 0 g (from s i))
-  unfolding pieceOf nextOf
-  next-token k e cut y q = ap (nextToken k i e) y ∙ go (scan m (from s i)) refl q
+  -- where a piece is a token, the scanner finds it
+  pub piece-token : (k : TokenKind) (e : Cursor) → tokenTo k e ≡ pieceOf m (scan m (from s i)) → (r : Text) × (scan m (from s i) ≡ Found.token k r) × (cursorAt (place m r) ≡ e)
+  unfolding pieceOf
+  piece-token k e q = go (scan m (from s i)) refl q
     where
-      go : (f : Found) → scan m (from s i) ≡ f → tokenTo k e ≡ pieceOf m f → nextToken k i e (cutOf g) ≡ nextOf m (seek m 0 g (from s i))
+      go : (f : Found) → scan m (from s i) ≡ f → tokenTo k e ≡ pieceOf m f → (r : Text) × (scan m (from s i) ≡ Found.token k r) × (cursorAt (place m r) ≡ e)
       go (Found.token x r) p q =
-          let t = at-char s i h in
           let o = ok-parts q in
-          let a = sym o.0 in
-          let b = sym o.1 in
-          let w = seek-token m g _ _ r x (ap (scan m) (sym t) ∙ p) in
-          sym (ap (λ u. nextOf m (seek m 0 g u)) t ∙ ap (nextOf m) w ∙ ap (λ z. nextToken z i (cursorAt (place m r)) (cutOf g)) a ∙ ap (λ z. nextToken k i z (cutOf g)) b)
+          (r, p ∙ ap (λ z. Found.token z r) (sym o.0), sym o.1)
       go (Found.stuck j r) p q = zero-one (cc)
       go (Found.gap j r) p q = zero-one (cc)
 
-  -- a token or a refusal
-  abbrev pub nextBy : PieceAnswer → NextAnswer
-  nextBy (Ok t) = nextToken t.0 i t.1 (cutOf g)
-  nextBy (Err e) = Err e
-
-  pub next_piece : opensComment (from s i) ≡ false → isAny " \t\n\r" (from s i) ≡ false → nextOf m (seek m 0 g (from s i)) ≡ nextBy (pieceOf m (scan m (from s i)))
-  unfolding pieceOf nextOf
-  next_piece z w = go (scan m (from s i)) refl
+  -- where it is refused and no gap piece stands there, the scanner is stuck
+  pub piece-stuck : (e : Refused) → opensComment (from s i) ≡ false → isAny " \t\n\r" (from s i) ≡ false → ◌≡◌ {A = PieceAnswer} (Err e) (pieceOf m (scan m (from s i)))
+      → (j : ℕ) × (q : Text) × (scan m (from s i) ≡ Found.stuck j q) × (e ≡ record { what = refusalBy j; place = place m q })
+  unfolding pieceOf
+  piece-stuck e z w q = go (scan m (from s i)) refl q
     where
-      go : (f : Found) → scan m (from s i) ≡ f → nextOf m (seek m 0 g (from s i)) ≡ nextBy (pieceOf m f)
-      go (Found.token x r) p = let t = at-char s i h in ap (λ u. nextOf m (seek m 0 g u)) t ∙ ap (nextOf m) (seek-token m g _ _ r x (ap (scan m) (sym t) ∙ p))
-      go (Found.stuck x r) p = let t = at-char s i h in ap (λ u. nextOf m (seek m 0 g u)) t ∙ ap (nextOf m) (seek-stuck m g _ _ r x (ap (scan m) (sym t) ∙ p))
-      go (Found.gap x r) p =
+      go : (f : Found) → scan m (from s i) ≡ f → ◌≡◌ {A = PieceAnswer} (Err e) (pieceOf m f)
+          → (j : ℕ) × (q : Text) × (scan m (from s i) ≡ Found.stuck j q) × (e ≡ record { what = refusalBy j; place = place m q })
+      go (Found.token x r) p q = zero-one (cc)
+      go (Found.stuck j r) p q = (j, r, p, cc)
+      go (Found.gap x r) p q =
           let t = at-char s i h in
           absurd (no-gap m _ _ x r (sym (ap opensComment t) ∙ z) (sym (ap (isAny " \t\n\r") t) ∙ w) (ap (scan m) (sym t) ∙ p))
-
-  -- a line end of one byte, and what a CR is
-  pub next-lf : get_or s i 0 ≡ 0x0A → nextOf m (seek m 0 g (from s i)) ≡ nextLine i (cursorAt (i + 1)) g.comment (push GapKind.lineEnd g)
-  unfolding nextOf
-  next-lf e =
-      let t = at-char s i h in
-      let w = seek-end m g _ _ (from s (i + 1)) (ap (scan m) (sym t) ∙ lf-scan s i h e) in
-      ap (λ u. nextOf m (seek m 0 g u)) t ∙ ap (nextOf m) w ∙ ap (λ j. nextLine i (cursorAt j) g.comment (push GapKind.lineEnd g)) (place-from s (i + 1) (omega arith))
-
-  pub next_return : isAny "\r" (from s i) ≡ true
-      → nextOf m (seek m 0 g (from s i))
-      ≡ cond (eqb (get_or s i 0) 0x0D && eqb (get_or s (i + 1) 0) 0x0A) (nextLine i (cursorAt (i + 2)) g.comment (push GapKind.lineEnd g)) (refusedFor refusal.LoneCr i)
-  unfolding nextOf scanReturn refusalBy
-  next_return b = go (eqb (get_or s i 0) 0x0D && eqb (get_or s (i + 1) 0) 0x0A) refl
-    where
-      go : (x : Bool) → eqb (get_or s i 0) 0x0D && eqb (get_or s (i + 1) 0) 0x0A ≡ x
-          → nextOf m (seek m 0 g (from s i)) ≡ cond x (nextLine i (cursorAt (i + 2)) g.comment (push GapKind.lineEnd g)) (refusedFor refusal.LoneCr i)
-      go true e =
-          let p = pair-at s i 0x0D 0x0A (omega arith) (omega arith) (omega arith) (omega arith) e in
-          let w = seek-end m g _ _ (from s (i + 2)) (ap (scan m) (sym p.text) ∙ crlf-scan s i p) in
-          ap (λ u. nextOf m (seek m 0 g u)) p.text ∙ ap (nextOf m) w ∙ ap (λ j. nextLine i (cursorAt j) g.comment (push GapKind.lineEnd g)) (place-from s (i + 2) p.within)
-      go false e =
-          let t = at-char s i h in
-          let f : scan m (from s i) ≡ Found.stuck 1 (from s i) = return-scan s i b ∙ rw (crlf-bytes s i ∙ e) in
-          let w = seek-stuck m g _ _ (from s i) 1 (ap (scan m) (sym t) ∙ f) in
-          ap (λ u. nextOf m (seek m 0 g u)) t ∙ ap (nextOf m) w ∙ ap (refusedFor refusal.LoneCr) (place-from s i (omega arith))
-
-  -- ---- comments
-
-  pub pass-line : opensLine (from s i) ≡ true → passedOf m g (scan m (from s i)) ≡ passedTo (cursorAt (place m (afterRun (λ u. not (endOfLine u)) (drop 2 (from s i))))) (push GapKind.lineComment g)
-  unfolding scanLine
-  pass-line o = ap (passedOf m g) (scan-by m (from s i) Start.line (starts-line (from s i) o))
-
-  abbrev pub passedBy : code.Option Cursor → code.Option (Cursor × Gap)
-  passedBy (Some e) = passedTo e (push GapKind.blockComment g)
-  passedBy None = None
-
-  pub pass-block : opensBlock (from s i) ≡ true → passedOf m g (scan m (from s i)) ≡ passedBy (closedOf m (close 0 0 (drop 2 (from s i))))
-  unfolding closedOf
-  pass-block o = ap (passedOf m g) (block-scan s i o) ∙ go (close 0 0 (drop 2 (from s i)))
-    where
-      go : (x : Option Text) → passedOf m g (blockOr (from s i) x) ≡ passedBy (closedOf m x)
-      go none = refl
-      go (some r) = refl
-
-  -- past a comment the search goes on from its end
-  pub pass-on : (e : Cursor) (f : Gap) → opensComment (from s i) ≡ true → passedTo e f ≡ passedOf m g (scan m (from s i))
-      → (i < e.at) × (e.at ≤ length s) × (seek m 0 f (from s e.at) ≡ seek m 0 g (from s i))
-  pass-on e f o q = go (scan m (from s i)) refl q
-    where
-      go : (x : Found) → scan m (from s i) ≡ x → passedTo e f ≡ passedOf m g x → (i < e.at) × (e.at ≤ length s) × (seek m 0 f (from s e.at) ≡ seek m 0 g (from s i))
-      go (Found.token k r) p q = zero-one (cc)
-      go (Found.stuck j r) p q = zero-one (cc)
-      go (Found.gap k r) p q =
-          let t = at-char s i h in
-          let v = some-parts q in
-          let a = sym v.0 in
-          let b = sym v.1 in
-          let d : place m r ≡ e.at = ap (λ (c : Cursor). c.at) a in
-          let y = gap-strict m _ _ k r (ap (scan m) (sym t) ∙ p) in
-          let u : from s e.at ≡ r = ap (from s) (sym d) ∙ left-at s i r (rw t y.0) in
-          let w = later-place s i r h (rw t y) in
-          (omega arith, omega arith, ap (seek m 0 f) u ∙ sym (ap (seek m 0 g) t ∙ comment-on m g _ _ r k (comment-kind m (from s i) k r o p) (ap (scan m) (sym t) ∙ p) ∙ ap (λ z. seek m 0 z r) b))
-
-  pub pass-none : opensComment (from s i) ≡ true → None ≡ passedOf m g (scan m (from s i)) → nextOf m (seek m 0 g (from s i)) ≡ refusedFor refusal.OpenComment i
-  unfolding nextOf refusalBy
-  pass-none o q = go (scan m (from s i)) refl q
-    where
-      go : (x : Found) → scan m (from s i) ≡ x → None ≡ passedOf m g x → nextOf m (seek m 0 g (from s i)) ≡ refusedFor refusal.OpenComment i
-      go (Found.gap k r) p q = zero-one (cc)
-      go (Found.token k r) p q = absurd (comment-token m (from s i) k r o p)
-      go (Found.stuck j r) p q =
-          let t = at-char s i h in
-          let y = comment-stuck m (from s i) j r o p in
-          let w = seek-stuck m g _ _ r j (ap (scan m) (sym t) ∙ p) in
-          ap (λ u. nextOf m (seek m 0 g u)) t ∙ ap (nextOf m) w ∙ ap (λ z. nextOf m (Sought.stuck z r)) y.0 ∙ ap (λ u. refusedFor refusal.OpenComment (place m u)) y.1 ∙ ap (refusedFor refusal.OpenComment) (place-from s i (omega arith))
-
-pub place-of : (s : List ℕ) (i : ℕ) → i ≤ length s → place (length s) (from s i) ≡ i
-place-of = place-from
-
-pub ruleset passes = (opens-line, pass-line, pass-block, place-of)
-
-pub ruleset stops = (cr-byte, next-lf, no-line-end)

@@ -11,14 +11,13 @@ use Rattle.chars.specs.computed.Runs.{afterRun}
 use Rattle.token.specs.paper.Tests.{isAny}
 use Rattle.token.specs.paper.Kinds.{Token}
 use Rattle.token.specs.paper.Records.{recordLength, recordOf, records, recordBytes}
-use Rattle.token.specs.computed.Flags.{GapKind, fresh, push, cutOf}
+use Rattle.token.specs.computed.Flags.{Gap, GapKind, fresh, push, cutOf}
 use Rattle.token.specs.computed.Answer.{Found, scan, Answer, tokenized, refused, prepend, gapBefore, walk}
 use Rattle.token.specs.code.Records.{Trail, gapGoes, trail, answerOf, tokensOn, stores, storedIf, eofAt}
-use Rattle.token.specs.declared.gap.Gap.{Gap}
 use Rattle.token.specs.declared.kinds.TokenKind.{TokenKind}
 use Rattle.token.proofs.Base.{zero-one}
 use Rattle.token.proofs.theorems.Shorter.{Strict}
-use Rattle.token.proofs.lexer.Seeks.{blank-scan, gap-strict}
+use Rattle.token.proofs.lexer.Found.{blank-scan, gap-strict, token-strict}
 use Rattle.token.proofs.form.Stores.{length-record, stored-in}
 use Rattle.words.proofs.Stores.{sets-append}
 
@@ -54,6 +53,22 @@ trail-stuck n f c s q j e = rw (e, trail)
 pub trail-end : (n : ℕ) (f : Gap) → trail n 0 f [] ≡ Trail.ends (eofAt n (cutOf f))
 unfolding trail
 trail-end n f = refl
+
+-- two gaps of which whatever is found makes the same
+pub trail-alike : (n : ℕ) (g h : Gap) (c : Char) (s : Text) → g.comment ≡ h.comment → ((p : GapKind) (r : Text) → scan n (c ∷ s) ≡ Found.gap p r → push p g ≡ push p h)
+    → ((t : TokenKind) (r : Text) → scan n (c ∷ s) ≡ Found.token t r → cutOf g ≡ cutOf h) → trail n 0 g (c ∷ s) ≡ trail n 0 h (c ∷ s)
+trail-alike n g h c s m gaps cuts = go (scan n (c ∷ s)) refl
+  where
+    go : (f : Found) → scan n (c ∷ s) ≡ f → trail n 0 g (c ∷ s) ≡ trail n 0 h (c ∷ s)
+    go (Found.gap p r) e =
+        let z = gap-strict n c s p r e in
+        trail-gap n g c s r p e z ∙ ap (λ y. gapGoes p c.at (place n r) y (trail n 0 (push p g) r)) m
+        ∙ ap (λ y. gapGoes p c.at (place n r) h.comment (trail n 0 y r)) (gaps p r e) ∙ sym (trail-gap n h c s r p e z)
+    go (Found.token t r) e =
+        let z = token-strict n c s t r e in
+        trail-token n g c s r t e z ∙ ap (λ y. Trail.goes (record { kind = t; start = c.at; end = place n r; cut = y }) (trail n 0 fresh r)) (cuts t r e)
+        ∙ sym (trail-token n h c s r t e z)
+    go (Found.stuck j q) e = trail-stuck n g c s q j e ∙ sym (trail-stuck n h c s q j e)
 
 pub trail-blanks : (n : ℕ) (g : Gap) (s : Text) → trail n 0 g (afterRun (isAny " \t") s) ≡ trail n 0 g s
 unfolding afterRun

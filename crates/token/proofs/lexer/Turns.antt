@@ -1,179 +1,123 @@
--- One turn of measuring and writing: the step that the code makes is a step of the computed answer.
-use Prim.Native.Nat.{ℕ, zero, suc, ◌≤◌, ◌<◌}
+-- One turn of a walk: what stands at a place is a step of the computed answer.
+use Prim.Native.Nat.{ℕ, ◌≤◌, ◌<◌}
 use mathlib.Core.Path.{◌≡◌, refl, sym, ◌∙◌, ap}
-use mathlib.Core.Bool.{Bool, true, false}
+use mathlib.Core.Bool.{Bool, true, false, not, ◌&&◌, ◌||◌}
+use mathlib.Core.Logic.{◌⊎◌, inl, inr}
 use mathlib.Core.List.{List, [], ◌∷◌}
-use lib.ListN.{length}
-use lib.Dec.{ltb}
+use lib.ListN.{length, drop}
 use native.Mathlib.Omega.{arith}
-use borrow.Author.Tests.{ltb-true, ltb-false}
+use Rattle.chars.specs.paper.Quoted.{oneOf, codes}
 use Rattle.chars.specs.paper.Text.{Char, Text, from, place}
-use Rattle.chars.specs.promises.Texts.{Suffix}
-use Rattle.chars.proofs.theorems.Promises.{text-laws}
+use Rattle.chars.proofs.Bools.{clash}
+use Rattle.chars.proofs.theorems.Promises.{code_laws, text-laws}
 use Rattle.token.specs.paper.Kinds.{Token}
-use Rattle.token.specs.computed.Flags.{GapKind, fresh, push}
-use Rattle.token.specs.computed.Answer.{Found, scan}
-use Rattle.token.specs.code.Records.{Trail, trail, eofAt}
+use Rattle.token.specs.paper.Tests.{isAny, begins}
+use Rattle.token.specs.computed.Flags.{Gap, GapKind, fresh, push, cutOf}
+use Rattle.token.specs.computed.Answer.{Found, Start, scan, scanReturn}
 use Rattle.token.specs.code.Cursor.{cursorAt}
-use Rattle.token.specs.code.Lexer.{Sought, seek, nextOf, nextToken, nextLine, nextEnd, NextAnswer}
-use Rattle.token.specs.declared.gap.Gap.{Gap}
+use Rattle.token.specs.code.Piece.{pieceOf, tokenTo}
+use Rattle.token.specs.code.Records.{Trail, trail, eofAt}
+use Rattle.token.specs.code.Walk.{gapOf}
 use Rattle.token.specs.declared.cursor.Cursor.{Cursor}
 use Rattle.token.specs.declared.kinds.TokenKind.{TokenKind}
-use Rattle.token.specs.declared.kinds.TokenKind.TheVariants as tk
 use Rattle.token.proofs.Base.{zero-one}
-use Rattle.token.proofs.theorems.Shorter.{Strict}
-use Rattle.token.proofs.lexer.Seeks.{gap-strict, token-strict, seek-blank, seek-line, seek-block, seek-end, seek-token, seek-stuck, left-at}
-use Rattle.token.proofs.lexer.Laws.{later-place}
-use Rattle.token.proofs.lexer.Trails.{trail-gap, trail-token, trail-stuck, trail-end}
-use Rattle.token.specs.code.Refusal.{refusedBy}
-use Rattle.token.specs.declared.refusal.Refused.{Refused}
-use Rattle.std.specs.Prelude.{Err}
-open text-laws use {suffix-refl, suffix-trans, at-end}
-
--- ---- on texts
-
--- what the search found is the answer's next step
-pub data Meets (n : ℕ) (g : Gap) (s : Text) : Sought → Type 0 where
-  token : {k : TokenKind} {a r : Text} {cut : Bool} → Suffix a s → Strict r s
-      → trail n 0 g s ≡ Trail.goes (record { kind = k; start = place n a; end = place n r; cut = cut }) (trail n 0 fresh r) → Meets n g s (Sought.token k a r cut)
-  lineEnd : {a r : Text} {mark : Bool} {h : Gap} → Suffix a s → Strict r s
-      → trail n 0 g s ≡ Trail.goes (record { kind = tk.Newline mark; start = place n a; end = place n r; cut = false }) (trail n 0 h r) → Meets n g s (Sought.lineEnd a r mark h)
-  ends : {cut : Bool} → trail n 0 g s ≡ Trail.ends (eofAt n cut) → Meets n g s (Sought.ends cut)
-  stuck : {j : ℕ} {q : Text} → trail n 0 g s ≡ Trail.stops j (place n q) → Meets n g s (Sought.stuck j q)
-
--- past a gap piece without a token
-further : {n : ℕ} {g h : Gap} {s r : Text} {x : Sought} → Strict r s → trail n 0 g s ≡ trail n 0 h r → Meets n h r x → Meets n g s x
-further (f, l) e (Meets.token a (b, m) w) = Meets.token (suffix-trans a f) (suffix-trans b f, omega arith) (e ∙ w)
-further (f, l) e (Meets.lineEnd a (b, m) w) = Meets.lineEnd (suffix-trans a f) (suffix-trans b f, omega arith) (e ∙ w)
-further (f, l) e (Meets.ends w) = Meets.ends (e ∙ w)
-further (f, l) e (Meets.stuck w) = Meets.stuck (e ∙ w)
-
-abbrev Goes : ℕ → ℕ → Type 0
-Goes n fuel = (s : Text) (g : Gap) → length s ≤ fuel → Meets n g s (seek n 0 g s)
-
-meets-one : (n fuel : ℕ) (c : Char) (s : Text) (g : Gap) → length s ≤ fuel → Goes n fuel → (f : Found) → scan n (c ∷ s) ≡ f → Meets n g (c ∷ s) (seek n 0 g (c ∷ s))
-meets-one n fuel c s g l go (Found.gap GapKind.blank r) e =
-    let h = gap-strict n c s GapKind.blank r e in
-    let b = h.1 in
-    rw (seek-blank n g c s r e) (further h (trail-gap n g c s r GapKind.blank e h) (go r g (omega arith)))
-meets-one n fuel c s g l go (Found.gap GapKind.lineComment r) e =
-    let h = gap-strict n c s GapKind.lineComment r e in
-    let b = h.1 in
-    rw (seek-line n g c s r e) (further h (trail-gap n g c s r GapKind.lineComment e h) (go r (push GapKind.lineComment g) (omega arith)))
-meets-one n fuel c s g l go (Found.gap GapKind.blockComment r) e =
-    let h = gap-strict n c s GapKind.blockComment r e in
-    let b = h.1 in
-    rw (seek-block n g c s r e) (further h (trail-gap n g c s r GapKind.blockComment e h) (go r (push GapKind.blockComment g) (omega arith)))
-meets-one n fuel c s g l go (Found.gap GapKind.lineEnd r) e =
-    let h = gap-strict n c s GapKind.lineEnd r e in
-    rw (seek-end n g c s r e) (Meets.lineEnd (suffix-refl (c ∷ s)) h (trail-gap n g c s r GapKind.lineEnd e h))
-meets-one n fuel c s g l go (Found.token k r) e =
-    let h = token-strict n c s k r e in
-    rw (seek-token n g c s r k e) (Meets.token (suffix-refl (c ∷ s)) h (trail-token n g c s r k e h))
-meets-one n fuel c s g l go (Found.stuck j q) e = rw (seek-stuck n g c s q j e) (Meets.stuck (trail-stuck n g c s q j e))
-
-meets : (n fuel : ℕ) → Goes n fuel
-unfolding seek
-meets n zero [] g l = Meets.ends (trail-end n g)
-meets n zero (c ∷ s) g l = absurd (omega arith)
-meets n (suc fuel) [] g l = Meets.ends (trail-end n g)
-meets n (suc fuel) (c ∷ s) g l = meets-one n fuel c s g (omega arith) (meets n fuel) (scan n (c ∷ s)) refl
-
--- ---- at places of a script
+use Rattle.token.proofs.lexer.Found.{token-strict, left-at}
+use Rattle.token.proofs.lexer.Laws.{gap-kind, later-place, piece-token}
+use Rattle.token.proofs.lexer.Trails.{trail-token, trail-stuck, trail-end, trail-alike}
+use Rattle.token.proofs.theorems.Dispatch.{clear-head, scan-by, starts-lf, starts-cr}
+open code_laws use {no-member}
+open text-laws use {at-char}
 
 pub record Turn (s : List ℕ) (i : ℕ) (g : Gap) (t : Token) (e : ℕ) (h : Gap) : Type 0 where
   pub walked : trail (length s) 0 g (from s i) ≡ Trail.goes t (trail (length s) 0 h (from s e))
   pub on : i < e
   pub within : e ≤ length s
 
--- where something is left there is a character
-some-left : (s : List ℕ) (i : ℕ) (r : Text) → Strict r (from s i) → i < length s
-some-left s i r (f, l) = go (ltb i (length s)) refl
-  where
-    go : (b : Bool) → ltb i (length s) ≡ b → i < length s
-    go true e = ltb-true i (length s) e
-    go false e = let z = ap length (at-end s i (ltb-false i (length s) e)) in absurd (omega arith)
-
-module _ (s : List ℕ) (i : ℕ) (g : Gap) where
+module _ (s : List ℕ) (i : ℕ) (g : Gap) (h : i < length s) where
   abbrev n : ℕ
   n = length s
 
-  found : Meets n g (from s i) (seek n 0 g (from s i))
-  found = meets n (length (from s i)) (from s i) g (omega arith)
-
-  pub turn-token : (k : TokenKind) (a : ℕ) (e : Cursor) (cut : Bool) → nextToken k a e cut ≡ nextOf n (seek n 0 g (from s i))
-      → Turn s i g (record { kind = k; start = a; end = e.at; cut = cut }) e.at fresh
-  unfolding nextOf
-  turn-token k a e cut q = go (seek n 0 g (from s i)) found q
+  -- a token
+  pub turn-token : (k : TokenKind) (e : Cursor) → tokenTo k e ≡ pieceOf n (scan n (from s i)) → Turn s i g (record { kind = k; start = i; end = e.at; cut = cutOf g }) e.at fresh
+  turn-token k e q = go (piece-token s i h k e q)
     where
-      go : (x : Sought) → Meets n g (from s i) x → nextToken k a e cut ≡ nextOf n x → Turn s i g (record { kind = k; start = a; end = e.at; cut = cut }) e.at fresh
-      go (Sought.token y p r d) (Meets.token f h w) q =
-          let b1 : y ≡ k = cc in
-          let b2 : place n p ≡ a = cc in
-          let b3 : cursorAt (place n r) ≡ e = cc in
-          let b4 : d ≡ cut = cc in
-          let b5 : place n r ≡ e.at = ap (λ (c : Cursor). c.at) b3 in
-          let o = later-place s i r (some-left s i r h) h in
+      go : (r : Text) × (scan n (from s i) ≡ Found.token k r) × (cursorAt (place n r) ≡ e) → Turn s i g (record { kind = k; start = i; end = e.at; cut = cutOf g }) e.at fresh
+      go (r, p, d) =
+          let t = at-char s i h in
+          let f = ap (scan n) (sym t) ∙ p in
+          let y = token-strict n _ _ k r f in
+          let b : place n r ≡ e.at = ap (λ (c : Cursor). c.at) d in
+          let w = later-place s i r h (rw t y) in
           record {
             walked =
-                w ∙ ap (λ z. Trail.goes (record { kind = z; start = place n p; end = place n r; cut = d }) (trail n 0 fresh r)) b1
-                ∙ ap (λ z. Trail.goes (record { kind = k; start = z; end = place n r; cut = d }) (trail n 0 fresh r)) b2
-                ∙ ap (λ z. Trail.goes (record { kind = k; start = a; end = z; cut = d }) (trail n 0 fresh r)) b5
-                ∙ ap (λ z. Trail.goes (record { kind = k; start = a; end = e.at; cut = z }) (trail n 0 fresh r)) b4
-                ∙ ap (λ z. Trail.goes (record { kind = k; start = a; end = e.at; cut = cut }) (trail n 0 fresh z)) (sym (left-at s i r h.0) ∙ ap (from s) b5);
+                ap (trail n 0 g) t ∙ trail-token n g _ _ r k f y
+                ∙ ap (λ z. Trail.goes (record { kind = k; start = i; end = z; cut = cutOf g }) (trail n 0 fresh r)) b
+                ∙ ap (λ z. Trail.goes (record { kind = k; start = i; end = e.at; cut = cutOf g }) (trail n 0 fresh z)) (sym (left-at s i r (rw t y.0)) ∙ ap (from s) b);
             on = omega arith;
             within = omega arith;
           }
-      go (Sought.lineEnd p r m h) w q = zero-one (cc)
-      go (Sought.ends d) w q = zero-one (cc)
-      go (Sought.stuck j p) w q = zero-one (cc)
 
-  pub turn-line : (a : ℕ) (e : Cursor) (mark : Bool) (h : Gap) → nextLine a e mark h ≡ nextOf n (seek n 0 g (from s i))
-      → Turn s i g (record { kind = tk.Newline mark; start = a; end = e.at; cut = false }) e.at h
-  unfolding nextOf
-  turn-line a e mark h q = go (seek n 0 g (from s i)) found q
-    where
-      go : (x : Sought) → Meets n g (from s i) x → nextLine a e mark h ≡ nextOf n x → Turn s i g (record { kind = tk.Newline mark; start = a; end = e.at; cut = false }) e.at h
-      go (Sought.lineEnd p r m v) (Meets.lineEnd f y w) q =
-          let b2 : place n p ≡ a = cc in
-          let b3 : cursorAt (place n r) ≡ e = cc in
-          let b4 : m ≡ mark = cc in
-          let b6 : v ≡ h = cc in
-          let b5 : place n r ≡ e.at = ap (λ (c : Cursor). c.at) b3 in
-          let o = later-place s i r (some-left s i r y) y in
-          record {
-            walked =
-                w ∙ ap (λ z. Trail.goes (record { kind = tk.Newline z; start = place n p; end = place n r; cut = false }) (trail n 0 v r)) b4
-                ∙ ap (λ z. Trail.goes (record { kind = tk.Newline mark; start = z; end = place n r; cut = false }) (trail n 0 v r)) b2
-                ∙ ap (λ z. Trail.goes (record { kind = tk.Newline mark; start = a; end = z; cut = false }) (trail n 0 v r)) b5
-                ∙ ap (λ z. Trail.goes (record { kind = tk.Newline mark; start = a; end = e.at; cut = false }) (trail n 0 z r)) b6
-                ∙ ap (λ z. Trail.goes (record { kind = tk.Newline mark; start = a; end = e.at; cut = false }) (trail n 0 h z)) (sym (left-at s i r y.0) ∙ ap (from s) b5);
-            on = omega arith;
-            within = omega arith;
-          }
-      go (Sought.token y p r d) w q = zero-one (cc)
-      go (Sought.ends d) w q = zero-one (cc)
-      go (Sought.stuck j p) w q = zero-one (cc)
+  -- what is refused
+  pub turn-stop : (j : ℕ) (q : Text) → scan n (from s i) ≡ Found.stuck j q → trail n 0 g (from s i) ≡ Trail.stops j (place n q)
+  turn-stop j q p = let t = at-char s i h in ap (trail n 0 g) t ∙ trail-stuck n g _ _ q j (ap (scan n) (sym t) ∙ p)
 
-  pub turn-end : (cut : Bool) → nextEnd cut ≡ nextOf n (seek n 0 g (from s i)) → trail n 0 g (from s i) ≡ Trail.ends (eofAt n cut)
-  unfolding nextOf
-  turn-end cut q = go (seek n 0 g (from s i)) found q
-    where
-      go : (x : Sought) → Meets n g (from s i) x → nextEnd cut ≡ nextOf n x → trail n 0 g (from s i) ≡ Trail.ends (eofAt n cut)
-      go (Sought.ends d) (Meets.ends w) q = let b : d ≡ cut = cc in w ∙ ap (λ z. Trail.ends (eofAt n z)) b
-      go (Sought.token y p r d) w q = zero-one (cc)
-      go (Sought.lineEnd p r m h) w q = zero-one (cc)
-      go (Sought.stuck j p) w q = zero-one (cc)
+-- ---- a block comment that waits for a line end
 
-  -- a refusal: by what number and where, and that the answer is that
-  pub turn-stop : (e : Refused) → Err e ≡ nextOf n (seek n 0 g (from s i))
-      → (j : ℕ) × (a : ℕ) × (trail n 0 g (from s i) ≡ Trail.stops j a) × (◌≡◌ {A = NextAnswer} (refusedBy j a) (Err e))
-  unfolding nextOf
-  turn-stop e q = go (seek n 0 g (from s i)) found q
-    where
-      go : (x : Sought) → Meets n g (from s i) x → Err e ≡ nextOf n x
-          → (j : ℕ) × (a : ℕ) × (trail n 0 g (from s i) ≡ Trail.stops j a) × (◌≡◌ {A = NextAnswer} (refusedBy j a) (Err e))
-      go (Sought.stuck y p) (Meets.stuck w) q = (y, place n p, w, sym q)
-      go (Sought.token y p r d) w q = zero-one (cc)
-      go (Sought.lineEnd p r m h) w q = zero-one (cc)
-      go (Sought.ends d) w q = zero-one (cc)
+pub or-false : (b : Bool) → b || false ≡ b
+or-false true = refl
+or-false false = refl
+
+-- a line end, or a CR that is refused
+line-or-stuck : (n : ℕ) (t : Text) → isAny "\n\r" t ≡ true → ((r : Text) × (scan n t ≡ Found.gap GapKind.lineEnd r)) ⊎ (scan n t ≡ Found.stuck 1 t)
+unfolding scanReturn
+line-or-stuck n t e = go (isAny "\n" t) refl (isAny "\r" t) refl
+  where
+    back : (b : Bool) → begins "\r\n" t ≡ b → scan n t ≡ scanReturn t → ((r : Text) × (scan n t ≡ Found.gap GapKind.lineEnd r)) ⊎ (scan n t ≡ Found.stuck 1 t)
+    back true q f = inl (drop 2 t, f ∙ rw q)
+    back false q f = inr (f ∙ rw q)
+
+    go : (a : Bool) → isAny "\n" t ≡ a → (b : Bool) → isAny "\r" t ≡ b → ((r : Text) × (scan n t ≡ Found.gap GapKind.lineEnd r)) ⊎ (scan n t ≡ Found.stuck 1 t)
+    go true p b q = inl (drop 1 t, scan-by n t Start.lf (starts-lf t (clear-head (oneOf "\n") refl t p) p))
+    go false p true q = back (begins "\r\n" t) refl (scan-by n t Start.cr (starts-cr t (clear-head (oneOf "\r") refl t q) q))
+    go false p false q = clash (sym (neither t p q) ∙ e)
+      where
+        neither : (u : Text) → isAny "\n" u ≡ false → isAny "\r" u ≡ false → isAny "\n\r" u ≡ false
+        neither [] a b = refl
+        neither (c ∷ u) a b = no-member (λ x. not (oneOf "\n" x) && not (oneOf "\r" x)) (codes "\n\r") c.code refl (rw (a, b))
+
+abbrev waits : Bool → Bool → Bool → Gap
+waits newline comment cut = record { newline = newline; comment = comment; pending = true; cut = cut }
+
+-- a comment behind it makes it the cut, and a line end lets it go
+comment-push : (a b c : Bool) (p : GapKind) → (p ≡ GapKind.lineComment) ⊎ (p ≡ GapKind.blockComment) → push p (waits a b c) ≡ push p (gapOf a b (c || true))
+comment-push a b c GapKind.lineComment x = ap (λ z. gapOf a true z) (sym (or-false (c || true)))
+comment-push a b c GapKind.blockComment x = ap (λ z. record { newline = a; comment = true; pending = a; cut = z }) (sym (or-false (c || true)))
+comment-push a b c GapKind.blank (inl q) = zero-one (cc)
+comment-push a b c GapKind.blank (inr q) = zero-one (cc)
+comment-push a b c GapKind.lineEnd (inl q) = zero-one (cc)
+comment-push a b c GapKind.lineEnd (inr q) = zero-one (cc)
+
+line-push : (a b c : Bool) (p : GapKind) → p ≡ GapKind.lineEnd → push p (waits a b c) ≡ push p (gapOf a b (c || false))
+line-push a b c p q = rw q (ap (λ z. gapOf true false z) (sym (or-false c)))
+
+no-blank-line : (c : Char) (s : Text) → isAny " \t" (c ∷ s) ≡ false → isAny "\n\r" (c ∷ s) ≡ false → isAny " \t\n\r" (c ∷ s) ≡ false
+no-blank-line c s a b = no-member (λ x. not (oneOf " \t" x) && not (oneOf "\n\r" x)) (codes " \t\n\r") c.code refl (rw (a, b))
+
+-- Where no blank stands, what follows decides: a line end lets it go, and anything else, the end of script too, makes it the cut.
+pub settled : (n : ℕ) (a b c : Bool) (t : Text) → isAny " \t" t ≡ false → trail n 0 (waits a b c) t ≡ trail n 0 (gapOf a b (c || not (isAny "\n\r" t))) t
+settled n a b c [] e = trail-end n (waits a b c) ∙ ap (λ z. Trail.ends (eofAt n z)) (sym (or-false (c || true))) ∙ sym (trail-end n (gapOf a b (c || true)))
+settled n a b c (d ∷ s) e = go (isAny "\n\r" (d ∷ s)) refl
+  where
+    line : (p : GapKind) (r q : Text) → scan n (d ∷ s) ≡ Found.gap GapKind.lineEnd r → scan n (d ∷ s) ≡ Found.gap p q → p ≡ GapKind.lineEnd
+    line p r q f g = cc
+
+    ended : ((r : Text) × (scan n (d ∷ s) ≡ Found.gap GapKind.lineEnd r)) ⊎ (scan n (d ∷ s) ≡ Found.stuck 1 (d ∷ s))
+        → trail n 0 (waits a b c) (d ∷ s) ≡ trail n 0 (gapOf a b (c || false)) (d ∷ s)
+    ended (inl (r, f)) = trail-alike n (waits a b c) (gapOf a b (c || false)) d s refl (λ p q g. line-push a b c p (line p r q f g)) (λ t q g. zero-one (cc))
+    ended (inr f) = trail-alike n (waits a b c) (gapOf a b (c || false)) d s refl (λ p q g. zero-one (cc)) (λ t q g. zero-one (cc))
+
+    go : (x : Bool) → isAny "\n\r" (d ∷ s) ≡ x → trail n 0 (waits a b c) (d ∷ s) ≡ trail n 0 (gapOf a b (c || not x)) (d ∷ s)
+    go true q = ended (line-or-stuck n (d ∷ s) q)
+    go false q =
+        trail-alike n (waits a b c) (gapOf a b (c || true)) d s refl (λ p r g. comment-push a b c p (gap-kind n d s p r (no-blank-line d s e q) g))
+        (λ t r g. sym (or-false (c || true)))

@@ -1,7 +1,7 @@
 -- What a string or a backtick that is recognised says of the scanner.
 use Prim.Native.Nat.{ℕ, zero, suc, ◌+◌, ◌-◌, ◌≤◌, ◌<◌}
 use mathlib.Core.Path.{◌≡◌, refl, sym, ◌∙◌, ap}
-use mathlib.Core.Bool.{Bool, true, false, cond, ◌&&◌}
+use mathlib.Core.Bool.{Bool, true, false, cond, not, ◌&&◌, ◌||◌}
 use mathlib.Core.Logic.{◌⊎◌, inl, inr, ⊎_elim}
 use mathlib.Core.List.{List, [], ◌∷◌}
 use Rattle.std.specs.Prelude.{Option, Some, None}
@@ -9,11 +9,11 @@ use Rattle.std.proofs.lemmas.Option.{same_Some, none-some}
 use lib.ListN.{length, drop, get_or, get_or-eq_default}
 use lib.Dec.{eqb, ltb}
 use native.Mathlib.Omega.{arith}
-use borrow.Author.Tests.{eq-eqb, ne_eqb, eqb-true, eqb-false, ltb-true, ltb-false}
+use borrow.Author.Tests.{eq-eqb, ne_eqb, eqb-true, eqb-false, ltb-true, ltb-false, not-true, not-false}
 use Rattle.chars.specs.paper.Quoted.{oneOf}
 use Rattle.chars.specs.paper.Text.{Text, from, place}
 use Rattle.chars.specs.computed.Runs.{afterRun}
-use Rattle.chars.specs.code.Runs.{Neither, NeitherOf}
+use Rattle.chars.proofs.Prefix.{end, passed, stopped}
 use Rattle.chars.proofs.Bools.{and-both}
 use Rattle.chars.specs.promises.Texts.{Suffix}
 use Rattle.chars.proofs.theorems.Promises.{text-laws}
@@ -28,7 +28,7 @@ use Rattle.token.specs.declared.kinds.TokenKind.{TokenKind}
 use Rattle.token.specs.declared.kinds.TokenKind.TheVariants as tk
 use Rattle.token.proofs.Base.{zero-one}
 use Rattle.token.proofs.cursor.Bytes.{inside, any-byte, past}
-use Rattle.token.proofs.cursor.Laws.{all-past}
+use Rattle.token.proofs.cursor.Runs.{passed-to, all-but}
 use Rattle.token.proofs.theorems.Runs.{run-suffix}
 use Rattle.token.proofs.theorems.Shorter.{single-suffix}
 use Rattle.token.proofs.theorems.Strings as strings
@@ -385,8 +385,15 @@ quotes-few p s i b r z = go r (recognised p s i b r z)
 -- ---- backticks
 
 module _ (s : List ℕ) (at : ℕ) where
-  pub ticks-past : (i r : ℕ) → i ≤ r → r ≤ length s → NeitherOf 0x60 0x60 s i r → afterRun notBacktick (from s r) ≡ afterRun notBacktick (from s i)
-  ticks-past = all-past (afterRun notBacktick) s (Neither 0x60 0x60) (λ k h o. tick-on s k h o.0)
+  -- the set of the run to the next backtick
+  abbrev pub noTick : ℕ → Bool
+  noTick b = not (((eqb b 0x60 || eqb b 0x60) || eqb b 0x60) || eqb b 0x60)
+
+  tick-not : (b : ℕ) → noTick b ≡ true → b ≡ 0x60 → ⊥
+  tick-not b e = eqb-false b 0x60 (not-true _ (sym (all-but (eqb b 0x60)) ∙ e))
+
+  ticks-to : (r : ℕ) → at + 1 ≤ length s → r ≡ end noTick s (at + 1) → (at + 1 ≤ r) × (r ≤ length s) × (afterRun notBacktick (from s r) ≡ afterRun notBacktick (from s (at + 1)))
+  ticks-to r = passed-to (afterRun notBacktick) s noTick (λ k h e. tick-on s k h (tick-not _ e)) (at + 1) r
 
   pub tick-empty : get_or s (at + 1) 0 ≡ 0x60 → None ≡ backtickEnd s at
   unfolding backtickEnd
@@ -404,21 +411,24 @@ module _ (s : List ℕ) (at : ℕ) where
       go true = refl
       go false = ap tickedTo (sym (tick-end s i h) ∙ q)
 
--- the loop keeps in mind whether a backtick stands behind the first, once it is past that place
-module _ (s : List ℕ) (at i : ℕ) (h : at + 1 ≤ i) where
-  pub later-tick : (i ≡ at + 1 → ⊥) → (at + 1 < i → get_or s (at + 1) 0 ≡ 0x60 → ⊥) → get_or s (at + 1) 0 ≡ 0x60 → ⊥
-  later-tick m n = go (ltb (at + 1) i) refl
-    where
-      go : (x : Bool) → ltb (at + 1) i ≡ x → get_or s (at + 1) 0 ≡ 0x60 → ⊥
-      go true e = n (ltb-true (at + 1) i e)
-      go false e = absurd (m (let l = ltb-false (at + 1) i e in omega arith))
+-- where the run ends, the next backtick stands, or nothing
+module _ (s : List ℕ) (at r : ℕ) (h : at + 1 ≤ length s) (e : r ≡ end (noTick s at) s (at + 1)) where
+  pub run-open : length s ≤ r → None ≡ backtickEnd s at
+  run-open l = tick-open s at r l (ticks-to s at r h e).2
 
-  pub next-tick : (get_or s i 0 ≡ 0x60 → ⊥) → (at + 1 < i → get_or s (at + 1) 0 ≡ 0x60 → ⊥) → at + 1 < i + 1 → get_or s (at + 1) 0 ≡ 0x60 → ⊥
-  next-tick m n l = go (ltb (at + 1) i) refl
-    where
-      go : (x : Bool) → ltb (at + 1) i ≡ x → get_or s (at + 1) 0 ≡ 0x60 → ⊥
-      go true e q = n (ltb-true (at + 1) i e) q
-      go false e q = let k = ltb-false (at + 1) i e in let z : i ≡ at + 1 = omega arith in m (ap (λ j. get_or s j 0) z ∙ q)
+  tick-here : r < length s → get_or s r 0 ≡ 0x60
+  tick-here l =
+      let q = stopped (noTick s at) s (at + 1) (rw e at l) in
+      eqb-true (get_or s r 0) 0x60 (not-false _ (sym (all-but (eqb (get_or s r 0) 0x60)) ∙ ap (λ j. noTick s at (get_or s j 0)) e ∙ q))
+
+  pub run-empty : r < length s → r ≡ at + 1 → None ≡ backtickEnd s at
+  run-empty l z = tick-empty s at (ap (λ j. get_or s j 0) (sym z) ∙ tick-here l)
+
+  pub run-closed : r < length s → (r ≡ at + 1 → ⊥) → Some (r + 1) ≡ backtickEnd s at
+  run-closed l n =
+      let t = ticks-to s at r h e in
+      let first = tick-not s at (get_or s (at + 1) 0) (passed (noTick s at) s (at + 1) (at + 1) (omega arith) (omega (arith, t.0, n))) in
+      tick-ended s at r l (tick-here l) first t.2
 
 -- the next backtick
 record TickAt (s : List ℕ) (i : ℕ) : Type 0 where

@@ -11,7 +11,6 @@ use native.Mathlib.Omega.{arith}
 use borrow.Author.Tests.{eq-eqb, ne_eqb, eqb-true, eqb-false}
 use Rattle.chars.specs.paper.Quoted.{codes, oneOf}
 use Rattle.chars.specs.paper.Text.{Char, Text, from, place}
-use Rattle.chars.specs.code.Runs.{NoneOf}
 use Rattle.chars.proofs.Bools.{clash, or-neither}
 use Rattle.chars.proofs.theorems.Promises.{text-laws}
 use Rattle.token.specs.paper.Tests.{isDigit, isHexDigit, isAny, digit, threeQuotes}
@@ -28,7 +27,7 @@ use Rattle.token.proofs.cursor.Bytes.{inside, any-byte, ascii-list}
 use Rattle.token.proofs.theorems.Escapes.{u-other}
 use Rattle.token.proofs.theorems.Strings as strings
 use Rattle.token.proofs.string.Escapes.{digit-ascii, hex-ascii, ascii-in, hexes-next, hexes-stop, slash-simple, slash-digits, slash-other}
-use Rattle.token.proofs.string.Laws.{slash-byte, brace-byte, dollar-brace, dollar-alone, other-ordinary, ordinary-byte, Walk, walk-on, walk-run, skips, skip-past, Onward, single-item-newline, single-item-dollar, single-item-lone, single-item-slash, single-item-escape, single-step, no-quote, triples, triple-test}
+use Rattle.token.proofs.string.Laws.{slash-byte, brace-byte, dollar-brace, dollar-alone, other-ordinary, ordinary-byte, Walk, walk-on, walk-run, skips, Onward, single-item-newline, single-item-dollar, single-item-lone, single-item-slash, single-item-escape, single-step, no-quote, triples, triple-test}
 use Rattle.std.specs.Prelude.{Ok, Err}
 use Rattle.token.specs.declared.refusal.Refused.{Refused}
 open text-laws use {head-byte, at-ascii, place-from}
@@ -277,9 +276,6 @@ module _ {A : Type 0} (f : Text → A) (test : Text → Bool) (w : Walk f test) 
   pub ordinary-on : (i : ℕ) → i < length s → isOrdinary (get_or s i 0) ≡ true → f (from s (i + 1)) ≡ f (from s i)
   ordinary-on i h e =
       sym (walk-run f test w (from s (i + 1))) ∙ ap f (walk-on _ _ skips s i h (ordinary-byte s i h ∙ e)) ∙ walk-run f test w (from s i)
-
-  pub ordinary-past : (i r : ℕ) → i ≤ r → r ≤ length s → NoneOf 0x0A 0x22 0x24 0x5C s i r → f (from s r) ≡ f (from s i)
-  ordinary-past i r l h n = sym (walk-run f test w (from s r)) ∙ ap f (skip-past s i r l h n) ∙ walk-run f test w (from s i)
 
 -- the answer by the full reader's
 module _ (s : List ℕ) where

@@ -42,6 +42,10 @@ record-most (tk.Newline mark) = omega arith
 record-most tk.Eof = omega arith
 record-most (tk.Kw k) = omega arith
 
+pub record-least : (k : TokenKind) → headLength ≤ recordLength k
+unfolding recordLength
+record-least k = omega arith
+
 pub newline-length : (mark : Bool) → recordLength (tk.Newline mark) ≡ lineLength
 unfolding recordLength values
 newline-length mark = refl

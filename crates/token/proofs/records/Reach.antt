@@ -5,10 +5,10 @@ use mathlib.Core.List.{List}
 use lib.ListN.{length}
 use native.Mathlib.Omega.{arith}
 use Rattle.chars.specs.paper.Text.{from}
+use Rattle.token.specs.computed.Flags.{Gap}
 use Rattle.token.specs.paper.Kinds.{Token}
 use Rattle.token.specs.paper.Records.{recordLength, recordOf}
 use Rattle.token.specs.code.Records.{storedIf, measuredOf, trail, answerOf, tokensOn, stores, State, trailFrom, Standing, Reaches}
-use Rattle.token.specs.declared.gap.Gap.{Gap}
 use Rattle.token.proofs.form.Stores.{stored-length}
 use Rattle.token.proofs.lexer.Trails.{stores-turn}
 use Rattle.token.proofs.lexer.Turns.{Turn}

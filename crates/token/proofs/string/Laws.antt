@@ -1,7 +1,7 @@
 -- Strings as the code walks them: byte by byte over what stands for itself, then one step.
 use Prim.Native.Nat.{ℕ, zero, suc, ◌+◌, ◌-◌, ◌≤◌, ◌<◌}
 use mathlib.Core.Path.{◌≡◌, refl, sym, ◌∙◌, ap}
-use mathlib.Core.Bool.{Bool, true, false, ◌&&◌, ◌||◌, and-false}
+use mathlib.Core.Bool.{Bool, true, false, not, ◌&&◌, ◌||◌, and-false}
 use mathlib.Core.Logic.{inl, ⊎_elim}
 use mathlib.Core.List.{List, [], ◌∷◌}
 use lib.ListN.{length, drop, get_or}
@@ -12,7 +12,8 @@ use Rattle.chars.specs.paper.Quoted.{oneOf}
 use Rattle.chars.specs.paper.Text.{Char, Text, from, place, headIs}
 use Rattle.chars.specs.code.Text.{charEnd, codeAt}
 use Rattle.chars.specs.computed.Runs.{afterRun}
-use Rattle.chars.specs.code.Runs.{Within, AllIn, Other, NoneOf}
+use Rattle.chars.specs.code.Runs.{Other}
+use Rattle.chars.proofs.Prefix.{end}
 use Rattle.chars.proofs.Bools.{clash, and-both, or-neither}
 use Rattle.chars.specs.promises.Texts.{Suffix}
 use Rattle.chars.proofs.theorems.Promises.{text-laws}
@@ -30,7 +31,7 @@ use Rattle.token.specs.declared.kinds.TokenKind.TheVariants as tk
 use Rattle.token.proofs.Base.{zero-one}
 use Rattle.token.proofs.cursor.Bytes.{inside, any-byte, past, starts-byte, two-bytes, one-byte}
 use Rattle.token.proofs.theorems.Runs.{after-next, after-stop}
-use Rattle.token.proofs.cursor.Laws.{all-past}
+use Rattle.token.proofs.cursor.Runs.{run-to, run-out, twice, none-of}
 use Rattle.token.proofs.theorems.Escapes.{slash-finds, Good, Bad}
 use Rattle.token.proofs.theorems.Shorter.{Strict, stands-strict}
 use Rattle.token.proofs.theorems.Strings as strings
@@ -151,20 +152,15 @@ module _ (s : List ℕ) (i : ℕ) where
       let q = at-ascii s i h (omega arith) in
       sym (ap (afterRun quote) q ∙ after-next quote _ (from s (i + 1)) (sym (ap quote q) ∙ quote-byte s i ∙ eq-eqb (get_or s i 0) 0x22 b))
 
-  pub quotes-stop : i < length s → (get_or s i 0 ≡ 0x22 → ⊥) → from s i ≡ afterRun quote (from s i)
+  quotes-stop : i < length s → (get_or s i 0 ≡ 0x22 → ⊥) → from s i ≡ afterRun quote (from s i)
   quotes-stop h b =
       let q = at-char s i h in
       q ∙ sym (ap (afterRun quote) q ∙ after-stop quote _ (from s (charEnd s i)) (sym (ap quote q) ∙ quote-byte s i ∙ ne_eqb (get_or s i 0) 0x22 b))
 
-  pub quotes-end : length s ≤ i → from s i ≡ afterRun quote (from s i)
-  unfolding afterRun
-  quotes-end h = rw (at-end s i h)
-
--- quotes that are passed together
-pub quotes-past : (s : List ℕ) (i r : ℕ) → i ≤ r → r ≤ length s → AllIn 0x22 0x22 s i r → afterRun quote (from s r) ≡ afterRun quote (from s i)
-quotes-past s = all-past (afterRun quote) s (Within 0x22 0x22) (λ k h a. quotes-next s k h (omega arith))
-
-pub ruleset quote_run = (quotes-next, quotes-stop, quotes-end, quotes-past)
+-- where the bytes end that are quotes, the run does
+pub quotes-to : (s : List ℕ) (i r : ℕ) → i ≤ length s → r ≡ end (λ b. eqb b 0x22 || eqb b 0x22) s i → (i ≤ r) × (r ≤ length s) × (from s r ≡ afterRun quote (from s i))
+quotes-to s =
+    run-to quote s (λ b. eqb b 0x22 || eqb b 0x22) (λ k h e. quotes-next s k h (eqb-true _ _ (sym (twice _) ∙ e))) (λ k h e. quotes-stop s k h (eqb-false _ _ (sym (twice _) ∙ e)))
 
 -- ---- what stands for itself
 
@@ -227,11 +223,13 @@ module _ {A : Type 0} (f : Text → A) (test : Text → Bool) (w : Walk f test) 
 pub skips : Walk (afterRun (headIs isOrdinary)) (headIs isOrdinary)
 skips = record { pass = λ c u e. after-next (headIs isOrdinary) c u e; plain = λ c u e. e }
 
--- ordinary bytes that are passed together
-pub skip-past : (s : List ℕ) (i r : ℕ) → i ≤ r → r ≤ length s → NoneOf 0x0A 0x22 0x24 0x5C s i r
-    → afterRun (headIs isOrdinary) (from s r) ≡ afterRun (headIs isOrdinary) (from s i)
-skip-past s =
-    all-past (afterRun (headIs isOrdinary)) s (Other 0x0A 0x22 0x24 0x5C) (λ k h o. walk-on _ _ skips s k h (ordinary-byte s k h ∙ other-ordinary _ o))
+-- the set of a run of ordinary bytes
+abbrev pub noMark : ℕ → Bool
+noMark b = not (((eqb b 0x0A || eqb b 0x22) || eqb b 0x24) || eqb b 0x5C)
+
+mark-none : (b : ℕ) → noMark b ≡ isOrdinary b
+unfolding isOrdinary
+mark-none b = none-of (eqb b 0x0A) (eqb b 0x22) (eqb b 0x24) (eqb b 0x5C)
 
 skip-stop : (s : List ℕ) (i : ℕ) → i < length s → isOrdinary (get_or s i 0) ≡ false → from s i ≡ afterRun (headIs isOrdinary) (from s i)
 skip-stop s i h e =
@@ -239,22 +237,23 @@ skip-stop s i h e =
     let t = sym (ap (headIs isOrdinary) q) ∙ ordinary-byte s i h ∙ e in
     q ∙ sym (ap (afterRun (headIs isOrdinary)) q ∙ after-stop (headIs isOrdinary) _ (from s (charEnd s i)) t)
 
-pub skip-end : (s : List ℕ) (i : ℕ) → length s ≤ i → from s i ≡ afterRun (headIs isOrdinary) (from s i)
-unfolding afterRun
-skip-end s i h = rw (at-end s i h)
-
 -- where no ordinary byte stands the run is empty
 pub skip_none : (s : List ℕ) (i : ℕ) → isOrdinary (get_or s i 0) ≡ false → from s i ≡ afterRun (headIs isOrdinary) (from s i)
 skip_none s i e = go (ltb i (length s)) refl
   where
     go : (b : Bool) → ltb i (length s) ≡ b → from s i ≡ afterRun (headIs isOrdinary) (from s i)
     go true q = skip-stop s i (ltb-true i (length s) q) e
-    go false q = skip-end s i (ltb-false i (length s) q)
+    go false q = run-out (headIs isOrdinary) s i (ltb-false i (length s) q)
 
 pub skip_next : (s : List ℕ) (i : ℕ) → i < length s → isOrdinary (get_or s i 0) ≡ true → afterRun (headIs isOrdinary) (from s (i + 1)) ≡ afterRun (headIs isOrdinary) (from s i)
 skip_next s i h e = walk-on _ _ skips s i h (ordinary-byte s i h ∙ e)
 
-pub ruleset skip_run = (skip_none, skip_next, skip-end)
+-- where the ordinary bytes end, the run does
+pub ordinary-to : (s : List ℕ) (i r : ℕ) → i ≤ length s → r ≡ end noMark s i → (i ≤ r) × (r ≤ length s) × (from s r ≡ afterRun (headIs isOrdinary) (from s i))
+ordinary-to s =
+    run-to (headIs isOrdinary) s noMark (λ k h e. skip_next s k h (sym (mark-none (get_or s k 0)) ∙ e)) (λ k h e. skip-stop s k h (sym (mark-none (get_or s k 0)) ∙ e))
+
+pub ruleset skip_run = (skip_none, skip_next)
 
 -- ---- one step
 

@@ -1,7 +1,7 @@
 -- String content as the code strips it, by bytes: a text's last character is a quote exactly where its last byte is one.
 use Prim.Native.Nat.{ℕ, zero, suc, ◌+◌, ◌-◌, ◌≤◌, ◌<◌}
 use mathlib.Core.Path.{◌≡◌, refl, sym, ◌∙◌, ap}
-use mathlib.Core.Bool.{Bool, true, false, cond, ◌&&◌, and-false}
+use mathlib.Core.Bool.{Bool, true, false, cond, ◌&&◌, ◌||◌, and-false}
 use mathlib.Core.List.{List, [], ◌∷◌, ◌++◌, reverse, reverse_aux, reverse_aux-append, append-nil, append_assoc}
 use lib.ListN.{length, drop, get_or, length-append, take-append-drop}
 use lib.Seq.{drop-append_seam}
@@ -15,18 +15,18 @@ use Rattle.chars.proofs.Bools.{and-both}
 use Rattle.token.specs.paper.Tests.{begins, quote}
 use Rattle.token.specs.paper.Shapes.{textOf}
 use Rattle.token.specs.computed.Answer.{closed, closeString, strip, plainContent}
-use Rattle.token.specs.code.String.{lastOff, eightsOff, spanAt, eightMore, eightLess, eightsTaken}
+use Rattle.token.specs.code.String.{lastOff, sixteenAt, blocksOff, spanAt, blockMore, blockLess, blocksTaken}
 use Rattle.token.specs.declared.string.Span.{Span}
 use Rattle.token.proofs.Loops.{steps-keep}
-use Rattle.chars.specs.code.Runs.{eightIn}
+use Rattle.chars.proofs.Prefix.{passed}
 use Rattle.chars.specs.promises.Texts.{Suffix, ScriptText}
-use Rattle.chars.proofs.theorems.Promises.{text-laws, run-laws}
+use Rattle.chars.proofs.theorems.Promises.{text-laws}
 use Rattle.token.specs.declared.kinds.TokenKind.TheVariants as tk
 use Rattle.token.proofs.cursor.Bytes.{past}
+use Rattle.token.proofs.cursor.Runs.{twice}
 use Rattle.token.proofs.string.Escapes.{same-place}
 use Rattle.token.proofs.string.Laws.{quote-byte, plain-strict}
 open text-laws use {text-at, text-drop, at-char, at-end, next-on, place-from, ascii-next, wide-tail}
-open run-laws use {eight-all}
 
 -- ---- one turn of the definition
 
@@ -362,33 +362,35 @@ left-many s start end (suc n) a b h l =
     left-moved s start end n a b more
 
 module _ (s : List ℕ) where
-  eight-quotes : (i : ℕ) → eightIn 0x22 0x22 s i ≡ true → Quotes s i (i + 8)
-  eight-quotes i e k u v = let a = (eight-all 0x22 0x22 s i e).1 k u v in omega arith
+  sixteen-quotes : (i : ℕ) → sixteenAt s i ≡ true → Quotes s i (i + 16)
+  sixteen-quotes i e k u v =
+      let n = leb-true 16 _ e in
+      eqb-true (get_or s k 0) 0x22 (sym (twice _) ∙ passed (λ b. eqb b 0x22 || eqb b 0x22) s i k u (omega (arith, n)))
 
-  eights-ends : (a b : ℕ) → eightsOff s a b ≡ true → Ends s 8 a b
-  unfolding eightsOff
-  eights-ends a b e =
-      let f = and-both (leb (a + 16) b) (eightIn 0x22 0x22 s a && eightIn 0x22 0x22 s (b - 8)) e in
-      let g = and-both (eightIn 0x22 0x22 s a) (eightIn 0x22 0x22 s (b - 8)) f.1 in
-      let h = leb-true (a + 16) b f.0 in
+  blocks-ends : (a b : ℕ) → blocksOff s a b ≡ true → Ends s 16 a b
+  unfolding blocksOff
+  blocks-ends a b e =
+      let f = and-both (leb (a + 32) b) (sixteenAt s a && sixteenAt s (b - 16)) e in
+      let g = and-both (sixteenAt s a) (sixteenAt s (b - 16)) f.1 in
+      let h = leb-true (a + 32) b f.0 in
       record {
         apart = omega arith;
-        first = eight-quotes a g.0;
-        last = λ k u v. eight-quotes (b - 8) g.1 k u (omega arith);
+        first = sixteen-quotes a g.0;
+        last = λ k u v. sixteen-quotes (b - 16) g.1 k u (omega arith);
       }
 
-  pub eights_apart : (a b : ℕ) → eightsOff s a b ≡ true → a + 16 ≤ b
-  eights_apart a b e = let k = (eights-ends a b e).apart in omega arith
+  pub blocks_apart : (a b : ℕ) → blocksOff s a b ≡ true → a + 32 ≤ b
+  blocks_apart a b e = let k = (blocks-ends a b e).apart in omega arith
 
-  -- eight turns, and all that can be made so
-  left-eights : (start end a b : ℕ) → eightsOff s a b ≡ true → Left s start end a b → Left s start end (a + 8) (b - 8)
-  left-eights start end a b e l = left-many s start end 8 a b (eights-ends a b e) l
+  -- sixteen turns, and all that can be made so
+  left-blocks : (start end a b : ℕ) → blocksOff s a b ≡ true → Left s start end a b → Left s start end (a + 16) (b - 16)
+  left-blocks start end a b e l = left-many s start end 16 a b (blocks-ends a b e) l
 
-  pub left-taken : (start end : ℕ) (c : Span) → c ≡ eightsTaken s start end → Left s start end start end → Left s start end c.start c.end
-  unfolding eightsTaken
+  pub left-taken : (start end : ℕ) (c : Span) → c ≡ blocksTaken s start end → Left s start end start end → Left s start end c.start c.end
+  unfolding blocksTaken
   left-taken start end c q l =
       rw q
-      (steps-keep (eightMore s) eightLess (λ d. Left s start end d.start d.end) (λ d e k. left-eights start end d.start d.end e k)
+      (steps-keep (blockMore s) blockLess (λ d. Left s start end d.start d.end) (λ d e k. left-blocks start end d.start d.end e k)
       (end - start) (spanAt start end) l)
 
 pub ruleset strip_turns = (left-next, off-most)

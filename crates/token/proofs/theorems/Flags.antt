@@ -16,8 +16,7 @@ use Rattle.token.specs.paper.Tests.{isAny, begins, endsLine}
 use Rattle.token.specs.paper.Kinds.{Kind, isComment, isLineEnd}
 use Rattle.token.specs.paper.Shapes.{One, both, LineEnd, HasShape, Stands}
 use Rattle.token.specs.paper.Reading.{Piece, hasPiece, AfterComment, NoEndAfter, Cut}
-use Rattle.token.specs.computed.Flags.{GapKind, fresh, push, cutOf}
-use Rattle.token.specs.declared.gap.Gap.{Gap}
+use Rattle.token.specs.computed.Flags.{Gap, GapKind, fresh, push, cutOf}
 use Rattle.token.specs.computed.Answer.{Found, Start, scan, scanReturn}
 use Rattle.token.proofs.Base.{zero-one}
 use Rattle.token.proofs.theorems.Runs.{after-next, after-stop, run-after, run-suffix, after-least}

@@ -14,8 +14,7 @@ use Rattle.token.specs.paper.Shapes.{Stands}
 use Rattle.token.specs.paper.Reading.{Piece, Pieces, Valued, Tokens, AfterComment, Cut}
 use Rattle.token.specs.paper.Records.{values, recordLength, perByte, mostNeed, recordBytes}
 use Rattle.words.specs.Words.{le4, le8}
-use Rattle.token.specs.computed.Flags.{GapKind, fresh, push, cutOf}
-use Rattle.token.specs.declared.gap.Gap.{Gap}
+use Rattle.token.specs.computed.Flags.{Gap, GapKind, fresh, push, cutOf}
 use Rattle.token.specs.computed.Answer.{Found, scan, Answer, tokenized, refused, prepend, gapBefore, walk, answer}
 use Rattle.token.specs.declared.kinds.TokenKind.{TokenKind}
 use Rattle.token.specs.declared.kinds.TokenKind.TheVariants as tk

@@ -1,9 +1,9 @@
 -- What stands where a walk stands, by the class of its byte and by what the readers found there: the step past it.
 use Prim.Native.Nat.{ℕ, ◌+◌, ◌-◌, ◌*◌, ◌≤◌, ◌<◌}
 use mathlib.Core.Path.{◌≡◌, refl, sym, ◌∙◌, ap, subst}
-use mathlib.Core.Bool.{Bool, true, false, ◌||◌}
+use mathlib.Core.Bool.{Bool, true, false, not, ◌||◌}
 use mathlib.Core.List.{List, [], append-nil}
-use lib.ListN.{length, get_or}
+use lib.ListN.{length, drop, get_or}
 use lib.Dec.{eqb}
 use native.Mathlib.Nat.{add-zero}
 use native.Mathlib.Omega.{arith}
@@ -14,37 +14,43 @@ use Rattle.chars.proofs.theorems.Promises.{text-laws}
 use Rattle.token.specs.paper.Tests.{isAny, opensLine, opensBlock, opensComment}
 use Rattle.token.specs.paper.Kinds.{Token, kindNumber}
 use Rattle.token.specs.paper.Records.{values, headLength, recordLength}
-use Rattle.token.specs.computed.Flags.{GapKind, fresh, push, cutOf}
-use Rattle.token.specs.computed.Answer.{scan}
+use Rattle.token.specs.computed.Flags.{Gap, GapKind, fresh, push}
+use Rattle.token.specs.computed.Answer.{scan, close}
 use Rattle.token.specs.code.Ascii.{AsciiToken, signNumber}
-use Rattle.token.specs.code.ByteClass.{classAt, blankClass, lfClass, crClass, upToBlank}
+use Rattle.token.specs.code.ByteClass.{classAt, blankClass, lfClass, crClass, upToBlank, inLineEnd}
 use Rattle.token.specs.code.Cursor.{cursorAt}
 use Rattle.token.specs.code.Form.{headNumber, headBytes, formOf, plainForm, byForm}
 use Rattle.token.specs.code.Names.{hereOf}
-use Rattle.token.specs.code.Piece.{pieceOf, pieceNumber, tokenTo}
+use Rattle.token.specs.code.Piece.{pieceOf, pieceNumber, PieceAnswer, tokenTo}
 use Rattle.token.specs.code.Records.{storedIf, lineEndAt, gapGoes, trail}
-use Rattle.token.specs.code.Walk.{plainGap, gapAt, Good, movedTo, plainBehind, valuesBehind, lineBehind, commentBehind, Steps}
-use Rattle.token.specs.declared.gap.Gap.{Gap}
+use Rattle.token.specs.code.Walk.{gapOf, gapAt, Good, movedTo, plainBehind, valuesBehind, lineBehind, commentBehind, blockBehind, Refuses, Steps}
 use Rattle.token.specs.declared.kinds.TokenKind.{TokenKind}
 use Rattle.token.specs.declared.kinds.TokenKind.TheVariants as tk
-use Rattle.token.specs.declared.walk.Walked.{Walked}
+use Rattle.token.specs.declared.walk.Stand.{Stand}
 use Rattle.token.proofs.names.Ascii.{told, bare-length, bare-record, sign-low, sign-number}
 use Rattle.token.proofs.byte_class.Laws.{class-signs, class-blank, class-lf, class-cr, class-number}
-use borrow.Author.Tests.{eqb-true, eq-eqb, ne_eqb}
+use borrow.Author.Tests.{eqb-true, eqb-false, eq-eqb, ne_eqb}
 use Rattle.token.proofs.cursor.Blanks.{one-blank, two-blanks}
-use Rattle.token.proofs.cursor.Bytes.{inside}
-use Rattle.token.proofs.form.Laws.{form-record}
+use Rattle.token.proofs.cursor.Bytes.{inside, any-byte}
+use Rattle.token.proofs.form.Laws.{form-record, length-by}
+use Rattle.token.proofs.records.Measures.{record-least}
+use Rattle.token.specs.declared.cursor.Cursor.{Cursor}
+use Rattle.token.specs.declared.kinds.Form.{Form}
+use Rattle.token.specs.declared.refusal.Refused.{Refused}
 use Rattle.token.proofs.form.Stores.{head-fields}
-use Rattle.token.proofs.gap.Scans.{GapTo, line-end-lf, line-end-crlf, line-end-found, block-end-found}
-use Rattle.token.proofs.gap.Laws.{opens-line, opens-block}
+use Rattle.token.proofs.gap.Scans.{GapTo, lf-found, crlf-found, block-open}
+use Rattle.token.proofs.gap.Laws.{opens-line, opens-block, block-opens}
 use Rattle.token.proofs.names.Laws.{comment-bytes}
-use Rattle.token.specs.code.Gap.{lineEndAfter, blockEnd}
+use Rattle.token.specs.code.Gap.{closedOf}
+use Rattle.token.specs.code.Refusal.{refusalBy}
+use Rattle.token.specs.declared.refusal.Refusal.TheVariants as refusal
+use Rattle.std.specs.Prelude.{None, Err}
 use Rattle.chars.proofs.Bools.{and-both}
-use Rattle.token.proofs.lexer.Laws.{next-token}
-use Rattle.token.proofs.lexer.Seeks.{gap-strict}
+use Rattle.token.proofs.lexer.Laws.{cr-byte, lone-scan, no-line-end, piece-stuck}
+use Rattle.token.proofs.lexer.Found.{gap-strict, blanks-done}
 use Rattle.token.proofs.lexer.Trails.{trail-gap, trail-blanks}
-use Rattle.token.proofs.lexer.Turns.{Turn, turn-token}
-use Rattle.token.proofs.walk.Laws.{step-token, step-line, step-same, step-comment}
+use Rattle.token.proofs.lexer.Turns.{Turn, turn-token, or-false, settled}
+use Rattle.token.proofs.walk.Laws.{step-token, step-line, step-same, step-comment, refuses}
 open text-laws use {at-char, place-from}
 
 -- ---- gap pieces
@@ -66,37 +72,47 @@ line-end-turn s i j g f = record { walked = gap-trail s GapKind.lineEnd i j g f;
 
 -- ---- tokens
 
-pub found-here : (s : List ℕ) (i e : ℕ) (g : Gap) (k : TokenKind) → i < length s → tokenTo k (cursorAt e) ≡ pieceOf (length s) (scan (length s) (from s i))
-    → Turn s i g (record { kind = k; start = i; end = e; cut = cutOf g }) e fresh
-found-here s i e g k h f = turn-token s i g k i (cursorAt e) (cutOf g) (next-token s i g h k (cursorAt e) (cutOf g) refl f)
+pub found-here : (s : List ℕ) (x : Stand) (e : ℕ) (k : TokenKind) → x.at < length s → tokenTo k (cursorAt e) ≡ pieceOf (length s) (scan (length s) (from s x.at))
+    → Turn s x.at (gapAt x) (record { kind = k; start = x.at; end = e; cut = x.cut }) e fresh
+found-here s x e k h f =
+    subst (λ c. Turn s x.at (gapAt x) (record { kind = k; start = x.at; end = e; cut = c }) e fresh) (or-false x.cut)
+    (turn-token s x.at (gapAt x) h k (cursorAt e) f)
 
-module _ {s : List ℕ} {x : Walked} (g : Good s x) (h : x.at < length s) where
+module _ {s : List ℕ} {x : Stand} (g : Good s x) (h : x.at < length s) where
   -- with values
   pub step-valued : (k : TokenKind) (e : ℕ) → tokenTo k (cursorAt e) ≡ pieceOf (length s) (scan (length s) (from s x.at)) → (l : ℕ) → headLength + (l - headLength) ≡ recordLength k
-      → l ≡ recordLength k → (out next : List ℕ) → next ≡ storedIf out x.bytes (byForm (formOf k) x.at e false) → Steps s x out (valuesBehind x (hereOf s e) l) next
+      → l ≡ recordLength k → (out next : List ℕ) → next ≡ storedIf out x.bytes (byForm (formOf k) x.at e x.cut) → Steps s x out (valuesBehind x (hereOf s e) l) next
   step-valued k e f l p r out next q =
-      let t : Token = record { kind = k; start = x.at; end = e; cut = false } in
+      let t : Token = record { kind = k; start = x.at; end = e; cut = x.cut } in
       let z : headLength + (l - headLength) ≡ l = p ∙ sym r in
-      subst (λ n. Steps s x out (record { at = e; class = record { number = classAt s e }; bytes = x.bytes + n; values = x.values + (l - headLength); line = x.line; mark = x.mark }) next) z
-      (step-token g (found-here s x.at e (gapAt x) k h f) (l - headLength) p out next (q ∙ ap (storedIf out x.bytes) (form-record t)))
+      subst (λ n. Steps s x out (record { at = e; class = record { number = classAt s e }; bytes = x.bytes + n; values = x.values + (l - headLength); line = x.line; mark = x.mark; cut = false }) next) z
+      (step-token g (found-here s x e k h f) (l - headLength) p out next (q ∙ ap (storedIf out x.bytes) (form-record t)))
 
   -- without values, by the kind's number
   pub step-bare : (k : TokenKind) (e : ℕ) → tokenTo k (cursorAt e) ≡ pieceOf (length s) (scan (length s) (from s x.at)) → values k ≡ []
-      → (out next : List ℕ) → next ≡ storedIf out x.bytes (byForm (plainForm (kindNumber k)) x.at e false) → Steps s x out (plainBehind x (hereOf s e)) next
+      → (out next : List ℕ) → next ≡ storedIf out x.bytes (byForm (plainForm (kindNumber k)) x.at e x.cut) → Steps s x out (plainBehind x (hereOf s e)) next
   step-bare k e f v out next q =
-      let t : Token = record { kind = k; start = x.at; end = e; cut = false } in
-      subst (λ n. Steps s x out (record { at = e; class = record { number = classAt s e }; bytes = x.bytes + headLength; values = n; line = x.line; mark = x.mark }) next) (add-zero x.values)
-      (step-token g (found-here s x.at e (gapAt x) k h f) 0 (bare-length k v) out next (q ∙ ap (storedIf out x.bytes) (sym (bare-record t v))))
+      let t : Token = record { kind = k; start = x.at; end = e; cut = x.cut } in
+      subst (λ n. Steps s x out (record { at = e; class = record { number = classAt s e }; bytes = x.bytes + headLength; values = n; line = x.line; mark = x.mark; cut = false }) next) (add-zero x.values)
+      (step-token g (found-here s x e k h f) 0 (bare-length k v) out next (q ∙ ap (storedIf out x.bytes) (sym (bare-record t v))))
 
   -- recognised from its ASCII bytes
   pub step-ascii : (e : ℕ) → AsciiToken s x.at e → (n : ℕ) → n ≡ pieceNumber (pieceOf (length s) (scan (length s) (from s x.at))) → (out next : List ℕ)
-      → next ≡ storedIf out x.bytes (byForm (plainForm n) x.at e false) → Steps s x out (plainBehind x (hereOf s e)) next
+      → next ≡ storedIf out x.bytes (byForm (plainForm n) x.at e x.cut) → Steps s x out (plainBehind x (hereOf s e)) next
   step-ascii e a n r out next q =
       let t = told s x.at e h a in
       let z : n ≡ kindNumber t.kind = r ∙ sym (ap pieceNumber t.found) in
-      step-bare t.kind e t.found t.bare out next (q ∙ ap (λ m. storedIf out x.bytes (byForm (plainForm m) x.at e false)) z)
+      step-bare t.kind e t.found t.bare out next (q ∙ ap (λ m. storedIf out x.bytes (byForm (plainForm m) x.at e x.cut)) z)
 
 -- ---- by the class
+
+-- an LF or CR, by its class
+line-class : (s : List ℕ) (k : ℕ) → isAny "\n\r" (from s k) ≡ inLineEnd (classAt s k)
+line-class s k = any-byte "\n\r" refl s k ∙ sym (ap (λ b. b || eqb (classAt s k) crClass) (class-lf (get_or s k 0)) ∙ ap (λ b. (eqb (get_or s k 0) 0x0A || false) || b) (class-cr (get_or s k 0)) ∙ go (eqb (get_or s k 0) 0x0A))
+  where
+    go : (b : Bool) → (b || false) || (eqb (get_or s k 0) 0x0D || false) ≡ b || (eqb (get_or s k 0) 0x0D || false)
+    go true = refl
+    go false = refl
 
 sign-inside : (s : List ℕ) (i : ℕ) → oneOf "()[]{},;." (get_or s i 0) ≡ true → i < length s
 sign-inside s i e = inside s i (sign-low (get_or s i 0) e).0
@@ -109,7 +125,7 @@ pub plain-head : (h k start end : ℕ) (cut : Bool) → h ≡ headNumber headLen
 unfolding byForm
 plain-head h k start end cut e = head-fields h headLength k start end cut (omega arith) e ∙ sym (append-nil _)
 
-module _ {s : List ℕ} {x : Walked} (g : Good s x) where
+module _ {s : List ℕ} {x : Stand} (g : Good s x) where
   -- one of the nine signs
   pub sign-here : upToBlank x.class.number ≡ true → eqb x.class.number blankClass ≡ false → oneOf "()[]{},;." (get_or s x.at 0) ≡ true
   sign-here a b =
@@ -118,7 +134,7 @@ module _ {s : List ℕ} {x : Walked} (g : Good s x) where
       or-first (oneOf "()[]{},;." (get_or s x.at 0)) (oneOf " \t" (get_or s x.at 0)) u v
 
   pub step-sign : upToBlank x.class.number ≡ true → eqb x.class.number blankClass ≡ false → (out next : List ℕ)
-      → next ≡ storedIf out x.bytes (headBytes (headLength + 32768 * x.class.number) x.at (x.at + 1) false) → Steps s x out (plainBehind x (hereOf s (x.at + 1))) next
+      → next ≡ storedIf out x.bytes (headBytes (headLength + 32768 * x.class.number) x.at (x.at + 1) x.cut) → Steps s x out (plainBehind x (hereOf s (x.at + 1))) next
   step-sign a b out next q =
       let o = sign-here a b in
       let h = sign-inside s x.at o in
@@ -126,7 +142,7 @@ module _ {s : List ℕ} {x : Walked} (g : Good s x) where
       let c = g.class in
       let m = signNumber (get_or s x.at 0) in
       let z : headLength + 32768 * x.class.number ≡ headNumber headLength m = omega (arith, n, c) in
-      step-ascii g h (x.at + 1) (AsciiToken.sign o refl) m (sign-number s x.at (x.at + 1) h o) out next (q ∙ ap (storedIf out x.bytes) (plain-head _ m x.at (x.at + 1) false z))
+      step-ascii g h (x.at + 1) (AsciiToken.sign o refl) m (sign-number s x.at (x.at + 1) h o) out next (q ∙ ap (storedIf out x.bytes) (plain-head _ m x.at (x.at + 1) x.cut z))
 
   -- blanks
   pub step-blanks : (k : ℕ) → x.at ≤ k → k ≤ length s → from s k ≡ afterRun (isAny " \t") (from s x.at) → (out : List ℕ) → Steps s x out (movedTo x (hereOf s k)) out
@@ -141,27 +157,33 @@ module _ {s : List ℕ} {x : Walked} (g : Good s x) where
 
   -- a line comment
   pub step-line-comment : (e : ℕ) → GapTo s GapKind.lineComment x.at e → (out : List ℕ) → Steps s x out (commentBehind s x e) out
-  step-line-comment e f out = let o = f.on in step-comment g e (omega arith) f.within (sym (gap-trail s GapKind.lineComment x.at e (gapAt x) f)) out
+  step-line-comment e f out =
+      let o = f.on in
+      step-comment g e x.cut (omega arith) f.within
+      (sym (gap-trail s GapKind.lineComment x.at e (gapAt x) f ∙ ap (λ c. trail (length s) 0 (gapOf (eqb x.line x.bytes) true c) (from s e)) (or-false x.cut))) out
 
   -- a block comment, where no line end of its gap came
   pub step-block : (e : ℕ) → GapTo s GapKind.blockComment x.at e → eqb x.line x.bytes ≡ false → (out : List ℕ) → Steps s x out (commentBehind s x e) out
   step-block e f n out =
       let o = f.on in
-      let y : push GapKind.blockComment (gapAt x) ≡ plainGap (eqb x.line x.bytes) true = rw n in
-      step-comment g e (omega arith) f.within (sym (gap-trail s GapKind.blockComment x.at e (gapAt x) f ∙ ap (λ z. trail (length s) 0 z (from s e)) y)) out
+      let y : push GapKind.blockComment (gapAt x) ≡ gapOf (eqb x.line x.bytes) true x.cut = rw (n, or-false x.cut) in
+      step-comment g e x.cut (omega arith) f.within (sym (gap-trail s GapKind.blockComment x.at e (gapAt x) f ∙ ap (λ z. trail (length s) 0 z (from s e)) y)) out
 
-  -- a block comment and the line end behind it, past blanks
-  pub step-block-line : (e k j : ℕ) → GapTo s GapKind.blockComment x.at e → eqb x.line x.bytes ≡ true → e ≤ k → from s k ≡ afterRun (isAny " \t") (from s e) → GapTo s GapKind.lineEnd k j
-      → (out next : List ℕ) → next ≡ storedIf out x.bytes (byForm (formOf (tk.Newline true)) k j false) → Steps s x out (lineBehind s x j) next
-  step-block-line e k j f n l b d out next q =
+  -- a block comment and the blanks behind it, where one came: what follows decides on the cut
+  pub step-block-cut : (e k : ℕ) → GapTo s GapKind.blockComment x.at e → eqb x.line x.bytes ≡ true → e ≤ k → k ≤ length s → from s k ≡ afterRun (isAny " \t") (from s e) → (out : List ℕ)
+      → Steps s x out (blockBehind s x k) out
+  step-block-cut e k f n l w b out =
       let o = f.on in
-      let u = d.on in
-      let y = push GapKind.blockComment (gapAt x) in
-      let t = lineEndAt k j true in
-      let w = gap-trail s GapKind.blockComment x.at e (gapAt x) f
-      ∙ sym (ap (trail (length s) 0 y) b ∙ trail-blanks (length s) y (from s e))
-      ∙ gap-trail s GapKind.lineEnd k j y d in
-      step-line g (record { walked = w; on = omega arith; within = d.within }) out next (q ∙ ap (storedIf out x.bytes) (form-record t))
+      let c = x.cut || not (isAny "\n\r" (from s k)) in
+      let y : push GapKind.blockComment (gapAt x) ≡ record { newline = true; comment = true; pending = true; cut = x.cut } = rw (n, or-false x.cut) in
+      let z = settled (length s) true true x.cut (from s k) (ap (isAny " \t") b ∙ blanks-done (from s e)) in
+      let p : gapOf true true c ≡ gapOf (eqb x.line x.bytes) true c = ap (λ d. gapOf d true c) (sym n) in
+      subst (λ d. Steps s x out (record { at = k; class = record { number = classAt s k }; bytes = x.bytes; values = x.values; line = x.line; mark = x.bytes; cut = x.cut || not d }) out)
+      (line-class s k)
+      (step-comment g k c (omega arith) w
+      (sym (gap-trail s GapKind.blockComment x.at e (gapAt x) f ∙ ap (λ d. trail (length s) 0 d (from s e)) y
+      ∙ sym (ap (trail (length s) 0 (record { newline = true; comment = true; pending = true; cut = x.cut })) b ∙ trail-blanks (length s) _ (from s e))
+      ∙ z ∙ ap (λ d. trail (length s) 0 d (from s k)) p)) out)
 
   -- the byte, from a test of its class
   pub by-class : (f : ℕ → Bool) {b : Bool} → f x.class.number ≡ b → f (classAt s x.at) ≡ b
@@ -187,25 +209,33 @@ module _ {s : List ℕ} {x : Walked} (g : Good s x) where
 
   -- line ends
   pub lf-here : eqb x.class.number lfClass ≡ true → GapTo s GapKind.lineEnd x.at (x.at + 1)
-  lf-here e =
-      let b = or-first (eqb (get_or s x.at 0) 0x0A) false (sym (class-lf (get_or s x.at 0)) ∙ by-class (λ z. eqb z lfClass) e) refl in
-      let q = line-end-lf s x.at b in
-      rw (sym q) at (line-end-found s x.at (λ z. absurd (omega (arith, q, z))))
+  lf-here e = lf-found s x.at (or-first (eqb (get_or s x.at 0) 0x0A) false (sym (class-lf (get_or s x.at 0)) ∙ by-class (λ z. eqb z lfClass) e) refl)
+
+  cr-byte-here : eqb x.class.number crClass ≡ true → eqb (get_or s x.at 0) 0x0D ≡ true
+  cr-byte-here e = or-first (eqb (get_or s x.at 0) 0x0D) false (sym (class-cr (get_or s x.at 0)) ∙ by-class (λ z. eqb z crClass) e) refl
 
   pub cr-here : eqb x.class.number crClass ≡ true → get_or s (x.at + 1) 0 ≡ 0x0A → GapTo s GapKind.lineEnd x.at (x.at + 2)
-  cr-here e n =
-      let b = or-first (eqb (get_or s x.at 0) 0x0D) false (sym (class-cr (get_or s x.at 0)) ∙ by-class (λ z. eqb z crClass) e) refl in
-      let z : get_or s x.at 0 ≡ 0x0D = eqb-true (get_or s x.at 0) 0x0D b in
-      let q = line-end-crlf s x.at (ne_eqb (get_or s x.at 0) 0x0A (λ y. absurd (omega (arith, z, y)))) (rw (b, eq-eqb (get_or s (x.at + 1) 0) 0x0A n)) in
-      rw (sym q) at (line-end-found s x.at (λ y. absurd (omega (arith, q, y))))
+  cr-here e n = crlf-found s x.at (rw (cr-byte-here e, eq-eqb (get_or s (x.at + 1) 0) 0x0A n))
 
--- ---- where the readers say that comments and line ends end
+  -- a CR without an LF
+  pub refuses-lone : eqb x.class.number crClass ≡ true → (get_or s (x.at + 1) 0 ≡ 0x0A → ⊥) → (out : List ℕ) → Refuses s x out (record { what = refusal.LoneCr; place = x.at })
+  unfolding refusalBy
+  refuses-lone e n out =
+      let c = cr-byte-here e in
+      let z : get_or s x.at 0 ≡ 0x0D = eqb-true (get_or s x.at 0) 0x0D c in
+      let h = inside s x.at (omega (arith, z)) in
+      let r : isAny "\r" (from s x.at) ≡ true = cr-byte s x.at ∙ rw c in
+      refuses h 1 (from s x.at) (lone-scan s x.at r (rw (c, ne_eqb (get_or s (x.at + 1) 0) 0x0A n))) _
+      (ap (λ p. record { what = refusal.LoneCr; place = p }) (sym (place-from s x.at (omega arith)))) out
 
-pub block-to : (s : List ℕ) (i e : ℕ) → opensBlock (from s i) ≡ true → e ≡ blockEnd s i → (e ≡ i → ⊥) → GapTo s GapKind.blockComment i e
-block-to s i e o q n = subst (λ z. GapTo s GapKind.blockComment i z) (sym q) (block-end-found s i o (λ z. n (q ∙ z)))
+  -- a block comment that is open at the end of script
+  pub refuses-open : opensBlock (from s x.at) ≡ true → None ≡ closedOf (length s) (close 0 0 (drop 2 (from s x.at))) → (out : List ℕ) → Refuses s x out (record { what = refusal.OpenComment; place = x.at })
+  unfolding refusalBy
+  refuses-open o q out =
+      let h : x.at < length s = omega (arith, (block-opens s x.at o).within) in
+      refuses h 2 (from s x.at) (block-open s x.at o q) _ (ap (λ p. record { what = refusal.OpenComment; place = p }) (sym (place-from s x.at (omega arith)))) out
 
-pub line-to : (s : List ℕ) (i e : ℕ) → e ≡ lineEndAfter s i → (e ≡ i → ⊥) → GapTo s GapKind.lineEnd i e
-line-to s i e q n = subst (λ z. GapTo s GapKind.lineEnd i z) (sym q) (line-end-found s i (λ z. n (q ∙ z)))
+-- ---- comments
 
 -- which comment is opened, by its second byte
 module _ (s : List ℕ) (i : ℕ) (o : opensComment (from s i) ≡ true) where
@@ -217,3 +247,34 @@ module _ (s : List ℕ) (i : ℕ) (o : opensComment (from s i) ≡ true) where
 
   pub opens-block-here : (get_or s (i + 1) 0 ≡ 0x2F → ⊥) → opensBlock (from s i) ≡ true
   opens-block-here n = opens-block s i ∙ rw (slash-byte.0, or-first (eqb (get_or s (i + 1) 0) 0x2A) (eqb (get_or s (i + 1) 0) 0x2F || false) slash-byte.1 (rw (ne_eqb (get_or s (i + 1) 0) 0x2F n)))
+
+-- ---- a piece that was read
+
+module _ {s : List ℕ} {x : Stand} (g : Good s x) (h : x.at < length s) where
+  -- a token
+  pub step-piece : (k : TokenKind) (e : Cursor) → tokenTo k e ≡ pieceOf (length s) (scan (length s) (from s x.at)) → (f : Form) → f ≡ formOf k → (out next : List ℕ)
+      → next ≡ storedIf out x.bytes (byForm f x.at e.at x.cut) → Steps s x out (valuesBehind x (hereOf s e.at) f.length) next
+  step-piece k e q f r out next z =
+      let l = length-by f k r in
+      let a = record-least k in
+      step-valued g h k e.at q f.length (omega (arith, l, a)) l out next (z ∙ ap (λ y. storedIf out x.bytes (byForm y x.at e.at x.cut)) r)
+
+  pub piece-on : (k : TokenKind) (e : Cursor) → tokenTo k e ≡ pieceOf (length s) (scan (length s) (from s x.at)) → x.at < e.at
+  piece-on k e q = (turn-token s x.at (gapAt x) h k e q).on
+
+  -- a refusal
+  pub refuses-piece : (e : Refused) → opensComment (from s x.at) ≡ false → isAny " \t\n\r" (from s x.at) ≡ false → ◌≡◌ {A = PieceAnswer} (Err e) (pieceOf (length s) (scan (length s) (from s x.at)))
+      → (out : List ℕ) → Refuses s x out e
+  refuses-piece e a b q out = let p = piece-stuck s x.at h e a b q in refuses h p.0 p.1 p.2 e p.3 out
+
+-- no gap piece stands where the class is of none
+pub no-gap-here : {s : List ℕ} {x : Stand} → Good s x → eqb x.class.number crClass ≡ false → eqb x.class.number blankClass ≡ false → eqb x.class.number lfClass ≡ false → isAny " \t\n\r" (from s x.at) ≡ false
+no-gap-here {s} {x} g a b c =
+    let u = any-byte " \t" refl s x.at ∙ sym (class-blank (get_or s x.at 0)) ∙ by-class g (λ z. eqb z blankClass) b in
+    let v = or-none _ _ (sym (class-lf (get_or s x.at 0)) ∙ by-class g (λ z. eqb z lfClass) c) in
+    let w = or-none _ _ (sym (class-cr (get_or s x.at 0)) ∙ by-class g (λ z. eqb z crClass) a) in
+    no-line-end s x.at u (eqb-false _ _ v) (eqb-false _ _ w)
+  where
+    or-none : (p q : Bool) → p || q ≡ false → p ≡ false
+    or-none true q e = e
+    or-none false q e = refl

@@ -31,7 +31,7 @@ use Rattle.token.specs.declared.kinds.Kw.{Kw}
 use Rattle.token.specs.declared.kinds.Kw.TheVariants as kw
 use Rattle.token.specs.declared.kinds.TokenKind.TheVariants as tk
 use Rattle.token.specs.declared.names.Here.{Here}
-use Rattle.token.specs.declared.walk.Walked.{Walked}
+use Rattle.token.specs.declared.walk.Stand.{Stand}
 use Rattle.token.proofs.byte_class.Laws.{class-quote, class-backtick}
 use Rattle.token.proofs.ident.Laws.{token-at, not-prefixed}
 use Rattle.token.proofs.names.Bytes.{Stops, class-inside, name-stops}
@@ -97,7 +97,7 @@ class-of q = ap (λ (z : Here). z.class.number) q
 quote-here : (s : List ℕ) (i : ℕ) → eqb (classAt s i) quoteClass ≡ true → get_or s i 0 ≡ 0x22
 quote-here s i e = oneOf 0x22 (sym (class-quote (get_or s i 0)) ∙ e)
 
-module _ {s : List ℕ} {x : Walked} (g : Good s x) (k : beginsName x.class.number ≡ true) where
+module _ {s : List ℕ} {x : Stand} (g : Good s x) (k : beginsName x.class.number ≡ true) where
   pub name-inside : x.at < length s
   name-inside = class-inside s x.at beginsName refl (by-class g beginsName k)
 
@@ -181,7 +181,7 @@ module _ {s : List ℕ} {x : Walked} (g : Good s x) (k : beginsName x.class.numb
           go (Begins.lettered n m w) = (rests n m w (name-stops s e x.at (named n m w))).0
 
       pub step-named : eqb e.class.number quoteClass && leb j 3 ≡ false → (out next : List ℕ)
-          → next ≡ storedIf out x.bytes (byForm (plainForm j) x.at e.at false) → Steps s x out (plainBehind x e) next
+          → next ≡ storedIf out x.bytes (byForm (plainForm j) x.at e.at x.cut) → Steps s x out (plainBehind x e) next
       unfolding values
       step-named f out next v = go (begins x.class.number k)
         where
@@ -197,10 +197,10 @@ module _ {s : List ℕ} {x : Walked} (g : Good s x) (k : beginsName x.class.numb
               let y : j ≡ 3 = z ∙ sym (name-backtick s x.class.number x.at e.at c) in
               let p = token-at s tk.BacktickId (cursorAt e.at) (from s e.at) b.1 refl
               ∙ ap (pieceOf (length s)) (sym (b.2 ∙ b.3 ∙ not-prefixed (length s) tk.BacktickId (from s x.at) (from s e.at) (unquoted d (omega arith)))) in
-              behind-here e d (step-bare g name-inside tk.BacktickId e.at p refl out next (v ∙ ap (λ i. storedIf out x.bytes (byForm (plainForm i) x.at e.at false)) y))
+              behind-here e d (step-bare g name-inside tk.BacktickId e.at p refl out next (v ∙ ap (λ i. storedIf out x.bytes (byForm (plainForm i) x.at e.at x.cut)) y))
           go (Begins.lettered n m w) =
               let st = name-stops s e x.at (named n m w) in
               let r = rests n m w st in
               let c = name-counts g w e.at r.1 r.2 in
               behind-here e st.class-is
-              (step-name g w e.at r.1 r.2 (λ l. unquoted st.class-is (omega (arith, c, z))) out next (v ∙ ap (λ i. storedIf out x.bytes (byForm (plainForm i) x.at e.at false)) z))
+              (step-name g w e.at r.1 r.2 (λ l. unquoted st.class-is (omega (arith, c, z))) out next (v ∙ ap (λ i. storedIf out x.bytes (byForm (plainForm i) x.at e.at x.cut)) z))

@@ -35,7 +35,7 @@ use Rattle.token.specs.declared.kinds.TokenKind.{TokenKind}
 use Rattle.token.specs.declared.kinds.TokenKind.TheVariants as tk
 use Rattle.token.specs.declared.names.Here.{Here}
 use Rattle.token.specs.declared.quoted.Quoted.{Quoted}
-use Rattle.token.specs.declared.walk.Walked.{Walked}
+use Rattle.token.specs.declared.walk.Stand.{Stand}
 use Rattle.token.proofs.byte_class.Laws.{class-start, class-sign, class-digit, class-tick, class-keyword}
 use Rattle.token.proofs.cursor.Bytes.{inside}
 use Rattle.token.proofs.form.Shapes.{int-size, str-size}
@@ -56,7 +56,7 @@ open text-laws use {place-from}
 pub here-is : (s : List ℕ) (e : Here) → e.class.number ≡ classAt s e.at → hereOf s e.at ≡ e
 here-is s e q = ap (λ c. record { at = e.at; class = record { number = c } }) (sym q)
 
-pub behind-here : {s : List ℕ} {x : Walked} {out next : List ℕ} (e : Here) → e.class.number ≡ classAt s e.at → Steps s x out (plainBehind x (hereOf s e.at)) next
+pub behind-here : {s : List ℕ} {x : Stand} {out next : List ℕ} (e : Here) → e.class.number ≡ classAt s e.at → Steps s x out (plainBehind x (hereOf s e.at)) next
     → Steps s x out (plainBehind x e) next
 behind-here {s} {x} {out} {next} e q h = subst (λ z. Steps s x out (plainBehind x z) next) (here-is s e q) h
 
@@ -78,7 +78,7 @@ prefixed-piece s i q e k h z l c f =
 
 -- ---- operators
 
-module _ {s : List ℕ} {x : Walked} (g : Good s x) where
+module _ {s : List ℕ} {x : Stand} (g : Good s x) where
   sign-byte : isSign x.class.number ≡ true → ltb (get_or s x.at 0) 0x80 && isOpSign (get_or s x.at 0) ≡ true
   sign-byte e = sym (class-sign (get_or s x.at 0)) ∙ by-class g isSign e
 
@@ -95,7 +95,7 @@ module _ {s : List ℕ} {x : Walked} (g : Good s x) where
     pub operator-left : (x.at ≤ e.at) × (e.at ≤ length s) × Suffix (from s e.at) (from s x.at)
     operator-left = run-to s x.at e.at (sign-within k) (sign-byte k) rest.1 rest.2
 
-    pub step-operator : (out next : List ℕ) → next ≡ storedIf out x.bytes (byForm (plainForm (operatorNumber s x.at e)) x.at e.at false) → Steps s x out (plainBehind x e) next
+    pub step-operator : (out next : List ℕ) → next ≡ storedIf out x.bytes (byForm (plainForm (operatorNumber s x.at e)) x.at e.at x.cut) → Steps s x out (plainBehind x e) next
     unfolding operatorNumber values
     step-operator out next q = behind-here e st.class-is (go (eqb (classAt s e.at) slashClass) refl)
       where
@@ -103,8 +103,8 @@ module _ {s : List ℕ} {x : Walked} (g : Good s x) where
         number b f = ap (λ c. cond (eqb c slashClass) 2 (numberOr 2 (runOf (codesTo (from s x.at) (from s e.at))))) st.class-is
             ∙ ap (λ c. cond c 2 (numberOr 2 (runOf (codesTo (from s x.at) (from s e.at))))) f
 
-        stored : (m : ℕ) → operatorNumber s x.at e ≡ m → next ≡ storedIf out x.bytes (byForm (plainForm m) x.at e.at false)
-        stored m f = q ∙ ap (λ z. storedIf out x.bytes (byForm (plainForm z) x.at e.at false)) f
+        stored : (m : ℕ) → operatorNumber s x.at e ≡ m → next ≡ storedIf out x.bytes (byForm (plainForm m) x.at e.at x.cut)
+        stored m f = q ∙ ap (λ z. storedIf out x.bytes (byForm (plainForm z) x.at e.at x.cut)) f
 
         go : (b : Bool) → eqb (classAt s e.at) slashClass ≡ b → Steps s x out (plainBehind x (hereOf s e.at)) next
         go true f =
@@ -145,7 +145,7 @@ module _ {s : List ℕ} {x : Walked} (g : Good s x) where
     pub run-left : LeftTo s x.at e.at
     run-left = operator-left run-sign run-opens e run-stops
 
-    pub step-run : (out next : List ℕ) → next ≡ storedIf out x.bytes (byForm (plainForm (operatorNumber s x.at e)) x.at e.at false) → Steps s x out (plainBehind x e) next
+    pub step-run : (out next : List ℕ) → next ≡ storedIf out x.bytes (byForm (plainForm (operatorNumber s x.at e)) x.at e.at x.cut) → Steps s x out (plainBehind x e) next
     step-run = step-operator run-sign run-opens e run-stops
 
   pub run-within : inRun x.class.number ≡ true → x.at < length s
@@ -153,7 +153,7 @@ module _ {s : List ℕ} {x : Walked} (g : Good s x) where
 
 -- ---- numbers
 
-module _ {s : List ℕ} {x : Walked} (g : Good s x) (k : eqb x.class.number digitClass ≡ true) where
+module _ {s : List ℕ} {x : Stand} (g : Good s x) (k : eqb x.class.number digitClass ≡ true) where
   pub digit-here : isDigit (get_or s x.at 0) ≡ true
   unfolding isDigit
   digit-here = carry (λ b. between 0x30 0x39 b) (codes "0123456789") (get_or s x.at 0) refl (sym (class-digit (get_or s x.at 0)) ∙ by-class g (λ z. eqb z digitClass) k)
@@ -167,26 +167,26 @@ module _ {s : List ℕ} {x : Walked} (g : Good s x) (k : eqb x.class.number digi
     number-found = f ∙ ap (pieceOf (length s)) (sym (number_at s x.at digit-inside digit-here))
 
     pub number-on : x.at < e.at
-    number-on = (found-here s x.at e.at (gapAt x) t digit-inside number-found).on
+    number-on = (found-here s x e.at t digit-inside number-found).on
 
     pub step-number : (l : ℕ) → headLength + (l - headLength) ≡ recordLength t → l ≡ recordLength t → (out next : List ℕ)
-        → next ≡ storedIf out x.bytes (byForm (formOf t) x.at e.at false) → Steps s x out (valuesBehind x (hereOf s e.at) l) next
+        → next ≡ storedIf out x.bytes (byForm (formOf t) x.at e.at x.cut) → Steps s x out (valuesBehind x (hereOf s e.at) l) next
     step-number l p r out next z = step-valued g digit-inside t e.at number-found l p r out next z
 
   pub step-digit : (e : Here) → e ≡ hereOf s (x.at + 1) → inWord e.class.number ≡ false → (v : ℕ) → v ≡ digitValue (get_or s x.at 0) → (out next : List ℕ)
-      → next ≡ storedIf out x.bytes (byForm (formOf (tk.IntLit v)) x.at e.at false) → Steps s x out (valuesBehind x e intLength) next
+      → next ≡ storedIf out x.bytes (byForm (formOf (tk.IntLit v)) x.at e.at x.cut) → Steps s x out (valuesBehind x e intLength) next
   step-digit e q w v r out next z =
       let at : e.at ≡ x.at + 1 = ap (λ (y : Here). y.at) q in
       let c : e.class.number ≡ classAt s (x.at + 1) = ap (λ (y : Here). y.class.number) q in
       let u = digit-alone s x.at digit-inside digit-here (sym (ap inWord c) ∙ w) in
       subst (λ y. Steps s x out (valuesBehind x y intLength) next) (sym q)
       (step-valued g digit-inside (tk.IntLit (digitValue (get_or s x.at 0))) (x.at + 1) u intLength (int-size _) (int-size _) out next
-      (z ∙ ap (λ y. storedIf out x.bytes (byForm (formOf (tk.IntLit y)) x.at e.at false)) r
-      ∙ ap (λ y. storedIf out x.bytes (byForm (formOf (tk.IntLit (digitValue (get_or s x.at 0)))) x.at y false)) at))
+      (z ∙ ap (λ y. storedIf out x.bytes (byForm (formOf (tk.IntLit y)) x.at e.at x.cut)) r
+      ∙ ap (λ y. storedIf out x.bytes (byForm (formOf (tk.IntLit (digitValue (get_or s x.at 0)))) x.at y x.cut)) at))
 
 -- ---- characters and symbols
 
-module _ {s : List ℕ} {x : Walked} (g : Good s x) (k : eqb x.class.number tickClass ≡ true) where
+module _ {s : List ℕ} {x : Stand} (g : Good s x) (k : eqb x.class.number tickClass ≡ true) where
   pub tick-inside : x.at < length s
   tick-inside = class-inside s x.at (λ z. eqb z tickClass) refl (by-class g (λ z. eqb z tickClass) k)
 
@@ -202,9 +202,9 @@ module _ {s : List ℕ} {x : Walked} (g : Good s x) (k : eqb x.class.number tick
     symbol-found = f ∙ ap (pieceOf (length s)) (sym (charsym-at s x.at tick-inside tick-opens))
 
     pub symbol-on : x.at < e.at
-    symbol-on = (found-here s x.at e.at (gapAt x) tk.CharSym tick-inside symbol-found).on
+    symbol-on = (found-here s x e.at tk.CharSym tick-inside symbol-found).on
 
-    pub step-symbol : (out next : List ℕ) → next ≡ storedIf out x.bytes (byForm (plainForm 7) x.at e.at false) → Steps s x out (plainBehind x (hereOf s e.at)) next
+    pub step-symbol : (out next : List ℕ) → next ≡ storedIf out x.bytes (byForm (plainForm 7) x.at e.at x.cut) → Steps s x out (plainBehind x (hereOf s e.at)) next
     unfolding values
     step-symbol out next z = step-bare g tick-inside tk.CharSym e.at symbol-found refl out next z
 
@@ -213,7 +213,7 @@ module _ {s : List ℕ} {x : Walked} (g : Good s x) (k : eqb x.class.number tick
 pub starts-by : (k : ℕ) → upToBlank k ≡ false → startsWord k ≡ true → not (upToBlank k) && startsWord k ≡ true
 starts-by k a b = rw (a, b)
 
-module _ {s : List ℕ} {x : Walked} (g : Good s x) (k : not (upToBlank x.class.number) && startsWord x.class.number ≡ true) where
+module _ {s : List ℕ} {x : Stand} (g : Good s x) (k : not (upToBlank x.class.number) && startsWord x.class.number ≡ true) where
   start-here : not (upToBlank (classAt s x.at)) && startsWord (classAt s x.at) ≡ true
   start-here = by-class g (λ e. not (upToBlank e) && startsWord e) k
 
@@ -245,12 +245,12 @@ module _ {s : List ℕ} {x : Walked} (g : Good s x) (k : not (upToBlank x.class.
 
     -- a keyword, before a quote too; or an identifier that prefixes no string
     pub step-name : (numberOr 1 (wordOf (codesTo (from s x.at) (from s e))) ≤ 3 → quote (from s e) ≡ false) → (out next : List ℕ)
-        → next ≡ storedIf out x.bytes (byForm (plainForm (nameNumber s x.class.number x.at e)) x.at e false) → Steps s x out (plainBehind x (hereOf s e)) next
+        → next ≡ storedIf out x.bytes (byForm (plainForm (nameNumber s x.class.number x.at e)) x.at e x.cut) → Steps s x out (plainBehind x (hereOf s e)) next
     unfolding numberOr
     step-name z out next q = go (wordOf (codesTo (from s x.at) (from s e))) refl
       where
-        stored : (m : ℕ) → nameNumber s x.class.number x.at e ≡ m → next ≡ storedIf out x.bytes (byForm (plainForm m) x.at e false)
-        stored m f = q ∙ ap (λ y. storedIf out x.bytes (byForm (plainForm y) x.at e false)) f
+        stored : (m : ℕ) → nameNumber s x.class.number x.at e ≡ m → next ≡ storedIf out x.bytes (byForm (plainForm m) x.at e x.cut)
+        stored m f = q ∙ ap (λ y. storedIf out x.bytes (byForm (plainForm y) x.at e x.cut)) f
 
         go : (o : Option Kw) → wordOf (codesTo (from s x.at) (from s e)) ≡ o → Steps s x out (plainBehind x (hereOf s e)) next
         go none f =
@@ -278,12 +278,12 @@ module _ {s : List ℕ} {x : Walked} (g : Good s x) (k : not (upToBlank x.class.
     pub plain-leaves : LeftTo s x.at e.at
     plain-leaves = word-leaves e.at word-rests.1 word-rests.2
 
-    pub step-word : (out next : List ℕ) → next ≡ storedIf out x.bytes (byForm (plainForm (nameNumber s x.class.number x.at e.at)) x.at e.at false) → Steps s x out (plainBehind x e) next
+    pub step-word : (out next : List ℕ) → next ≡ storedIf out x.bytes (byForm (plainForm (nameNumber s x.class.number x.at e.at)) x.at e.at x.cut) → Steps s x out (plainBehind x e) next
     step-word out next z = behind-here e word-class (step-name e.at word-rests.1 word-rests.2 (λ w. word-is.2) out next z)
 
 -- ---- strings
 
-module _ {s : List ℕ} {x : Walked} (g : Good s x) where
+module _ {s : List ℕ} {x : Stand} (g : Good s x) where
   open-byte : {q : ℕ} → Opens s x q → get_or s q 0 ≡ 0x22
   open-byte (Opens.plain e b) = b
   open-byte (Opens.prefixed k o w b f) = b
@@ -310,7 +310,7 @@ module _ {s : List ℕ} {x : Walked} (g : Good s x) where
       omega (arith, u.0)
 
   pub step-string : {q : ℕ} → Opens s x q → (r : Quoted) → Some r ≡ stringOf (ltb x.at q) s q → (o : ℕ) → o ≡ cond (ltb x.at q) 0 r.quotes → (out next : List ℕ)
-      → next ≡ storedIf out x.bytes (byForm (formOf (tk.Str (x.at + o) (r.end - o))) x.at r.end false) → Steps s x out (valuesBehind x (hereOf s r.end) strLength) next
+      → next ≡ storedIf out x.bytes (byForm (formOf (tk.Str (x.at + o) (r.end - o))) x.at r.end x.cut) → Steps s x out (valuesBehind x (hereOf s r.end) strLength) next
   step-string {q} (Opens.plain e b) r z o f out next w =
       let t : ltb x.at q ≡ false = le-ltb x.at q (omega arith) in
       let u = string-found s q b r (z ∙ ap (λ y. stringOf y s q) t) in
@@ -327,4 +327,4 @@ module _ {s : List ℕ} {x : Walked} (g : Good s x) where
       let h : x.at < length s = omega arith in
       let p = prefixed-piece s x.at q r.end k h (open-within {q = q} (Opens.prefixed k l i b c)).1 u.1 u.2 c in
       step-valued g h (tk.Str x.at r.end) r.end p strLength (str-size _ _) (str-size _ _) out next
-      (w ∙ ap (λ y. storedIf out x.bytes (byForm (formOf y) x.at r.end false)) (let a : x.at + o ≡ x.at = omega arith in let d : r.end - o ≡ r.end = omega arith in ap (λ y. tk.Str y (r.end - o)) a ∙ ap (tk.Str x.at) d))
+      (w ∙ ap (λ y. storedIf out x.bytes (byForm (formOf y) x.at r.end x.cut)) (let a : x.at + o ≡ x.at = omega arith in let d : r.end - o ≡ r.end = omega arith in ap (λ y. tk.Str y (r.end - o)) a ∙ ap (tk.Str x.at) d))

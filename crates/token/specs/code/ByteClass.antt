@@ -1,5 +1,5 @@
 -- What a byte is, as `byte_class` tells it: one number, whose order and bits are the classes.
-use Rattle.std.specs.Prelude.{ℕ, ◌*◌, ◌/◌, ◌%◌, Bool, cond, List, get_or, eqb, leb}
+use Rattle.std.specs.Prelude.{ℕ, ◌*◌, ◌/◌, ◌%◌, Bool, cond, ◌||◌, List, get_or, eqb, leb}
 use Rattle.chars.specs.paper.Quoted.{between, oneOf}
 use Rattle.chars.specs.paper.Classes.{opSigns}
 use Rattle.chars.specs.promises.Classes.{lowStart}
@@ -107,3 +107,7 @@ inRun e = leb signClass e
 -- it stands for itself in every string: no LF, quote, `$` or backslash
 abbrev pub isOrdinary : ℕ → Bool
 isOrdinary e = eqb (e % 2) 0
+
+-- LF or CR, of which line ends are made
+abbrev pub inLineEnd : ℕ → Bool
+inLineEnd e = eqb e lfClass || eqb e crClass

@@ -1,10 +1,8 @@
 -- What `gap` answers.
-use Rattle.std.specs.Prelude.{ℕ, ◌+◌, ◌-◌, ◌*◌, Bool, cond, ◌&&◌, List, length, drop, get_or, eqb, leb, Option, Some, None}
+use Rattle.std.specs.Prelude.{ℕ, ◌+◌, ◌-◌, ◌*◌, Bool, ◌&&◌, List, length, get_or, eqb, leb, Option, Some, None}
 use Rattle.std.proofs.Math.Option as math
 use Rattle.std.proofs.Math.Option.{none, some}
-use Rattle.chars.specs.paper.Text.{Text, from, place}
-use Rattle.token.specs.paper.Tests.{begins}
-use Rattle.token.specs.computed.Answer.{close}
+use Rattle.chars.specs.paper.Text.{Text, place}
 use Rattle.token.specs.declared.cursor.Cursor.{Cursor}
 use Rattle.token.specs.declared.gap.Nest.{Nest}
 use Rattle.token.specs.code.Cursor.{cursorAt}
@@ -37,16 +35,3 @@ fourPassed n = nestAt (n.at + 8) (n.depth + 4)
 -- past the `/*` from the place i on, four after four while four stand there. A step passes eight bytes: as many steps as bytes are left are enough.
 unfoldable pub openings : List ℕ → ℕ → Nest
 openings s i = stepsWhile (fourMore s) fourPassed (length s - i) (nestAt i 0)
-
--- past the LF or CR LF that stands at the place i; i itself, where none does
-unfoldable pub lineEndAfter : List ℕ → ℕ → ℕ
-lineEndAfter s i = cond (begins "\n" (from s i)) (i + 1) (cond (begins "\r\n" (from s i)) (i + 2) i)
-
--- the place of a text that is left in a script of n bytes; i, where none is
-abbrev pub placeOr : ℕ → ℕ → math.Option Text → ℕ
-placeOr n i none = i
-placeOr n i (some r) = place n r
-
--- past the block comment that begins at the place i; i itself, where it is open at the end of script
-unfoldable pub blockEnd : List ℕ → ℕ → ℕ
-blockEnd s i = placeOr (length s) i (close 0 0 (drop 2 (from s i)))

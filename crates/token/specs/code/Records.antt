@@ -4,11 +4,10 @@ use Rattle.std.proofs.lemmas.List.Edits.{sets}
 use Rattle.chars.specs.paper.Text.{Text, from, place}
 use Rattle.token.specs.paper.Kinds.{Token}
 use Rattle.token.specs.declared.kinds.TokenKind.TheVariants as tk
-use Rattle.token.specs.computed.Flags.{GapKind, fresh, push, cutOf}
+use Rattle.token.specs.computed.Flags.{Gap, GapKind, fresh, push, cutOf}
 use Rattle.token.specs.computed.Answer.{Found, scan, Answer, tokenized, refused, prepend}
 use Rattle.token.specs.paper.Records.{recordLength, recordOf, records, recordBytes}
 use Rattle.token.specs.code.Form.{mostLength}
-use Rattle.token.specs.declared.gap.Gap.{Gap}
 use Rattle.token.specs.declared.records.Need.{Need}
 use Rattle.token.specs.declared.refusal.Refused.{Refused}
 use Rattle.token.specs.code.Refusal.{refusedBy}

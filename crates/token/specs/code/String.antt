@@ -1,8 +1,8 @@
 -- What `string` answers.
-use Rattle.std.specs.Prelude.{ℕ, ◌+◌, ◌-◌, Bool, cond, not, ◌&&◌, List, length, drop, get_or, eqb, leb, ltb, Result, Ok}
+use Rattle.std.specs.Prelude.{ℕ, ◌+◌, ◌-◌, Bool, cond, not, ◌&&◌, ◌||◌, List, length, drop, get_or, eqb, leb, ltb, Result, Ok}
+use Rattle.std.specs.List.{prefix_len}
 use Rattle.chars.specs.paper.Quoted.{oneOf}
 use Rattle.chars.specs.paper.Text.{Text, from, place}
-use Rattle.chars.specs.code.Runs.{eightIn}
 use Rattle.token.specs.paper.Tests.{dollarBrace}
 use Rattle.token.specs.computed.Answer.{Esc, unbroken, broken, exactHexes, afterSlash, Closing, closed, wrong, closePlain, closePrefixed}
 use Rattle.token.specs.declared.kinds.TokenKind.{TokenKind}
@@ -79,23 +79,27 @@ lastOff s a b = cond (ltb a b && eqb (get_or s (b - 1) 0) 0x22) (b - 1) b
 abbrev pub spanKind : Span → TokenKind
 spanKind c = tk.Str c.start c.end
 
--- eight quotes at each end of the bytes from a to b, sixteen in all
-unfoldable pub eightsOff : List ℕ → ℕ → ℕ → Bool
-eightsOff s a b = leb (a + 16) b && (eightIn 0x22 0x22 s a && eightIn 0x22 0x22 s (b - 8))
+-- sixteen quotes stand at the place i
+abbrev pub sixteenAt : List ℕ → ℕ → Bool
+sixteenAt s i = leb 16 (prefix_len (λ b. eqb b 0x22 || eqb b 0x22) (drop i s))
+
+-- sixteen quotes at each end of the bytes from a to b, thirty-two in all
+unfoldable pub blocksOff : List ℕ → ℕ → ℕ → Bool
+blocksOff s a b = leb (a + 32) b && (sixteenAt s a && sixteenAt s (b - 16))
 
 -- the bytes from a to b
 abbrev pub spanAt : ℕ → ℕ → Span
 spanAt a b = record { start = a; end = b }
 
--- eight quotes at each end of them
-abbrev pub eightMore : List ℕ → Span → Bool
-eightMore s c = eightsOff s c.start c.end
+-- sixteen quotes at each end of them
+abbrev pub blockMore : List ℕ → Span → Bool
+blockMore s c = blocksOff s c.start c.end
 
 -- what stands between those
-abbrev pub eightLess : Span → Span
-eightLess c = spanAt (c.start + 8) (c.end - 8)
+abbrev pub blockLess : Span → Span
+blockLess c = spanAt (c.start + 16) (c.end - 16)
 
--- what is left of the bytes from a to b: quotes taken off both ends by eights, while eight stand at each. A step takes sixteen bytes: as many steps
--- as bytes are enough.
-unfoldable pub eightsTaken : List ℕ → ℕ → ℕ → Span
-eightsTaken s a b = stepsWhile (eightMore s) eightLess (b - a) (spanAt a b)
+-- what is left of the bytes from a to b: quotes taken off both ends by sixteens, while sixteen stand at each. A step takes thirty-two bytes: as many
+-- steps as bytes are enough.
+unfoldable pub blocksTaken : List ℕ → ℕ → ℕ → Span
+blocksTaken s a b = stepsWhile (blockMore s) blockLess (b - a) (spanAt a b)

@@ -1,70 +1,85 @@
--- Where a walk over pieces that are recognised from their bytes stands, and what a step of it is.
-use Rattle.std.specs.Prelude.{ℕ, ◌+◌, ◌-◌, ◌*◌, ◌/◌, ◌≤◌, ◌<◌, ◌≡◌, Bool, false, cond, not, ◌&&◌, ◌||◌, List, Option, Some, None, length, get_or, eqb}
+-- Where a walk over a script stands, and what a step of it is.
+use Rattle.std.specs.Prelude.{ℕ, ◌+◌, ◌-◌, ◌*◌, ◌/◌, ◌≤◌, ◌<◌, ◌≡◌, Bool, false, cond, not, ◌&&◌, ◌||◌, List, Option, Some, None, Err, length, get_or, eqb}
+use Rattle.token.specs.computed.Flags.{Gap}
 use Rattle.token.specs.paper.Records.{headLength, lineLength}
 use Rattle.chars.specs.paper.Text.{from}
 use Rattle.chars.specs.promises.Texts.{Suffix}
 use Rattle.token.specs.paper.Kinds.{wordOf, runOf}
 use Rattle.token.specs.computed.Answer.{codesTo, orPrefixed, scan}
-use Rattle.token.specs.code.ByteClass.{classAt, backtickClass, quoteClass, keywordClass, slashClass, upToBlank, startsWord}
+use Rattle.token.specs.code.ByteClass.{classAt, backtickClass, quoteClass, keywordClass, slashClass, upToBlank, startsWord, inLineEnd}
 use Rattle.token.specs.code.Keyword.{numberOr}
 use Rattle.token.specs.code.Names.{hereOf, nameEnd}
 use Rattle.token.specs.code.Quoted.{backtickEnd}
 use Rattle.token.specs.declared.kinds.TokenKind.{TokenKind}
-use Rattle.token.specs.code.Records.{State, Standing, Reaches}
-use Rattle.token.specs.declared.gap.Gap.{Gap}
+use Rattle.token.specs.code.Records.{State, Standing, Reaches, measuredFrom, storedFrom}
 use Rattle.token.specs.declared.names.Here.{Here}
-use Rattle.token.specs.declared.walk.Walked.{Walked}
+use Rattle.token.specs.declared.refusal.Refused.{Refused}
+use Rattle.token.specs.declared.walk.Stand.{Stand}
 
--- no block comment waits for a line end, and no cut is set
-abbrev pub plainGap : Bool → Bool → Gap
-plainGap newline comment = record { newline = newline; comment = comment; pending = false; cut = false }
+-- no block comment waits for a line end
+abbrev pub gapOf : Bool → Bool → Bool → Gap
+gapOf newline comment cut = record { newline = newline; comment = comment; pending = false; cut = cut }
 
 -- a line end, or a comment, came since the last token exactly if no record came behind it
-abbrev pub gapAt : Walked → Gap
-gapAt x = plainGap (eqb x.line x.bytes) (eqb x.mark x.bytes)
+abbrev pub gapAt : Stand → Gap
+gapAt x = gapOf (eqb x.line x.bytes) (eqb x.mark x.bytes) x.cut
 
 -- every record has a head, and the rest of the bytes are values
-abbrev pub countAt : Walked → ℕ
+abbrev pub countAt : Stand → ℕ
 countAt x = (x.bytes - x.values) / headLength
 
-abbrev pub stateAt : Walked → State
+abbrev pub stateAt : Stand → State
 stateAt x = record { at = x.at; gap = gapAt x; count = countAt x; bytes = x.bytes }
 
 -- The class is that of the byte there, the bytes are heads and values, and no line end or comment is counted that did not come: a number of
 -- record bytes that is too large by one stands for none.
-pub record Good (s : List ℕ) (x : Walked) : Type 0 where
+pub record Good (s : List ℕ) (x : Stand) : Type 0 where
   pub stands : Standing s (stateAt x)
   pub class : x.class.number ≡ classAt s x.at
   pub whole : x.bytes ≡ headLength * countAt x + x.values
   pub line : x.line ≤ x.bytes + 1
   pub mark : x.mark ≤ x.bytes + 1
 
+-- at the script's start: no line end and no comment came, for which one byte too many stands
+abbrev pub beginning : List ℕ → Stand
+beginning s = record { at = 0; class = record { number = classAt s 0 }; bytes = 0; values = 0; line = 1; mark = 1; cut = false }
+
 -- ---- the next state
 
 -- at another place, in the same gap
-abbrev pub movedTo : Walked → Here → Walked
-movedTo x to = record { at = to.at; class = to.class; bytes = x.bytes; values = x.values; line = x.line; mark = x.mark }
+abbrev pub movedTo : Stand → Here → Stand
+movedTo x to = record { at = to.at; class = to.class; bytes = x.bytes; values = x.values; line = x.line; mark = x.mark; cut = x.cut }
 
 -- behind a token without values, and one whose record has so many bytes
-abbrev pub plainBehind : Walked → Here → Walked
-plainBehind x end = record { at = end.at; class = end.class; bytes = x.bytes + headLength; values = x.values; line = x.line; mark = x.mark }
+abbrev pub plainBehind : Stand → Here → Stand
+plainBehind x end = record { at = end.at; class = end.class; bytes = x.bytes + headLength; values = x.values; line = x.line; mark = x.mark; cut = false }
 
-abbrev pub valuesBehind : Walked → Here → ℕ → Walked
+abbrev pub valuesBehind : Stand → Here → ℕ → Stand
 valuesBehind x end size =
-    record { at = end.at; class = end.class; bytes = x.bytes + size; values = x.values + (size - headLength); line = x.line; mark = x.mark }
+    record { at = end.at; class = end.class; bytes = x.bytes + size; values = x.values + (size - headLength); line = x.line; mark = x.mark; cut = false }
 
--- behind a line end, and behind a comment that no cut comes of
-abbrev pub lineBehind : List ℕ → Walked → ℕ → Walked
+-- behind a line end, and behind a comment that no cut comes of; the cut that was set stays
+abbrev pub lineBehind : List ℕ → Stand → ℕ → Stand
 lineBehind s x end =
-    record { at = end; class = record { number = classAt s end }; bytes = x.bytes + lineLength; values = x.values + (lineLength - headLength); line = x.bytes + lineLength; mark = x.mark }
+    record { at = end; class = record { number = classAt s end }; bytes = x.bytes + lineLength; values = x.values + (lineLength - headLength); line = x.bytes + lineLength; mark = x.mark; cut = x.cut }
 
-abbrev pub commentBehind : List ℕ → Walked → ℕ → Walked
-commentBehind s x end = record { at = end; class = record { number = classAt s end }; bytes = x.bytes; values = x.values; line = x.line; mark = x.bytes }
+abbrev pub commentBehind : List ℕ → Stand → ℕ → Stand
+commentBehind s x end = record { at = end; class = record { number = classAt s end }; bytes = x.bytes; values = x.values; line = x.line; mark = x.bytes; cut = x.cut }
+
+-- behind a block comment and the blanks after it, where a line end came before: the cut comes of it, unless a line end follows
+abbrev pub blockBehind : List ℕ → Stand → ℕ → Stand
+blockBehind s x end =
+    record { at = end; class = record { number = classAt s end }; bytes = x.bytes; values = x.values; line = x.line; mark = x.bytes; cut = x.cut || not (inLineEnd (classAt s end)) }
 
 -- a step, or several
-pub record Steps (s : List ℕ) (x : Walked) (out : List ℕ) (y : Walked) (next : List ℕ) : Type 0 where
+pub record Steps (s : List ℕ) (x : Stand) (out : List ℕ) (y : Stand) (next : List ℕ) : Type 0 where
   pub good : Good s y
   pub reaches : Reaches s (stateAt x) out (stateAt y) next
+
+-- the script is refused for what stands there, and no record more is stored
+pub record Refuses (s : List ℕ) (x : Stand) (out : List ℕ) (e : Refused) : Type 0 where
+  pub counted : measuredFrom s (stateAt x) ≡ Err e
+  pub stored : storedFrom s (stateAt x) out ≡ out
 
 -- ---- names and operators
 
@@ -95,6 +110,6 @@ unfoldable pub operatorNumber : List ℕ → ℕ → Here → ℕ
 operatorNumber s i end = cond (eqb end.class.number slashClass) 2 (numberOr 2 (runOf (codesTo (from s i) (from s end.at))))
 
 -- a string's opening stands at q: a plain one's where the walk stands, or one that what stands before it prefixes
-pub data Opens (s : List ℕ) (x : Walked) (q : ℕ) : Type 0 where
+pub data Opens (s : List ℕ) (x : Stand) (q : ℕ) : Type 0 where
   plain : q ≡ x.at → get_or s q 0 ≡ 0x22 → Opens s x q
   prefixed : (k : TokenKind) → x.at < q → q ≤ length s → get_or s q 0 ≡ 0x22 → scan (length s) (from s x.at) ≡ orPrefixed (length s) k (from s x.at) (from s q) → Opens s x q

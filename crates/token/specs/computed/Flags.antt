@@ -1,7 +1,13 @@
 -- What is kept of a gap while its pieces pass by: enough for the marks and the cut, with no look past a comment. A block comment after a line
 -- end is pending until what follows it is known: the next line end of the gap lets it go, any comment, token or the end of script makes it the cut.
 use Rattle.std.specs.Prelude.{Bool, true, false, ◌||◌}
-use Rattle.token.specs.declared.gap.Gap.{Gap}
+
+-- a line end of the gap came; a comment came since its last line end; a block comment came after a line end, and only blanks since; the cut is set
+pub record Gap : Type 0 where
+  pub newline : Bool
+  pub comment : Bool
+  pub pending : Bool
+  pub cut : Bool
 
 -- the four kinds of gap pieces
 pub data GapKind : Type 0 where

@@ -1,6 +1,6 @@
 -- Each byte passed lies in the range, and the stop from here on is the stop from the start on.
 use Rattle.std.proofs.Common.{◌-◌, length}
-use Rattle.chars.proofs.runs.Laws.{InEights}
+use Rattle.chars.proofs.runs.Eights.{InEights}
 use Rattle.chars.proofs.runs.skip_eights.Given as goal
 
 abbrev pub invariant-loop-i : goal.invariant-loop-i

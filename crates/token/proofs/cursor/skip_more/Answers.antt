@@ -1,7 +1,5 @@
--- Spaces that are passed together first; the rest is found by the byte at each place.
-use Rattle.std.proofs.Common.{arith}
-use Rattle.token.proofs.cursor.Blanks.{spaces-past}
+use Rattle.token.proofs.cursor.Blanks.{blanks-to}
 use Rattle.token.proofs.cursor.skip_more.Goals as goal
 
-pub loop-i-init : goal.loop-i-init
-loop-i-init c = grind (arith, spaces-past)
+pub returns : goal.returns
+returns c = let b = blanks-to c.args.s.now c.args.at _ c.requires c.run_end.ensures in (b.1, b.0, b.2)

@@ -8,19 +8,19 @@ use Rattle.token.proofs.ident.Laws.{past-on, past-off}
 use Rattle.token.proofs.ident.wide_sign_end.Goals as goal
 open text-laws use {at-end, step-text, step-none}
 
-pub returns-in_default : goal.returns-in_default
-returns-in_default c =
+pub returns-in_err-here : goal.returns-in_err-here
+returns-in_err-here c =
     let s = c.args.s.now in
-    past-off isOpSign s c.args.at (ap opSign (at-end s c.args.at (step-none s c.args.at c.in_default.ensures.value)))
+    c.from_residual.ensures ∙ past-off isOpSign s c.args.at (ap opSign (at-end s c.args.at (step-none s c.args.at c.in_err-here.ensures.value)))
 
 pub returns-then-is_op_char : goal.returns-then-is_op_char
 returns-then-is_op_char c =
     let s = c.args.s.now in
-    let h = here s c.args.at _ _ c.in-Some.ensures.value in
-    let t = step-text s c.args.at _ _ c.in-Some.ensures.value in
+    let h = here s c.args.at _ _ c.in_ok-here.ensures.value in
+    let t = step-text s c.args.at _ _ c.in_ok-here.ensures.value in
     past-on isOpSign s c.args.at _ (ap opSign h.text ∙ sym c.if-is_op_char.ensures) (sym t.2)
 
 pub returns : goal.returns
 returns c =
-    let h = here c.args.s.now c.args.at _ _ c.in-Some.ensures.value in
+    let h = here c.args.s.now c.args.at _ _ c.in_ok-here.ensures.value in
     past-off isOpSign c.args.s.now c.args.at (ap opSign h.text ∙ sym c.if-is_op_char.ensures)

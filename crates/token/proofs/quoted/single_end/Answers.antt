@@ -1,51 +1,21 @@
--- What the walk finds from here on is what it finds from the start on.
-use Rattle.std.proofs.Common.{ap, ◌∙◌, arith}
-use Rattle.token.specs.paper.Shapes.{singleChar}
-use Rattle.token.specs.code.String.{closeSingle}
+-- The walk from behind the ordinary bytes finds what it finds from their start on.
+use Rattle.std.proofs.Common.{ap, sym, ◌∙◌, get_or, ◌≡◌, ◌+◌, arith}
+use Rattle.token.specs.code.Cursor.{cursorAt}
 use Rattle.token.specs.code.Quoted.{closedTo}
-use Rattle.token.proofs.string.Laws.{singles, single-closes, single-open}
-use Rattle.token.proofs.quoted.Laws.{told-ordinary, ordinary-on, ordinary-past, told-closed, told-wrong, item-goes, item-stops}
+use Rattle.token.proofs.cursor.Bytes.{inside}
+use Rattle.token.proofs.string.Laws.{single-skip, single-closes}
+use Rattle.token.proofs.quoted.Laws.{told-closed}
 use Rattle.token.proofs.quoted.single_end.Goals as goal
 
-pub loop-i-init : goal.loop-i-init
-loop-i-init c =
-    let p = c.args.prefixed in
-    let e = c.skip_except_four-i.ensures in
-    let h = e.1 c.requires in
-    (e.0, h, ordinary-past (closeSingle p) (singleChar p) (singles p) c.args.s.now _ _ e.0 h e.2)
-
-pub loop-i-preserved-then-is_ordinary : goal.loop-i-preserved-then-is_ordinary
-loop-i-preserved-then-is_ordinary c =
-    let p = c.args.prefixed in
-    let o = told-ordinary _ c.of.ensures c.if-is_ordinary.ensures in
-    (omega arith, omega arith, ordinary-on (closeSingle p) (singleChar p) (singles p) c.args.s.now _ c.loop-i-test.true o ∙ c.loop-i.invariant.2)
-
-pub returns-then-b-eq34 : goal.returns-then-b-eq34
-returns-then-b-eq34 c =
+pub returns-then-byte_at-eq34 : goal.returns-then-byte_at-eq34
+returns-then-byte_at-eq34 c =
     let s = c.args.s.now in
-    told-closed s _ _ (single-closes c.args.prefixed s _ c.loop-i-test.true c.if-b-eq34.true) ∙ ap (closedTo s) c.loop-i.invariant.2
-
-pub returns-in_err-i : goal.returns-in_err-i
-returns-in_err-i c =
-    let s = c.args.s.now in
-    let o = told-ordinary _ c.of.ensures c.if-is_ordinary.ensures in
-    c.from_residual.ensures ∙ item-stops c.args.prefixed s _ c.loop-i-test.true o c.if-b-eq34.false c.in_err-i.ensures
-    ∙ ap (closedTo s) c.loop-i.invariant.2
-
-pub loop-i-smaller : goal.loop-i-smaller
-loop-i-smaller c =
-    let o = told-ordinary _ c.of.ensures c.if-is_ordinary.ensures in
-    let g = item-goes c.args.prefixed c.args.s.now _ c.loop-i-test.true o c.if-b-eq34.false _ c.in_ok-i.ensures in
-    omega (arith, g.0, g.1)
-
-pub loop-i-preserved : goal.loop-i-preserved
-loop-i-preserved c =
-    let o = told-ordinary _ c.of.ensures c.if-is_ordinary.ensures in
-    let g = item-goes c.args.prefixed c.args.s.now _ c.loop-i-test.true o c.if-b-eq34.false _ c.in_ok-i.ensures in
-    (omega (arith, g.0), g.1, g.2 ∙ c.loop-i.invariant.2)
+    let i = c.skip_ordinary-end.result.at in
+    let b : get_or s i 0 ≡ 0x22 = sym c.byte_at.ensures ∙ c.if-byte_at-eq34.true in
+    told-closed s (cursorAt (i + 1)) _ (single-closes c.args.prefixed s i (inside s i (omega arith)) b)
+    ∙ ap (closedTo s) (single-skip c.args.prefixed s c.args.at i c.skip_ordinary-end.ensures.2)
 
 pub returns : goal.returns
 returns c =
-    let s = c.args.s.now in
-    let w = c.loop-i.invariant in
-    told-wrong s _ _ (single-open c.args.prefixed s _ w.1 c.loop-i-test.false) ∙ ap (closedTo s) w.2
+    let a = c.args in
+    c.items_end.ensures ∙ ap (closedTo a.s.now) (single-skip a.prefixed a.s.now a.at _ c.skip_ordinary-end.ensures.2)

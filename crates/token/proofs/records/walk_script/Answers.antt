@@ -1,11 +1,27 @@
--- A record more, from where the walk by bytes stopped.
-use Rattle.token.proofs.records.Turns.{after-token, after-line}
+-- The walk from the script's start, and its end.
+use Rattle.std.proofs.Common.{◌≡◌, ap, sym, subst, ◌∙◌, Ok, Err, rules}
+use Rattle.token.specs.code.Records.{measuredFrom}
+use Rattle.token.specs.code.Walk.{beginning, stateAt, Steps}
+use Rattle.token.specs.declared.walk.Stand.{Stand}
+use Rattle.token.proofs.records.Ends.{begun-counted, end-counted, end-stored}
 use Rattle.token.proofs.records.walk_script.Goals as goal
-use Rattle.std.proofs.Common.{ap, sym, ◌∙◌, Ok}
 
-pub loop-next-preserved-in-Token : goal.loop-next-preserved-in-Token
-loop-next-preserved-in-Token c =
-    after-token _ _ c.loop-next.invariant c.walk_from-w.ensures.reaches c.walk_from-w.ensures.whole (ap (λ x. Ok x) (sym c.in-Token.is) ∙ c.in_ok-next.ensures) _ c.new-g-in-Token.ensures _ c.form-form.ensures c.put_if.ensures
+pub returns-in_err-x-clause-value : goal.returns-in_err-x-clause-value
+returns-in_err-x-clause-value c =
+    let s = c.args.s.now in
+    let r = sym (begun-counted s) ∙ subst (λ (z : Stand). measuredFrom s (stateAt z) ≡ Err c.in_err-x.field-0.0) c.start.ensures c.in_err-x.ensures.refused in
+    search rules
 
-pub loop-next-preserved : goal.loop-next-preserved
-loop-next-preserved c = after-line _ _ c.loop-next.invariant c.walk_from-w.ensures.reaches c.walk_from-w.ensures.whole (ap (λ x. Ok x) (sym c.in-LineEnd.is) ∙ c.in_ok-next.ensures) _ c.line.ensures c.put_if-in-LineEnd.ensures
+pub returns-clause-value : goal.returns-clause-value
+returns-clause-value c =
+    let s = c.args.s.now in
+    let w = c.in_ok-x.ensures in
+    let a : Steps s (beginning s) c.args.out.now c.in_ok-x.x c.walk.new.out = subst (λ (z : Stand). Steps s z c.args.out.now c.in_ok-x.x c.walk.new.out) c.start.ensures w.on in
+    ap (λ n. Ok n) c.finish.ensures.value ∙ end-counted a w.ended
+
+pub returns-clause-out_after : goal.returns-clause-out_after
+returns-clause-out_after c =
+    let s = c.args.s.now in
+    let w = c.in_ok-x.ensures in
+    let a : Steps s (beginning s) c.args.out.now c.in_ok-x.x c.walk.new.out = subst (λ (z : Stand). Steps s z c.args.out.now c.in_ok-x.x c.walk.new.out) c.start.ensures w.on in
+    end-stored a w.ended c.finish.ensures.out_after

@@ -6,7 +6,7 @@ pub loop-a-init : goal.loop-a-init
 loop-a-init c =
     let a = c.args in
     let p = c.requires in
-    left-taken a.s.now a.start a.end _ c.strip_eights-left.ensures (left-all _ _ _ p.order p.within p.suffix)
+    left-taken a.s.now a.start a.end _ c.strip_blocks-left.ensures (left-all _ _ _ p.order p.within p.suffix)
 
 pub returns-then-s-a-ne34 : goal.returns-then-s-a-ne34
 returns-then-s-a-ne34 c = left-stop _ _ _ _ _ c.loop-a.invariant c.loop-a-test.true c.if-s-a-ne34.true

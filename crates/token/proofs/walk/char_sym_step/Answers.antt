@@ -11,7 +11,7 @@ pub returns-in-CharSym-clause-on : goal.returns-in-CharSym-clause-on
 returns-in-CharSym-clause-on c =
     let f = ap (λ k. tokenTo k c.in-Ok.end) (sym c.in-CharSym.is) ∙ c.in-Ok.ensures in
     rw (c.behind.ensures, c.here_at.ensures)
-    (step-symbol c.requires.good c.requires.tick c.in-Ok.end f _ _ c.put_plain_if.ensures)
+    (step-symbol c.requires.good c.requires.tick c.in-Ok.end f _ _ (rw c.plain-form.ensures.value at c.put_if.ensures))
 
 pub returns-in-CharSym-clause-further : goal.returns-in-CharSym-clause-further
 returns-in-CharSym-clause-further c =

@@ -1,7 +1,7 @@
--- A line comment, or a block comment.
+-- A line comment up to its end.
 use Rattle.std.proofs.Common.{arith, sym, ◌∙◌}
 use Rattle.token.proofs.gap.Scans.{line-comment-found}
-use Rattle.token.proofs.walk.Pieces.{opens-line-here, opens-block-here, step-line-comment}
+use Rattle.token.proofs.walk.Pieces.{step-line-comment, opens-line-here, opens-block-here}
 use Rattle.token.proofs.walk.comment_step.Goals as goal
 
 pub consume_line_comment-end-requires : goal.consume_line_comment-end-requires
@@ -13,7 +13,7 @@ returns-then-byte_at-eq47-clause-on c =
     let s = c.args.s.now in
     let o = opens-line-here s c.args.x.at c.requires.opened (sym c.byte_at.ensures ∙ c.if-byte_at-eq47.true) in
     let m = c.consume_line_comment-end.ensures in
-    rw c.behind_comment.ensures (step-line-comment c.requires.good _ (line-comment-found s c.args.x.at _ o m.0 m.1) _)
+    rw c.behind_comment.ensures (step-line-comment c.requires.good _ (line-comment-found s c.args.x.at _ o m.0 m.1))
 
 pub returns-then-byte_at-eq47-clause-further : goal.returns-then-byte_at-eq47-clause-further
 returns-then-byte_at-eq47-clause-further c =

@@ -20,7 +20,7 @@ pub returns-clause-on : goal.returns-clause-on
 returns-clause-on c =
     rw c.behind.ensures
     (step-named c.requires.good c.requires.begins _ c.in_ok-end.ensures _ c.name_number-number.ensures
-    (no-opening _ _ c.eq.ensures c.else-eq.either) _ _ c.put_plain_if.ensures)
+    (no-opening _ _ c.eq.ensures c.else-eq.either) _ _ (rw c.plain.ensures.value at c.put_if.ensures))
 
 pub returns-clause-further : goal.returns-clause-further
 returns-clause-further c =

@@ -13,7 +13,7 @@ returns-in-IntLit-clause-on c =
     let v = c.in-IntLit.v in
     let f = ap (λ k. tokenTo k c.in-Ok.end) (sym c.in-IntLit.is) ∙ c.in-Ok.ensures in
     rw (c.behind_values.ensures, c.here_at.ensures)
-    (step-number p.good p.digit (tk.IntLit v) c.in-Ok.end f intLength (int-size v) (int-size v) _ _ c.put_int_if.ensures)
+    (step-number p.good p.digit (tk.IntLit v) c.in-Ok.end f intLength (int-size v) (int-size v) _ _ (rw c.int-form.ensures.value at c.put_if.ensures))
 
 pub returns-in-IntLit-clause-further : goal.returns-in-IntLit-clause-further
 returns-in-IntLit-clause-further c =
@@ -26,7 +26,7 @@ returns-in-LongLit-clause-on c =
     let v = c.in-LongLit.v in
     let f = ap (λ k. tokenTo k c.in-Ok.end) (sym c.in-LongLit.is) ∙ c.in-Ok.ensures in
     rw (c.behind_values-in-LongLit.ensures, c.here_at-in-LongLit.ensures)
-    (step-number p.good p.digit (tk.LongLit v) c.in-Ok.end f longLength (long-size v) (long-size v) _ _ c.put_long_if.ensures)
+    (step-number p.good p.digit (tk.LongLit v) c.in-Ok.end f longLength (long-size v) (long-size v) _ _ (rw c.long-form.ensures.value at c.put_if-in-LongLit.ensures))
 
 pub returns-in-LongLit-clause-further : goal.returns-in-LongLit-clause-further
 returns-in-LongLit-clause-further c =

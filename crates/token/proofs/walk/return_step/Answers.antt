@@ -1,10 +1,14 @@
--- The line end's record, and on behind it; a CR alone is left.
+-- The line end's record, and on behind it; a CR alone is refused.
 use Rattle.std.proofs.Common.{sym, ◌∙◌}
-use Rattle.token.proofs.walk.Pieces.{cr-here, step-line-end}
+use Rattle.token.proofs.walk.Pieces.{cr-here, step-line-end, refuses-lone}
 use Rattle.token.proofs.walk.return_step.Goals as goal
+
+pub returns-then-byte_at-ne10-clause-refused : goal.returns-then-byte_at-ne10-clause-refused
+returns-then-byte_at-ne10-clause-refused c =
+    refuses-lone c.requires.good c.requires.cr (λ e. c.if-byte_at-ne10.true (c.byte_at.ensures ∙ e)) _
 
 pub returns-clause-on : goal.returns-clause-on
 returns-clause-on c =
     let g = c.requires.good in
     rw c.behind_line.ensures
-    (step-line-end g _ (cr-here g c.requires.cr (sym c.byte_at.ensures ∙ c.if-byte_at-ne10.false)) _ _ c.put_line_if.ensures)
+    (step-line-end g _ (cr-here g c.requires.cr (sym c.byte_at.ensures ∙ c.if-byte_at-ne10.false)) _ _ (rw c.line-form.ensures.value at c.put_if.ensures))

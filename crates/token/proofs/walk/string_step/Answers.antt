@@ -20,7 +20,7 @@ overflow_sub-string c = (open-off c.requires.good c.requires.opened _ c.in_ok-st
 pub returns-clause-on : goal.returns-clause-on
 returns-clause-on c =
     rw (c.behind_values.ensures, c.here_at.ensures)
-    (step-string c.requires.good c.requires.opened _ c.in_ok-string.ensures _ c.content_off-off.ensures _ _ c.put_str_if.ensures)
+    (step-string c.requires.good c.requires.opened _ c.in_ok-string.ensures _ c.content_off-off.ensures _ _ (rw c.span-form.ensures.value at c.put_if.ensures))
 
 pub returns-clause-further : goal.returns-clause-further
 returns-clause-further c =

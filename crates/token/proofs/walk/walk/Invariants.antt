@@ -1,0 +1,10 @@
+-- The loop keeps that the walk comes from its start to its place.
+use Rattle.std.proofs.Common.{◌-◌, length}
+use Rattle.token.specs.code.Walk.{Steps}
+use Rattle.token.proofs.walk.walk.Given as goal
+
+abbrev pub invariant-loop-x : goal.invariant-loop-x
+invariant-loop-x l = Steps l.s l.initial.x l.fn.out l.x l.out
+
+abbrev pub decreases-loop-x : goal.decreases-loop-x
+decreases-loop-x l = length l.s - l.x.at
