@@ -29,7 +29,7 @@ use Rattle.token.specs.code.Names.{hereOf, runTo, nameTo, operatorTo}
 use Rattle.token.specs.code.Piece.{pieceOf, pieceNumber, tokenTo}
 use Rattle.token.specs.code.Quoted.{stringOf}
 use Rattle.token.specs.code.Records.{storedIf}
-use Rattle.token.specs.code.Walk.{gapAt, Good, plainBehind, valuesBehind, Steps, nameNumber, operatorNumber, LeftTo, Opens}
+use Rattle.token.specs.code.Walk.{Good, plainBehind, valuesBehind, Steps, nameNumber, operatorNumber, LeftTo, Opens}
 use Rattle.token.specs.declared.cursor.Cursor.{Cursor}
 use Rattle.token.specs.declared.kinds.TokenKind.{TokenKind}
 use Rattle.token.specs.declared.kinds.TokenKind.TheVariants as tk
