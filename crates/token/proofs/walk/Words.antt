@@ -29,7 +29,7 @@ use Rattle.token.specs.code.Names.{hereOf, runTo, nameTo, operatorTo}
 use Rattle.token.specs.code.Piece.{pieceOf, pieceNumber, tokenTo}
 use Rattle.token.specs.code.Quoted.{stringOf}
 use Rattle.token.specs.code.Records.{storedIf}
-use Rattle.token.specs.code.Walk.{gapAt, Good, plainBehind, valuesBehind, Steps, nameNumber, operatorNumber, LeftTo, Opens}
+use Rattle.token.specs.code.Walk.{Good, plainBehind, valuesBehind, Steps, nameNumber, operatorNumber, LeftTo, Opens}
 use Rattle.token.specs.declared.cursor.Cursor.{Cursor}
 use Rattle.token.specs.declared.kinds.TokenKind.{TokenKind}
 use Rattle.token.specs.declared.kinds.TokenKind.TheVariants as tk
@@ -167,7 +167,7 @@ module _ {s : List ℕ} {x : Stand} (g : Good s x) (k : eqb x.class.number digit
     number-found = f ∙ ap (pieceOf (length s)) (sym (number_at s x.at digit-inside digit-here))
 
     pub number-on : x.at < e.at
-    number-on = (found-here s x.at e.at (gapAt x) t digit-inside number-found).on
+    number-on = (found-here s x e.at t digit-inside number-found).on
 
     pub step-number : (l : ℕ) → headLength + (l - headLength) ≡ recordLength t → l ≡ recordLength t → (out next : List ℕ)
         → next ≡ storedIf out x.bytes (byForm (formOf t) x.at e.at x.cut) → Steps s x out (valuesBehind x (hereOf s e.at) l) next
@@ -202,7 +202,7 @@ module _ {s : List ℕ} {x : Stand} (g : Good s x) (k : eqb x.class.number tickC
     symbol-found = f ∙ ap (pieceOf (length s)) (sym (charsym-at s x.at tick-inside tick-opens))
 
     pub symbol-on : x.at < e.at
-    symbol-on = (found-here s x.at e.at (gapAt x) tk.CharSym tick-inside symbol-found).on
+    symbol-on = (found-here s x e.at tk.CharSym tick-inside symbol-found).on
 
     pub step-symbol : (out next : List ℕ) → next ≡ storedIf out x.bytes (byForm (plainForm 7) x.at e.at x.cut) → Steps s x out (plainBehind x (hereOf s e.at)) next
     unfolding values
