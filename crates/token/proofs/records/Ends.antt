@@ -1,6 +1,6 @@
 -- Where the walk over a script begins, and what is counted and stored at its end.
 use Prim.Native.Nat.{ℕ, ◌+◌, ◌-◌, ◌/◌}
-use mathlib.Core.Path.{◌≡◌, refl, sym, ◌∙◌, ap}
+use mathlib.Core.Path.{◌≡◌, sym, ◌∙◌, ap}
 use mathlib.Core.Bool.{Bool}
 use mathlib.Core.List.{List}
 use lib.ListN.{length}
@@ -11,7 +11,7 @@ use Rattle.token.specs.paper.Records.{headLength, recordOf}
 use Rattle.token.specs.computed.Answer.{answer}
 use Rattle.token.specs.code.Form.{plainForm, byForm}
 use Rattle.token.specs.code.Records.{storedIf, eofAt, total, measuredOf, Trail, trail, answerOf, measuredFrom, storedFrom, trailFrom, begun}
-use Rattle.token.specs.code.Walk.{beginning, gapAt, stateAt, Good, Steps}
+use Rattle.token.specs.code.Walk.{beginning, gapAt, stateAt, Steps}
 use Rattle.token.specs.declared.kinds.TokenKind.TheVariants as tk
 use Rattle.token.specs.declared.walk.Stand.{Stand}
 use Rattle.token.proofs.form.Laws.{form-length, record-by, eof-form}

@@ -9,13 +9,13 @@ use Rattle.std.proofs.Math.Option.{Option, none, some}
 use Rattle.chars.specs.paper.Text.{Text, from, place, headIs}
 use Rattle.chars.specs.paper.Classes.{isIdStart}
 use Rattle.token.specs.paper.Tests.{isDigit, isHexDigit, isAny, begins, opensComment, quote, threeQuotes, backslash, dollarBrace, hexAhead, letterL, opSign, freeSign, apostrophe, plainChar}
-use Rattle.token.specs.paper.Kinds.{wordOf, runOf, Token}
+use Rattle.token.specs.paper.Kinds.{wordOf, Token}
 use Rattle.token.specs.computed.Flags.{Gap, GapKind, fresh, push, cutOf}
 use Rattle.token.specs.declared.kinds.Kw.{Kw}
 use Rattle.token.specs.declared.kinds.TokenKind.{TokenKind}
 use Rattle.token.specs.declared.kinds.TokenKind.TheVariants as tk
 use Rattle.token.specs.computed.Answer.{Found, codesTo, scanReturn, scanLine, close, blockOr, scanBlock, Numeral, numeral, readDigits, numberOf, scanNumber, Esc, unbroken, broken, exactHexes, afterSlash, Closing, closed, wrong, closePlain, closePrefixed, closeTriple, closeString, plainOf, scanString, prefixedOf, orPrefixed, afterIdent, wordOr, scanIdent, runOr, scanOperator, backtickOr, scanBacktick, tickNext, escapedOf, scanCharSym, Start, startOf, scanAs, scan, Answer, tokenized, refused, prepend, gapBefore, walk, answer}
-use Rattle.token.specs.code.Refusal.{refusalNumber, refusalBy, OfRefusal, Numbered}
+use Rattle.token.specs.code.Refusal.{refusalBy, OfRefusal, Numbered}
 
 -- ---- what a scanner gives refuses with the number of a refusal, if it refuses
 

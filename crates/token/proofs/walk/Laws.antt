@@ -14,7 +14,7 @@ use Rattle.token.specs.paper.Kinds.{Token}
 use Rattle.token.specs.paper.Records.{headLength, lineLength, recordLength, recordOf}
 use Rattle.token.specs.computed.Flags.{fresh}
 use Rattle.token.specs.code.ByteClass.{classAt}
-use Rattle.token.specs.code.Records.{storedIf, lineEndAt, trail, answerOf, State, trailFrom, measuredFrom, storedFrom, Reaches}
+use Rattle.token.specs.code.Records.{storedIf, lineEndAt, trail, answerOf, State, trailFrom, Reaches}
 use Rattle.token.specs.code.Refusal.{refusalBy}
 use Rattle.token.specs.code.Names.{hereOf}
 use Rattle.token.specs.code.Walk.{gapOf, gapAt, countAt, stateAt, Good, movedTo, lineBehind, Refuses, Steps}
