@@ -90,15 +90,18 @@ waits newline comment cut = record { newline = newline; comment = comment; pendi
 
 -- a comment behind it makes it the cut, and a line end lets it go
 comment-push : (a b c : Bool) (p : GapKind) → (p ≡ GapKind.lineComment) ⊎ (p ≡ GapKind.blockComment) → push p (waits a b c) ≡ push p (gapOf a b (c || true))
-comment-push a b c GapKind.lineComment x = ap (λ z. gapOf a true z) (sym (or-false (c || true)))
-comment-push a b c GapKind.blockComment x = ap (λ z. record { newline = a; comment = true; pending = a; cut = z }) (sym (or-false (c || true)))
+comment-push a b true GapKind.lineComment x = refl
+comment-push a b false GapKind.lineComment x = refl
+comment-push a b true GapKind.blockComment x = refl
+comment-push a b false GapKind.blockComment x = refl
 comment-push a b c GapKind.blank (inl q) = zero-one (cc)
 comment-push a b c GapKind.blank (inr q) = zero-one (cc)
 comment-push a b c GapKind.lineEnd (inl q) = zero-one (cc)
 comment-push a b c GapKind.lineEnd (inr q) = zero-one (cc)
 
 line-push : (a b c : Bool) (p : GapKind) → p ≡ GapKind.lineEnd → push p (waits a b c) ≡ push p (gapOf a b (c || false))
-line-push a b c p q = rw q (ap (λ z. gapOf true false z) (sym (or-false c)))
+line-push a b true p q = rw q
+line-push a b false p q = rw q
 
 no-blank-line : (c : Char) (s : Text) → isAny " \t" (c ∷ s) ≡ false → isAny "\n\r" (c ∷ s) ≡ false → isAny " \t\n\r" (c ∷ s) ≡ false
 no-blank-line c s a b = no-member (λ x. not (oneOf " \t" x) && not (oneOf "\n\r" x)) (codes " \t\n\r") c.code refl (rw (a, b))

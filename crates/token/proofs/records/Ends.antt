@@ -29,10 +29,6 @@ pub ruleset sizes = (form-length, record-least, record-most, eof-is)
 
 -- ---- the start
 
-pub good-beginning : (s : List ℕ) → Good s (beginning s)
-good-beginning s =
-    record { stands = record { within = omega arith; count = omega arith; size = omega arith }; class = refl; whole = refl; line = omega arith; mark = omega arith }
-
 pub begun-counted : (s : List ℕ) → measuredFrom s (stateAt (beginning s)) ≡ measuredOf 0 0 (answer s)
 begun-counted s = ap (measuredOf 0 0) (begun-answer s)
 

@@ -104,11 +104,3 @@ module _ {s : List ℕ} {x : Stand} (h : x.at < length s) where
         counted = sym (measured-stop _ j (place (length s) q) (countAt x) x.bytes (ap answerOf w)) ∙ ap (λ z. Err z) (sym r);
         stored = sym (stores-stop _ j (place (length s) q) out x.bytes w);
       }
-
--- behind some steps it is refused: so it is from their start
-module _ {s : List ℕ} {x y : Stand} {out mid : List ℕ} {e : Refused} (a : Steps s x out y mid) (b : Refuses s y mid e) where
-  pub refused-from : measuredFrom s (stateAt x) ≡ Err e
-  refused-from = sym a.reaches.counted ∙ b.counted
-
-  pub stored-from : {next : List ℕ} → next ≡ mid → next ≡ storedFrom s (stateAt x) out
-  stored-from q = q ∙ sym b.stored ∙ a.reaches.stored
