@@ -1,7 +1,7 @@
 -- Line ends and comments by where they end: the scanner finds them there.
 use Prim.Native.Nat.{ℕ, ◌+◌, ◌≤◌, ◌<◌}
 use mathlib.Core.Path.{◌≡◌, refl, sym, ◌∙◌, ap}
-use mathlib.Core.Bool.{Bool, true, false, cond, not, ◌&&◌}
+use mathlib.Core.Bool.{true, not, ◌&&◌}
 use mathlib.Core.List.{List}
 use mathlib.Core.Option.{Option, none, some}
 use lib.ListN.{length, drop, get_or}
@@ -11,13 +11,13 @@ use borrow.Author.Tests.{eqb-true}
 use Rattle.chars.specs.paper.Text.{Text, from, place}
 use Rattle.chars.specs.computed.Runs.{afterRun}
 use Rattle.chars.proofs.theorems.Promises.{text-laws}
-use Rattle.token.specs.paper.Tests.{begins, endOfLine, opensLine, opensBlock}
+use Rattle.token.specs.paper.Tests.{endOfLine, opensLine, opensBlock}
 use Rattle.token.specs.computed.Flags.{GapKind}
 use Rattle.token.specs.computed.Answer.{Found, scan, close, blockOr}
 use Rattle.token.specs.code.Cursor.{cursorAt}
 use Rattle.token.specs.code.Gap.{closedOf}
 use Rattle.token.proofs.cursor.Bytes.{inside}
-use Rattle.token.proofs.gap.Laws.{Pair, pair-at, line-opens, block-opens, lf-bytes, crlf-bytes}
+use Rattle.token.proofs.gap.Laws.{pair-at, line-opens, block-opens}
 use Rattle.token.proofs.lexer.Found.{gap-strict, left-at}
 use Rattle.token.proofs.lexer.Laws.{later-place, lf-scan, crlf-scan, line-scan, block-scan}
 use Rattle.std.specs.Prelude.{Some, None}

@@ -1,12 +1,10 @@
 -- Where the walk over a script begins, and what is counted and stored at its end.
-use Prim.Native.Nat.{ℕ, ◌+◌, ◌-◌, ◌/◌, ◌≤◌}
+use Prim.Native.Nat.{ℕ, ◌+◌, ◌-◌, ◌/◌}
 use mathlib.Core.Path.{◌≡◌, refl, sym, ◌∙◌, ap}
 use mathlib.Core.Bool.{Bool}
 use mathlib.Core.List.{List}
 use lib.ListN.{length}
 use native.Mathlib.Omega.{arith}
-use Rattle.std.specs.Prelude.{Err}
-use Rattle.chars.specs.paper.Text.{from}
 use Rattle.chars.proofs.theorems.Promises.{text-laws}
 use Rattle.token.specs.paper.Kinds.{kindNumber}
 use Rattle.token.specs.paper.Records.{headLength, recordOf}
@@ -15,7 +13,6 @@ use Rattle.token.specs.code.Form.{plainForm, Known, byForm}
 use Rattle.token.specs.code.Records.{storedIf, eofAt, total, measuredOf, Trail, trail, answerOf, measuredFrom, storedFrom, trailFrom, begun}
 use Rattle.token.specs.code.Walk.{beginning, gapAt, stateAt, Good, Steps}
 use Rattle.token.specs.declared.kinds.TokenKind.TheVariants as tk
-use Rattle.token.specs.declared.refusal.Refused.{Refused}
 use Rattle.token.specs.declared.walk.Stand.{Stand}
 use Rattle.token.proofs.form.Laws.{form-known, form-length, record-by, eof-form}
 use Rattle.token.proofs.lexer.Trails.{trail-end, stores-end}

@@ -14,7 +14,7 @@ use Rattle.chars.proofs.theorems.Promises.{text-laws}
 use Rattle.token.specs.paper.Tests.{isAny, opensLine, opensBlock, opensComment}
 use Rattle.token.specs.paper.Kinds.{Token, kindNumber}
 use Rattle.token.specs.paper.Records.{values, headLength, recordLength}
-use Rattle.token.specs.computed.Flags.{Gap, GapKind, fresh, push, cutOf}
+use Rattle.token.specs.computed.Flags.{Gap, GapKind, fresh, push}
 use Rattle.token.specs.computed.Answer.{scan, close}
 use Rattle.token.specs.code.Ascii.{AsciiToken, signNumber}
 use Rattle.token.specs.code.ByteClass.{classAt, blankClass, lfClass, crClass, upToBlank, inLineEnd}

@@ -1,10 +1,8 @@
 -- What `gap` answers.
-use Rattle.std.specs.Prelude.{ℕ, ◌+◌, ◌-◌, ◌*◌, Bool, cond, ◌&&◌, List, length, drop, get_or, eqb, leb, Option, Some, None}
+use Rattle.std.specs.Prelude.{ℕ, ◌+◌, ◌-◌, ◌*◌, Bool, ◌&&◌, List, length, get_or, eqb, leb, Option, Some, None}
 use Rattle.std.proofs.Math.Option as math
 use Rattle.std.proofs.Math.Option.{none, some}
-use Rattle.chars.specs.paper.Text.{Text, from, place}
-use Rattle.token.specs.paper.Tests.{begins}
-use Rattle.token.specs.computed.Answer.{close}
+use Rattle.chars.specs.paper.Text.{Text, place}
 use Rattle.token.specs.declared.cursor.Cursor.{Cursor}
 use Rattle.token.specs.declared.gap.Nest.{Nest}
 use Rattle.token.specs.code.Cursor.{cursorAt}

@@ -1,7 +1,6 @@
 -- The walk from the script's start, and its end.
 use Rattle.std.proofs.Common.{◌≡◌, ap, sym, subst, ◌∙◌, Ok, Err, rules}
-use Rattle.token.specs.computed.Answer.{answer}
-use Rattle.token.specs.code.Records.{measuredOf, measuredFrom}
+use Rattle.token.specs.code.Records.{measuredFrom}
 use Rattle.token.specs.code.Walk.{beginning, stateAt, Steps}
 use Rattle.token.specs.declared.walk.Stand.{Stand}
 use Rattle.token.proofs.records.Ends.{begun-counted, end-counted, end-stored}
