@@ -13,7 +13,6 @@ pub mod Form
 pub mod Ascii
 pub mod ByteClass
 pub mod Names
-pub mod Quoted
 pub mod Literal
 pub mod Records
 pub mod Symbol

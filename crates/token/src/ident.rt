@@ -7,6 +7,7 @@ ghost use Rattle.chars.specs.computed.Runs.{afterRun};
 ghost use Rattle.token.specs.paper.Tests.{isAny, opSign, freeSign, opensComment};
 ghost use Rattle.token.specs.computed.Answer.{afterIdent, orPrefixed, scanIdent, scanOperator, scanBacktick};
 ghost use Rattle.token.specs.code.Piece.{pieceOf};
+ghost use Rattle.token.specs.code.String.{backtickOf};
 
 use crate::cursor::{Cursor, byte_at, two_at};
 use crate::keyword::{run_number, word_number};
@@ -14,7 +15,7 @@ use crate::kinds::{TokenKind, keyword_of};
 use crate::piece::Piece;
 use crate::refusal::{Refusal, Refused};
 use crate::string::lex_prefixed_string;
-use chars::runs::{OneOf, run_end};
+use chars::runs::{NoneOf, OneOf, run_end};
 
 // Where the operator sign at a place ends; the place itself, if none stands there. Past ASCII the one sign is U+21D2.
 fn sign_end(s: &[u8], at: usize) -> usize
@@ -121,6 +122,7 @@ pub fn opens_comment(s: &[u8], c: Cursor) -> bool
 }
 
 // An identifier or a backtick from `start` to c, or the string that it prefixes.
+#[inline(always)]
 fn or_prefixed(s: &[u8], kind: TokenKind, start: usize, c: Cursor) -> Piece
     requires order { start ≤ c.at }
     requires within { c.at ≤ length s.now }
@@ -166,28 +168,36 @@ pub fn lex_op_run(s: &[u8], c: Cursor) -> Piece
     }
 }
 
-/// A backtick or the string that it prefixes. A character past ASCII has no byte of a backtick, so bytes are enough.
-pub fn lex_backtick(s: &[u8], c: Cursor) -> Piece
+/// Past a backtick. A character past ASCII has no byte of a backtick, so bytes are enough.
+#[inline(always)]
+pub fn consume_backtick(s: &[u8], c: Cursor) -> Result<Cursor, Refused>
     requires within { c.at ≤ length s.now }
     requires opens { isAny "`" (from s.now c.at) ≡ true }
-    ensures { result ≡ pieceOf (length s.now) (scanBacktick (length s.now) (from s.now c.at)) }
+    ensures { result ≡ backtickOf (length s.now) (from s.now c.at) }
 {
     let start = c.at;
-    let mut i = start + 1;
-    if byte_at(s, i) == b'`' {
+    let end = run_end::<NoneOf<b'`', b'`', b'`', b'`'>>(s, start + 1);
+    if s.len() <= end {
+        return Err(Refused {
+            what: Refusal::OpenBacktick,
+            place: start,
+        });
+    }
+    if end == start + 1 {
         return Err(Refused {
             what: Refusal::EmptyBacktick,
             place: start,
         });
     }
-    while i < s.len() {
-        if s[i] == b'`' {
-            return or_prefixed(s, TokenKind::BacktickId, start, Cursor { at: i + 1 });
-        }
-        i += 1;
-    }
-    Err(Refused {
-        what: Refusal::OpenBacktick,
-        place: start,
-    })
+    Ok(Cursor { at: end + 1 })
+}
+
+/// A backtick or the string that it prefixes.
+pub fn lex_backtick(s: &[u8], c: Cursor) -> Piece
+    requires within { c.at ≤ length s.now }
+    requires opens { isAny "`" (from s.now c.at) ≡ true }
+    ensures { result ≡ pieceOf (length s.now) (scanBacktick (length s.now) (from s.now c.at)) }
+{
+    let end = consume_backtick(s, c)?;
+    or_prefixed(s, TokenKind::BacktickId, c.at, end)
 }

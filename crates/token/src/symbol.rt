@@ -4,9 +4,9 @@ ghost use Rattle.std.specs.Prelude.{◌≡◌, ◌+◌, ◌<◌, length, get_or}
 ghost use Rattle.token.specs.code.Symbol.{plainByte, endsChar, escapedCharEnd, operatorSymbolEnd, nameSymbolEnd, semiEnd, charSymEnd};
 
 use crate::byte_class::Class;
-use crate::cursor::byte_at;
+use crate::cursor::{Cursor, byte_at};
 use crate::names::{name_end, operator_end, word_end};
-use crate::quoted::escape_end;
+use crate::string::consume_escape;
 
 // A printable of ASCII that is no backslash?
 fn is_plain_char(b: u8) -> bool
@@ -29,9 +29,9 @@ fn escaped_char_end(s: &[u8], at: usize) -> Option<usize>
     requires { at + 1 < length s.now }
     ensures { result ≡ escapedCharEnd s.now at }
 {
-    let end = escape_end(s, at + 1)?;
-    if byte_at(s, end) == b'\'' {
-        return Some(end + 1);
+    let end = consume_escape(s, Cursor { at: at + 2 }).ok()?;
+    if byte_at(s, end.at) == b'\'' {
+        return Some(end.at + 1);
     }
     None
 }
