@@ -1,4 +1,4 @@
-// A peer for the benchmarks: a lexer by re2c, written from document 01, that keeps the promise of ergo_tokenize. Same arguments, same records,
+// A peer for the benchmarks: a lexer by re2c, written from RULES (docs/RULES.md), that keeps the promise of ergo_tokenize. Same arguments, same records,
 // same answer block, same refusals with their places; a refusal leaves the records buffer as it was. bench/peer builds it, bench/peer-check
 // compares it with the published tokenize. It is no part of the library.
 //

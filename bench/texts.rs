@@ -12,7 +12,7 @@ pub const MIB: usize = 1 << 20;
 // The length of a kind's and a mixture's text: short enough to be counted, long enough for what a call costs by itself to vanish.
 const LENGTH: usize = 40_000;
 
-// No shape of the piece table starts with it, and it is a byte: refusal 3.
+// No piece starts with it, and it is a byte: refusal 3.
 const UNEXPECTED: &str = "\u{1}";
 
 // A head, a middle so many times, a tail. A kind's text is one form again and again.

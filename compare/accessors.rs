@@ -1,5 +1,5 @@
 
-// Appended to a copy of the published token.rs by compare/published: its class functions under public names, by the order of document 01.
+// Appended to a copy of the published token.rs by compare/published: its class functions under public names, in the order of RULES, "Characters".
 pub fn published_class(class: u32, c: char) -> bool {
     match class {
         0 => is_id_start(c),

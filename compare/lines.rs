@@ -1,12 +1,12 @@
 // Makes the list of scripts and places that crates/line_replay replays. The answers are those of a counter of its own, written from the sentences
-// of document 02's second request: for each place it counts from the script's first byte on, character by character, and uses no index; nothing of
+// of REQUESTS, "Lines and columns": for each place it counts from the script's first byte on, character by character, and uses no index; nothing of
 // ours is called. Built and run by compare/lines.
 //
 //     lines            print what crates/line_replay/stdin is to hold; its format is written in crates/line_replay/src/main.rt
 //     lines --count    print how many scripts there are of each sort, and how many scripts and places have which answer
 //
 // Not in the list are 17, since a list has no room for a script of so many bytes, and 20, since each block that the program lends has 16 bytes. Nor
-// are queries over other numbers than those of the script's index, of which the request says only that they end, with some line and column.
+// are queries over other numbers than those of the script's index, of which REQUESTS says only that they end, with some line and column.
 #[allow(dead_code)]
 mod scripts;
 
@@ -52,7 +52,7 @@ fn position(text: &str, place: u32) -> Option<(u32, u32)> {
     (at == place).then_some((line, column))
 }
 
-// The script's text, or 18 with its place, "length of the longest valid prefix" (document 01).
+// The script's text, or 18 with its place, "the length of the longest valid prefix" (RULES, "Refusals of a call").
 fn text(script: &[u8]) -> Result<&str, [u32; 4]> {
     std::str::from_utf8(script).map_err(|error| [18, error.valid_up_to() as u32, 0, 0])
 }

@@ -1,4 +1,4 @@
-// The cases that crates/listing_cases lists, and their listings by document 01, "Host entry and text". A listing is written from the tokens of
+// The cases that crates/listing_cases lists, and their listings by RULES, "Listing". A listing is written from the tokens of
 // the published tokenize, or from its error; no record bytes lie between.
 use super::{content, kind, refusal, EXAMPLES};
 use published::error::ParseError;
@@ -7,7 +7,7 @@ use std::io::Write;
 
 const MOST_BYTES: usize = 3000;
 
-// Document 01's traps.
+// RULES, "Traps".
 const TRAPS: &[&str] = &[
     "\u{2170}",
     "a\u{2170}",
@@ -34,7 +34,7 @@ const TRAPS: &[&str] = &[
     "\n/**/ // c\nx",
 ];
 
-// Each token kind with its values, and more of the piece table.
+// Each token kind with its values, and more kinds of pieces.
 const KINDS: &[&str] = &[
     "x ++ `y` 0 'z' 'sym '; 'if '+",
     "()[]{},;.",

@@ -1,5 +1,5 @@
-// Makes the list of good and damaged rolls that crates/roll_replay replays. The answers are those of a reader of its own, written from document
-// 01's "Records" and from the sentences of document 02's first request; nothing of ours is called. Built and run by compare/rolls.
+// Makes the list of good and damaged rolls that crates/roll_replay replays. The answers are those of a reader of its own, written from RULES,
+// "Records", and from REQUESTS, "Stored rolls"; nothing of ours is called. Built and run by compare/rolls.
 //
 //     rolls            print what crates/roll_replay/stdin is to hold; its format is written in crates/roll_replay/src/main.rt
 //     rolls --count    print how many rolls there are of each sort, how many have which answer, and how many break which rule of 24
@@ -15,7 +15,7 @@ use std::io::Write;
 const HEAD: usize = 13;
 const EOF: u16 = 18;
 
-// Document 01, "Records": how many bytes of values a kind has, where it is one.
+// RULES, "Values": how many bytes of values a kind has, where it is one.
 fn value_bytes(kind: u16) -> Option<usize> {
     match kind {
         4 => Some(4),
@@ -56,7 +56,7 @@ fn whole(rest: &[u8]) -> Result<Fields<'_>, u32> {
     Ok(Fields { length, kind, start: word(&record[4..]), end: word(&record[8..]), cut: record[12], values: &record[HEAD..] })
 }
 
-// The rules of 24 for one record, as document 02 lists them: each with a test of whether it is broken, after a token that ends at `previous`.
+// The rules of 24 for one record, as REQUESTS, "Refusals of a record", lists them: each with a test of whether it is broken, after a token that ends at `previous`.
 type Rule = (&'static str, fn(&Fields, u32) -> bool);
 
 const RULES: [Rule; 9] = [
@@ -222,7 +222,7 @@ fn small() -> Vec<Vec<Token>> {
     ]
 }
 
-// `x = 7 // n` LF `"a"`, the example of document 01, and a LongLit behind it.
+// `x = 7 // n` LF `"a"`, the example of RULES, "Listing", and a LongLit behind it.
 fn mixed() -> Vec<Token> {
     vec![plain(1, 0, 1), plain(43, 2, 3), int(4, 5, 7), newline(10, 11, 1), text(11, 14, 12, 13), long(15, 18, 12).cut(1), eof(18)]
 }

@@ -7,7 +7,7 @@
 //     tokenize --listing                print its listings, for crates/listing_cases/stdout; only the published tokenize is asked
 //
 // Refusals 1 to 16 and every record byte are judged by tokenize; 17 to 21, the answer block and the bytes past the records by what
-// document 01 says of them.
+// RULES says of them.
 mod listing;
 mod scripts;
 
@@ -25,17 +25,17 @@ extern "C" {
 
 const LIMIT: usize = 16_777_216;
 
-// The lengths of records by document 01: of the head, before the values, and of the whole record of a kind with values.
+// The lengths of records by RULES, "Record": of the head, before the values, and of the whole record of a kind with values.
 const HEAD: usize = 13;
 const INT_LIT: usize = HEAD + 4;
 const NEWLINE: usize = HEAD + 1;
 
-// Document 01's bound, the record bytes that are enough for every script of n bytes: a byte of script costs at most the record of an IntLit.
+// RULES, "Record bound": the record bytes that are enough for every script of n bytes: a byte of script costs at most the record of an IntLit.
 const fn bound(n: usize) -> usize {
     INT_LIT * n + HEAD
 }
 
-// What document 01 asks for a script, measured without a buffer: the number, the place, the token count, the record bytes and the records.
+// What RULES asks for a script, measured without a buffer: the number, the place, the token count, the record bytes and the records.
 #[derive(Default)]
 struct Wanted {
     number: u32,
@@ -45,7 +45,7 @@ struct Wanted {
     records: Vec<u8>,
 }
 
-// The sixteen messages of tokenize, in the order of document 01's table.
+// The sixteen messages of tokenize, in the order of RULES, "Refusals of a piece".
 const MESSAGES: [&str; 16] = [
     "lone carriage return (\\r) outside string/comment",
     "unterminated block comment",
@@ -120,7 +120,7 @@ fn kind(script: &str, token: &Token, values: &mut Vec<u8>) -> u16 {
         }
         TokenKind::Str(value) => {
             let (from, to) = content(token.text(script).as_bytes(), token.start as usize);
-            assert_eq!(&script[from as usize..to as usize], value, "the content by document 01 is not tokenize's value");
+            assert_eq!(&script[from as usize..to as usize], value, "the content by the rules is not tokenize's value");
             values.extend(from.to_le_bytes());
             values.extend(to.to_le_bytes());
             6
@@ -178,7 +178,7 @@ fn wanted(script: &[u8]) -> Wanted {
     match tokenize(text) {
         Ok(tokens) => {
             let records = records(text, &tokens);
-            assert!(records.len() <= bound(script.len()), "more record bytes than document 01's bound");
+            assert!(records.len() <= bound(script.len()), "more record bytes than the bound");
             Wanted { tokens: tokens.len() as u32, bytes: records.len() as u32, records, ..Wanted::default() }
         }
         Err(ParseError::Lexical { pos, msg }) => refused(refusal(&msg), pos as usize),
@@ -337,7 +337,7 @@ mod compare {
             let good = start <= end && end as usize <= n && !inside(start) && !inside(end);
             let number = if good { 0 } else { 21 };
             if let Ok(text) = std::str::from_utf8(script) {
-                assert_eq!(good, text.get(start as usize..end as usize).is_some(), "document 01's rule is not that of str::get");
+                assert_eq!(good, text.get(start as usize..end as usize).is_some(), "the rule for token text is not that of str::get");
             }
             self.numbers[number as usize] += 1;
             let got = unsafe { ergo_token_text(script.as_ptr(), n, start, end) };
@@ -463,7 +463,7 @@ const LOW_CHARACTERS: u64 = 63_488;
 #[cfg(linked)]
 const CHARACTERS: u64 = LOW_CHARACTERS + 0x10_0000 / 61;
 
-// Document 01's examples: the twelve marked scripts, those of its refusal table and of its listing.
+// The examples of RULES: "Marked scripts", "Refusals of a piece" and "Listing".
 const EXAMPLES: [&str; 44] = [
     "",
     "0x",
@@ -549,7 +549,7 @@ fn compare_all(count: u64, seed: u64) {
     use compare::{part, Bench};
     let mut all = Bench::default();
     part(&mut all, "no bytes at no address", 1, |bench, _| bench.nulls());
-    part(&mut all, "document 01's examples, each length of buffer and block", EXAMPLES.len() as u64, |bench, i| {
+    part(&mut all, "the rules' examples, each length of buffer and block", EXAMPLES.len() as u64, |bench, i| {
         bench.lengths(EXAMPLES[i as usize].as_bytes())
     });
     for alphabet in &ALPHABETS {

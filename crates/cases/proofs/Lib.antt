@@ -1,2 +1,3 @@
 -- Laws of lists of cases.
 pub mod Laws
+pub mod Alls

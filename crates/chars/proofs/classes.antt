@@ -1,4 +1,5 @@
 pub mod Ranges
+pub mod Masks
 pub mod Laws
-pub mod Cyrillic
+pub mod Arrow
 pub mod IdRuns

@@ -2,5 +2,6 @@
 pub mod Utf8
 pub mod Text
 pub mod Tables
+pub mod Masks
 pub mod Classes
 pub mod Runs

@@ -1,68 +1,29 @@
 // The character classes of document 01, with the names of token.rs.
-ghost use Rattle.std.specs.Prelude.{◌≡◌, ◌≤◌, true, not, ◌&&◌, ltb, length};
-ghost use Rattle.chars.specs.paper.Ranges.{inRanges};
-ghost use Rattle.chars.specs.code.Tables.{pairs};
-ghost use Rattle.chars.specs.computed.Ascending.{ascendingFrom};
-ghost use Rattle.chars.specs.paper.Classes.{isIdStart, isIdChar, isOpSign, isPrintable, lowercase, uppercase, alphabetic, nd, alphaNotLetter};
+ghost use Rattle.std.specs.Prelude.{◌≡◌, ◌&&◌, ltb, length};
+ghost use Rattle.chars.specs.code.Masks.{inMasks};
+ghost use Rattle.chars.specs.paper.Classes.{isIdStart, isIdChar, isOpSign, isPrintable};
 ghost use Rattle.chars.specs.paper.Text.{from, place, idChar};
 ghost use Rattle.chars.specs.computed.Runs.{afterRun};
-ghost use Rattle.chars.specs.code.Classes.{bitIn, cyrillicAt};
+ghost use Rattle.chars.specs.code.Classes.{bitIn, arrowAt};
 ghost use Rattle.chars.specs.promises.Codes.{CodeLaws};
 ghost use Rattle.chars.specs.promises.Classes.{ClassLaws};
 
-use crate::tables::{ALPHA_NOT_LETTER, ALPHABETIC, LOWERCASE, ND, UPPERCASE};
+use crate::masks::{BLOCKS, ID_CHARS, ID_STARTS};
 use crate::text::char_at;
-use crate::utf8::pair_in;
+use crate::utf8::{byte_in, pair_in};
 
-// The last code that the tables speak of.
+// The last code that the masks speak of.
 const LAST: u32 = 0xFFFF;
 
 // The one operator sign past ASCII, `⇒`.
 const DOUBLE_ARROW: u32 = 0x21D2;
 
-// Whether c lies in one of the table's ranges: the last one that begins at c or before decides.
-fn in_ranges(c: u16, table: &[(u16, u16)]) -> bool
-    requires { ascendingFrom 0 (pairs table.now) ≡ true }
-    ensures { result ≡ inRanges (pairs table.now) c }
+// Whether the class of these masks has c.
+fn has_code(masks: &[u64; 156], c: u16) -> bool
+    ensures { result ≡ inMasks masks.now BLOCKS c }
 {
-    let after = table.partition_point(|range| range.0 <= c);
-    after > 0 && c <= table[after - 1].1
-}
-
-// One function for each property of document 01: a trait over the tables would be longer than these lines.
-#[tactic(auto, unfolding(crate::specs::paper::Classes::lowercase))]
-fn is_lowercase(k: u16) -> bool
-    ensures { result ≡ lowercase k }
-{
-    in_ranges(k, &LOWERCASE)
-}
-
-#[tactic(auto, unfolding(crate::specs::paper::Classes::uppercase))]
-fn is_uppercase(k: u16) -> bool
-    ensures { result ≡ uppercase k }
-{
-    in_ranges(k, &UPPERCASE)
-}
-
-#[tactic(auto, unfolding(crate::specs::paper::Classes::alphabetic))]
-fn is_alphabetic(k: u16) -> bool
-    ensures { result ≡ alphabetic k }
-{
-    in_ranges(k, &ALPHABETIC)
-}
-
-#[tactic(auto, unfolding(crate::specs::paper::Classes::alphaNotLetter))]
-fn is_alpha_not_letter(k: u16) -> bool
-    ensures { result ≡ alphaNotLetter k }
-{
-    in_ranges(k, &ALPHA_NOT_LETTER)
-}
-
-#[tactic(auto, unfolding(crate::specs::paper::Classes::nd))]
-fn is_nd(k: u16) -> bool
-    ensures { result ≡ nd k }
-{
-    in_ranges(k, &ND)
+    let mask = masks[BLOCKS[(c / 64) as usize] as usize];
+    (mask >> (c % 64) as u64) % 2 == 1
 }
 
 /// Whether c is an operator sign.
@@ -70,6 +31,14 @@ pub fn is_op_char(c: u32) -> bool
     ensures { result ≡ isOpSign c }
 {
     c == DOUBLE_ARROW || c < 0x80 && is_op_byte(c as u8)
+}
+
+/// Whether `⇒`, the one operator sign past ASCII, stands at a place.
+#[tactic(auto, unfolding(crate::specs::code::Classes::arrowAt))]
+pub fn is_arrow_at(s: &[u8], at: usize) -> bool
+    ensures { result ≡ arrowAt s.now at }
+{
+    pair_in(s, at, 0xE2, 0xE2, 0x87, 0x87) && byte_in(s, at + 2, 0x92, 0x92)
 }
 
 /// Whether the byte is an ASCII operator sign.
@@ -100,7 +69,8 @@ pub fn is_op_byte(b: u8) -> bool
 }
 
 /// Whether the byte's bit is set in one of two masks, for the codes up to 0x3F and from 0x40 to 0x7F: two tests where a `match` takes a dozen.
-// The second clause: what is computed at a few codes is carried to a code that is one of them.
+// Two masks and not one of 128 bits, whose shift takes several instructions. `code_laws`: what is computed at a few codes is carried to a code that
+// is one of them.
 #[tactic(auto, using(crate::proofs::theorems::Promises::code_laws), unfolding(crate::specs::code::Classes::bitIn))]
 pub fn has_bit(b: u8, low: u64, high: u64) -> bool
     ensures value { result ≡ bitIn low high b }
@@ -122,40 +92,21 @@ pub fn is_printable_char(c: u32) -> bool
 }
 
 /// Whether c may start an identifier.
-// ASCII and the Russian letters are answered before a table is searched. The second clause: what the classes exclude of each other, and that the
-// tables ascend.
+// `class_laws`: what the classes exclude of each other, that the tables ascend, and that the masks say what they say.
 #[tactic(auto, using(crate::proofs::classes::Laws::start_laws, crate::proofs::theorems::Promises::told))]
 pub fn is_id_start(c: u32) -> bool
     ensures value { result ≡ isIdStart c }
     ensures class_laws { ClassLaws }
 {
-    match c {
-        0..0x80 => is_ascii_start(c as u8),
-        0x0410..=0x044F => true,
-        0x24B6..=0x24E9 => false,
-        0x80..=LAST => is_lowercase(c as u16) || is_uppercase(c as u16),
-        _ => false,
-    }
+    c <= LAST && has_code(&ID_STARTS, c as u16)
 }
 
 /// Whether c may continue an identifier.
-// ASCII reaches no table.
 #[tactic(auto, using(crate::proofs::classes::Laws::id_laws))]
 pub fn is_id_char(c: u32) -> bool
     ensures { result ≡ isIdChar c }
 {
-    match c {
-        0..0x80 => is_id_byte(c as u8),
-        0x80..=LAST => is_letter(c as u16) || is_nd(c as u16),
-        _ => false,
-    }
-}
-
-// Whether k is Alphabetic outside ALPHA_NOT_LETTER.
-fn is_letter(k: u16) -> bool
-    ensures { result ≡ alphabetic k && not (alphaNotLetter k) }
-{
-    is_alphabetic(k) && !is_alpha_not_letter(k)
+    c <= LAST && has_code(&ID_CHARS, c as u16)
 }
 
 /// Whether a byte is an ASCII character that starts an identifier: a letter, `$` or `_`.
@@ -174,16 +125,8 @@ fn is_id_byte(b: u8) -> bool
     b.is_ascii_alphanumeric() || b == b'$'
 }
 
-/// Whether a Russian letter stands at a place: U+0410 to U+044F.
-#[tactic(auto, unfolding(crate::specs::code::Classes::cyrillicAt))]
-pub fn is_cyrillic_at(s: &[u8], at: usize) -> bool
-    ensures { result ≡ cyrillicAt s.now at }
-{
-    pair_in(s, at, 0xD0, 0xD0, 0x90, 0xBF) || pair_in(s, at, 0xD1, 0xD1, 0x80, 0x8F)
-}
-
 /// Where the run of id characters from a place on ends.
-// ASCII and the Russian letters need no table.
+// ASCII is told by its byte. A step is one byte or a character's: no iterator takes such steps.
 pub fn id_run_end(s: &[u8], at: usize) -> usize
     ensures { result ≡ place (length s.now) (afterRun idChar (from s.now at)) }
 {
@@ -194,8 +137,6 @@ pub fn id_run_end(s: &[u8], at: usize) -> usize
                 return i;
             }
             i += 1;
-        } else if is_cyrillic_at(s, i) {
-            i += 2;
         } else {
             let Some(here) = char_at(s, i) else {
                 return i;

@@ -2,6 +2,7 @@
 #![tactic(auto)]
 
 pub mod tables; // range tables of Unicode 16.0
+pub mod masks; // the classes that are made of them, by blocks of 64 codes
 pub mod utf8; // one character at a byte offset; the longest valid prefix
 pub mod runs; // where a run of bytes of a set ends, sixteen bytes at a time
 pub mod classes; // id start, id character, operator sign, printable

@@ -1,4 +1,4 @@
-// UTF-8 by the Unicode Standard, Table 3-7.
+// UTF-8 by the Unicode Standard, Table 3-7. One look at a character is compiled into whoever takes it: so a loop over characters keeps it in registers.
 ghost use Rattle.std.specs.Prelude.{◌≡◌, [], ◌∷◌, ◌+◌, ◌<◌, ◌≤◌, ◌%◌, drop, get_or, length};
 ghost use Rattle.chars.specs.paper.Ranges.{◌to◌};
 ghost use Rattle.chars.specs.paper.Utf8.{fits, codeOf, LongestValid};
@@ -15,14 +15,16 @@ pub struct Decoded {
     pub width: usize,
 }
 
-// Whether a byte from low to high stands at `at`.
-fn byte_in(s: &[u8], at: usize, low: u8, high: u8) -> bool
+// Whether a byte from low to high stands at `at`. Here and below the two are numbers, as Table 3-7 has them: std's inclusive range is not `Copy`.
+#[inline(always)]
+pub fn byte_in(s: &[u8], at: usize, low: u8, high: u8) -> bool
     ensures { result ≡ fits (low to high ∷ []) (drop at s.now) }
 {
     at < s.len() && low <= s[at] && s[at] <= high
 }
 
 // Whether a byte from low to high stands at `at` and one from low2 to high2 after it.
+#[inline(always)]
 pub fn pair_in(s: &[u8], at: usize, low: u8, high: u8, low2: u8, high2: u8) -> bool
     ensures { result ≡ fits (low to high ∷ low2 to high2 ∷ []) (drop at s.now) }
 {
@@ -30,6 +32,7 @@ pub fn pair_in(s: &[u8], at: usize, low: u8, high: u8, low2: u8, high2: u8) -> b
 }
 
 // Whether a byte from low to high stands at `at` and two from 80 to BF after it.
+#[inline(always)]
 fn triple_in(s: &[u8], at: usize, low: u8, high: u8) -> bool
     requires { at ≤ length s.now }
     ensures { result ≡ fits (low to high ∷ 0x80 to 0xBF ∷ 0x80 to 0xBF ∷ []) (drop at s.now) }
@@ -37,16 +40,22 @@ fn triple_in(s: &[u8], at: usize, low: u8, high: u8) -> bool
     pair_in(s, at, low, high, 0x80, 0xBF) && byte_in(s, at + 2, 0x80, 0xBF)
 }
 
-// How many bytes the well-formed character has that stands at `at`. The arms are the table's rows.
+// How many bytes the well-formed character has that stands at `at`. The arms are the table's rows; those of one byte and two are told first.
+#[inline(always)]
 fn width_at(s: &[u8], at: usize) -> Option<usize>
     ensures { result ≡ widthAt s.now at }
 {
     if s.len() <= at {
         return None;
     }
+    if s[at] < 0xE0 {
+        return match s[at] {
+            0x00..=0x7F => Some(1),
+            0xC2..=0xDF => byte_in(s, at + 1, 0x80, 0xBF).then_some(2),
+            _ => None,
+        };
+    }
     match s[at] {
-        0x00..=0x7F => Some(1),
-        0xC2..=0xDF => byte_in(s, at + 1, 0x80, 0xBF).then_some(2),
         0xE0 => pair_in(s, at + 1, 0xA0, 0xBF, 0x80, 0xBF).then_some(3),
         0xE1..=0xEC => pair_in(s, at + 1, 0x80, 0xBF, 0x80, 0xBF).then_some(3),
         0xED => pair_in(s, at + 1, 0x80, 0x9F, 0x80, 0xBF).then_some(3),
@@ -59,37 +68,41 @@ fn width_at(s: &[u8], at: usize) -> Option<usize>
 }
 
 // The low six bits of the byte at `at`.
+#[inline(always)]
 fn six_bits(s: &[u8], at: usize) -> u32
+    requires { at < length s.now }
     ensures value { result ≡ get_or s.now at 0 % 64 }
     ensures upper_bound { result < 64 }
 {
-    if at < s.len() {
-        return (s[at] % 64) as u32;
-    }
-    0
+    (s[at] % 64) as u32
 }
 
 // The code of the character of w bytes at `at`, by the Unicode Standard, Table 3-6.
+#[inline(always)]
 fn code_at(s: &[u8], at: usize, w: usize) -> u32
-    requires { at < length s.now }
+    requires some { 1 ≤ w }
+    requires most { w ≤ 4 }
+    requires within { at + w ≤ length s.now }
     ensures { result ≡ codeOf w (drop at s.now) }
 {
     let a = s[at] as u32;
-    if w <= 1 {
-        return a;
+    match w {
+        1 => a,
+        2 => a % 32 * 64 + six_bits(s, at + 1),
+        3 => a % 16 * 4096 + six_bits(s, at + 1) * 64 + six_bits(s, at + 2),
+        _ => {
+            a % 8 * 262144
+                + six_bits(s, at + 1) * 4096
+                + six_bits(s, at + 2) * 64
+                + six_bits(s, at + 3)
+        }
     }
-    if w == 2 {
-        return a % 32 * 64 + six_bits(s, at + 1);
-    }
-    if w == 3 {
-        return a % 16 * 4096 + six_bits(s, at + 1) * 64 + six_bits(s, at + 2);
-    }
-    a % 8 * 262144 + six_bits(s, at + 1) * 4096 + six_bits(s, at + 2) * 64 + six_bits(s, at + 3)
 }
 
 /// The character that stands at a byte offset. Past the end none does.
+// `decoding` says what follows of it, `encoding_laws` what is decoded from the bytes that are written for a code.
 #[tactic(auto, using(crate::proofs::utf8::Stands::decode_none, crate::proofs::utf8::Stands::decode_some))]
-// The second clause says what follows of it, the third what is decoded from the bytes that are written for a code.
+#[inline(always)]
 pub fn decode(s: &[u8], at: usize) -> Option<Decoded>
     ensures value { result ≡ decodeAt s.now at }
     ensures decoding { Decoding s.now at }
@@ -109,22 +122,21 @@ fn ascii_end(s: &[u8], at: usize) -> usize
     run_end::<InRange<0x00, 0x7F>>(s, at)
 }
 
-// Whether a character of three bytes stands at `at` that begins with E1 to EC.
+// Whether a character of three bytes stands at `at` that begins with E1 to EC. `&` looks at all three, without a branch.
 fn three_in(s: &[u8], at: usize) -> bool
     ensures { result ≡ fits (0xE1 to 0xEC ∷ 0x80 to 0xBF ∷ 0x80 to 0xBF ∷ []) (drop at s.now) }
 {
-    if s.len() < 3 {
-        return false;
-    }
-    if s.len() - 3 < at {
-        return false;
-    }
-    (0xE1 <= s[at])
-        & (s[at] <= 0xEC)
-        & ((0x80 <= s[at + 1]) & (s[at + 1] <= 0xBF) & ((0x80 <= s[at + 2]) & (s[at + 2] <= 0xBF)))
+    s.len() >= 3
+        && at <= s.len() - 3
+        && (0xE1 <= s[at])
+            & (s[at] <= 0xEC)
+            & ((0x80 <= s[at + 1])
+                & (s[at + 1] <= 0xBF)
+                & ((0x80 <= s[at + 2]) & (s[at + 2] <= 0xBF)))
 }
 
-// The place past the characters of three bytes that stand from `at` on and begin with E1 to EC, as most of Chinese and Japanese do.
+// The place past the characters of three bytes that stand from `at` on and begin with E1 to EC, as most of Chinese and Japanese do. No iterator
+// says where it stopped but by a count, so the place is kept by hand.
 fn skip_threes(s: &[u8], at: usize) -> usize
     ensures { result ≡ rowsOver (0xE1 to 0xEC ∷ 0x80 to 0xBF ∷ 0x80 to 0xBF ∷ []) s.now at }
 {
@@ -135,11 +147,13 @@ fn skip_threes(s: &[u8], at: usize) -> usize
     i
 }
 
-// The length of the longest prefix that is a sequence of well-formed characters. Runs of ASCII and of characters of three bytes are passed
-// in loops of their own, and characters of two bytes are tested before the others. The second clause: there is one such prefix, and a text
-// is well-formed where it is all of it.
+/// The length of the longest prefix that is a sequence of well-formed characters.
+// Runs of ASCII and of characters of three bytes are passed in loops of their own, and characters of two bytes are tested before the others.
+// A step is a run or a character: no iterator takes such steps. `valid_laws`: there is one such prefix, and a text is well-formed where it is
+// all of it.
 pub fn valid_prefix(s: &[u8]) -> usize
-    ensures value { (result ≡ validPrefix s.now) × LongestValid s.now result }
+    ensures value { result ≡ validPrefix s.now }
+    ensures longest { LongestValid s.now result }
     ensures valid_laws { ValidLaws }
 {
     let mut i = 0;

@@ -1,6 +1,5 @@
-// The character classes of document 01 as runs: for each class the maximal runs of the characters up to U+FFFF that belong to it, one to a
-// line, then how many characters were walked. `rt ci` holds what it writes to `stdout`, which compare/class-runs made of
-// `token.rs` itself.
+// The character classes of RULES (docs/RULES.md), "Characters", as runs: for each class the maximal runs of the characters up to U+FFFF that belong to
+// it, one to a line, then how many characters were walked. `rt ci` holds what it writes to `stdout`, which compare/class-runs made of `token.rs` itself.
 #![tactic(auto)]
 
 ghost use Rattle.std.specs.Prelude.{◌≡◌, ◌-◌, ◌<◌, ◌≤◌, length, IfOk};
@@ -10,6 +9,9 @@ ghost use Rattle.class_runs.specs.Lines.{nameOf, glyph, inClass, runText, runLin
 use chars::classes::{is_id_char, is_id_start, is_op_char, is_printable_char};
 use std::alloc::AllocError;
 use std::io;
+
+// Room for all lines, which take less than 10,000 bytes.
+const ROOM_BYTES: usize = 16 * 1024;
 
 #[derive(Clone, Copy, Debug, PartialEq, Eq)]
 enum Class {
@@ -49,7 +51,7 @@ impl Class {
 fn hex_digit(n: u32) -> u8
     ensures { result ≡ glyph n }
 {
-    let d = (n % 16) as u8;
+    let d = (n & 0xF) as u8;
     if d < 10 { b'0' + d } else { b'A' - 10 + d }
 }
 
@@ -60,14 +62,14 @@ fn run_text(first: u32, last: u32) -> [u8; 11]
 {
     [
         b' ',
-        hex_digit(first / 4096),
-        hex_digit(first / 256),
-        hex_digit(first / 16),
+        hex_digit(first >> 12),
+        hex_digit(first >> 8),
+        hex_digit(first >> 4),
         hex_digit(first),
         b' ',
-        hex_digit(last / 4096),
-        hex_digit(last / 256),
-        hex_digit(last / 16),
+        hex_digit(last >> 12),
+        hex_digit(last >> 8),
+        hex_digit(last >> 4),
         hex_digit(last),
         b'\n',
     ]
@@ -113,7 +115,7 @@ fn put_class(text: &mut Vec<u8>, class: Class) -> Result<u32, AllocError>
 }
 
 fn main(rt: HostRuntime) -> io::Result<()> {
-    let mut text = Vec::new(rt.alloc());
+    let mut text = Vec::with_capacity(rt.alloc(), ROOM_BYTES)?;
     put_class(&mut text, Class::IdStart)?;
     put_class(&mut text, Class::IdChar)?;
     put_class(&mut text, Class::OpChar)?;

@@ -28,14 +28,14 @@ pub record Accepts (script buffer block : List ℕ) : Type 0 where
 
 -- Of what the host sees.
 pub record HostTheorems (script buffer block : List ℕ) : Type 0 where
-  -- It is what the refusal table and its order declare, and nothing else.
+  -- It is what the refusals and their order declare, and nothing else.
   pub sees : (x : Seen) → (hostOf script buffer block ≡ x) ↔ Sees script buffer block x
-  -- Every refusal leaves the records buffer unchanged; the number is 0 or one of the table's 1 to 20.
+  -- "Every refusal leaves the records buffer as it was."; the number is 0 or one of 1 to 20.
   pub unchanged : (numberSeen (hostOf script buffer block) ≡ 0 → ⊥) → bufferSeen (hostOf script buffer block) ≡ buffer
   pub numbers : numberSeen (hostOf script buffer block) ≤ 20
   -- Of the script alone: its readings, their tokens, and refusals 1 to 16.
   pub script-theorems : Theorems script
   -- To a host that lends enough the tokens of every reading are handed, and nothing else is accepted.
   pub lent-enough : Lends script buffer block → Accepts script buffer block
-  -- And document 01's examples come out as it says.
+  -- And the examples of RULES come out as it says.
   pub examples : Examples

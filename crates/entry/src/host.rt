@@ -1,4 +1,4 @@
-// The host's entry. Document 01, "Host entry and text".
+// The host's entry. RULES, "Order of refusals" and "Answer".
 ghost use Rattle.std.specs.Prelude.{◌≡◌, ℕ, ◌≤◌, length, IfOk, IfErr};
 ghost use Rattle.token.specs.computed.Answer.{answer};
 ghost use Rattle.token.specs.code.Records.{Held};
@@ -75,8 +75,8 @@ fn tokenize_with<const BYTES: usize>(script: &[u8], records: &mut [u8], answer: 
 }
 
 /// The number is 0 where the script is accepted: then the records stand at the buffer's start. Every refusal leaves the buffer as it was.
-/// The first clause gives the number and every lent byte for all lengths; the second says what follows: the three demands, and
-/// document 01's examples.
+/// The first clause gives the number and every lent byte for all lengths; the second says what follows: that these are what is declared, that
+/// a host which lends enough is refused only where there is no reading, and the examples of RULES.
 pub fn tokenize(script: &[u8], records: &mut [u8], answer: &mut [u8]) -> u32
     ensures answer_after { seen result records.new answer.new ≡ hostOf script.now records.old answer.old }
     ensures host_theorems { HostTheorems script.now records.old answer.old }

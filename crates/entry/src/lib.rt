@@ -1,5 +1,5 @@
-// What hosts call: the length limit, the order of refusals, the answer block, token text. Document 01, "Host entry and text". The crate `ergo`
-// exports these functions.
+// What hosts call: the length limit, the order of refusals, the answer block, token text. RULES (docs/RULES.md), "Refusals of a call" to "Token
+// text". The crate `ergo` exports these functions.
 #![tactic(auto)]
 
 pub mod refusal; // 17 and 18

@@ -1,4 +1,4 @@
-// Token text: the part of a script from start to end. Document 01, "Host entry and text".
+// Token text: the part of a script from start to end. RULES, "Token text".
 ghost use Rattle.std.specs.Prelude.{◌≡◌};
 ghost use Rattle.entry.specs.paper.TokenText.{insideCharacter, hasText, tokenText, TextPart, textNumber};
 

@@ -1,4 +1,4 @@
-// Each export once where it succeeds, where it refuses a block of another length, and with nothing lent. What is expected is as the papers for hosts
+// Each export once where it succeeds, where it refuses a block of another length, and with nothing lent. What is expected is as the pages for hosts
 // have it: docs/RECORDS.md, docs/HOSTS.md and the header.
 use super::*;
 

@@ -3,7 +3,7 @@ use Rattle.std.specs.Prelude.{ℕ, ◌+◌, ◌*◌, ◌≤◌, ◌<◌, ◌≡�
 use Rattle.words.specs.Words.{fourAt, Told, numberTold, blockTold}
 use Rattle.entry.specs.paper.Host.{Seen, seen, numberSeen, bufferSeen}
 use Rattle.lines.specs.computed.Host.{indexSeen, positionTold}
-use Rattle.cases.specs.Cases.{untouched, Listed, nextIn}
+use Rattle.cases.specs.Cases.{untouched, Listed}
 
 -- n numbers that hold the same
 unfoldable pub holding : ℕ → ℕ → List ℕ
@@ -35,10 +35,6 @@ askedAt list at = fourAt list (at + 12)
 -- where it ends, behind the numbers and the places asked for
 unfoldable pub caseEnd : List ℕ → ℕ → ℕ
 caseEnd list at = scriptEnd list at + 4 * roomAt list at + 20 * askedAt list at
-
--- where the next case starts
-unfoldable pub nextAt : List ℕ → ℕ → ℕ
-nextAt list at = nextIn list (caseEnd list at)
 
 -- ---- what it means that it agrees
 

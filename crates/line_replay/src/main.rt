@@ -16,12 +16,11 @@
 // leaves block and lent numbers as they are listed, and line_column, over the lent numbers as they are then, does so with each place's block.
 #![tactic(auto)]
 
-ghost use Rattle.std.specs.Prelude.{◌≡◌, true, ◌↔◌, ◌+◌, ◌*◌, ◌≤◌, ◌<◌, length};
+ghost use Rattle.std.specs.Prelude.{◌≡◌, ◌↔◌, ◌+◌, ◌*◌, ◌≤◌, ◌<◌, length, IsTrue};
 ghost use Rattle.entry.specs.paper.Host.{bufferSeen};
-ghost use Rattle.cases.specs.Cases.{Replays};
-ghost use Rattle.line_replay.specs.Cases.{mostRoom, holding, builtSeen, NumbersListed, BlockAgrees, PlaceAgrees, PlacesAgree, Agrees, CaseAgrees, nextAt};
+ghost use Rattle.line_replay.specs.Cases.{mostRoom, holding, builtSeen, NumbersListed, BlockAgrees, PlaceAgrees, PlacesAgree, Agrees, caseEnd, CaseAgrees};
 
-use cases::{Case, Counts, Replayed, UNTOUCHED, is_listed};
+use cases::{Case, UNTOUCHED, is_listed};
 use std::io;
 use std::io::Read;
 use words::read::four;
@@ -45,20 +44,15 @@ fn number_space(held: u32) -> [u32; ROOM_NUMBERS]
 // Whether the list has these numbers, from a place on.
 fn numbers_listed(list: &[u8], at: usize, numbers: &[u32]) -> bool
     requires { at + 4 * length numbers.now ≤ length list.now }
-    ensures { (result ≡ true) ↔ NumbersListed list.now at (length numbers.now) numbers.now }
+    ensures { IsTrue result ↔ NumbersListed list.now at (length numbers.now) numbers.now }
 {
-    for k in 0..numbers.len() {
-        if numbers[k] as u64 != four(list, at + 4 * k) {
-            return false;
-        }
-    }
-    true
+    (0..numbers.len()).all(|k| u64::from(numbers[k]) == four(list, at + 4 * k))
 }
 
 // The place that is asked for at a place of the list.
 fn place_agrees(list: &[u8], script: &[u8], index: &[u32], at: usize) -> bool
     requires { at + 20 ≤ length list.now }
-    ensures { (result ≡ true) ↔ PlaceAgrees list.now script.now index.now at }
+    ensures { IsTrue result ↔ PlaceAgrees list.now script.now index.now at }
 {
     let place = four(list, at) as u32;
     let mut block = [UNTOUCHED; 16];
@@ -69,21 +63,16 @@ fn place_agrees(list: &[u8], script: &[u8], index: &[u32], at: usize) -> bool
 // So many places asked for, from a place of the list on.
 fn places_agree(list: &[u8], script: &[u8], index: &[u32], from: usize, count: usize) -> bool
     requires { from + 20 * count ≤ length list.now }
-    ensures { (result ≡ true) ↔ PlacesAgree list.now script.now index.now from count }
+    ensures { IsTrue result ↔ PlacesAgree list.now script.now index.now from count }
 {
-    for k in 0..count {
-        if !place_agrees(list, script, index, from + ASKED_BYTES * k) {
-            return false;
-        }
-    }
-    true
+    (0..count).all(|k| place_agrees(list, script, index, from + ASKED_BYTES * k))
 }
 
 // Builds the index in the lent numbers: whether number and block are those that the list has at a place.
 #[tactic(auto, unfolding(cases::specs::Cases::untouched, crate::specs::Cases::builtSeen))]
 fn block_agrees(lent: &mut [u32], list: &[u8], at: usize, script: &[u8]) -> bool
     requires { at + 16 ≤ length list.now }
-    ensures agreement { (result ≡ true) ↔ BlockAgrees list.now at (builtSeen script.now lent.old) }
+    ensures agreement { IsTrue result ↔ BlockAgrees list.now at (builtSeen script.now lent.old) }
     ensures lent_after { lent.new ≡ bufferSeen (builtSeen script.now lent.old) }
 {
     let mut block = [UNTOUCHED; 16];
@@ -102,73 +91,56 @@ fn agrees(
 ) -> bool
     requires at_in_bounds { at + 16 ≤ length list.now }
     requires count_in_bounds { from + 4 * length lent.old + 20 * count ≤ length list.now }
-    ensures agreement { (result ≡ true) ↔ Agrees list.now at script.now from (length lent.old) count (builtSeen script.now lent.old) }
+    ensures agreement { IsTrue result ↔ Agrees list.now at script.now from (length lent.old) count (builtSeen script.now lent.old) }
     ensures lent_after { lent.new ≡ bufferSeen (builtSeen script.now lent.old) }
 {
-    if !block_agrees(lent, list, at, script) {
-        return false;
-    }
-    if !numbers_listed(list, from, lent) {
-        return false;
-    }
-    places_agree(list, script, lent, from + 4 * lent.len(), count)
+    block_agrees(lent, list, at, script)
+        && numbers_listed(list, from, lent)
+        && places_agree(list, script, lent, from + 4 * lent.len(), count)
 }
 
 // The kind of this program's cases.
 struct Places;
 
 impl Case for Places {
-    ghost next = { nextAt };
+    ghost end = { caseEnd };
 
     ghost agrees = { CaseAgrees };
 
-    // The case at a place. One that the end of the list cuts short, or that lends more than there is, does not agree.
-    #[tactic(auto, using(crate::proofs::Laws::part), unfolding(crate::specs::Cases::scriptAt, crate::specs::Cases::scriptEnd, crate::specs::Cases::caseEnd, crate::specs::Cases::nextAt))]
-    fn replay_case(list: &[u8], at: usize) -> Replayed {
+    ghost whole = { λ list at case. case.whole };
+
+    #[tactic(auto, unfolding(crate::specs::Cases::scriptEnd, crate::specs::Cases::caseEnd))]
+    fn case_end(list: &[u8], at: usize) -> usize {
+        let numbers = 4 * four(list, at + 4) as usize;
+        let places = ASKED_BYTES * four(list, at + 12) as usize;
+        at + HEAD_BYTES + four(list, at) as usize + numbers + places
+    }
+
+    // One that lends more than there is does not agree.
+    #[tactic(auto, using(crate::proofs::Laws::part), unfolding(crate::specs::Cases::scriptAt, crate::specs::Cases::scriptEnd, crate::specs::Cases::caseEnd))]
+    fn case_agrees(list: &[u8], at: usize) -> bool {
         let start = at + HEAD_BYTES;
         let end = start + four(list, at) as usize;
         let room = four(list, at + 4) as usize;
         let count = four(list, at + 12) as usize;
-        let next = end + 4 * room + ASKED_BYTES * count;
-        if next > list.len() {
-            return Replayed {
-                next: list.len(),
-                agrees: false,
-            };
-        }
-        if room > ROOM_NUMBERS {
-            return Replayed {
-                next,
-                agrees: false,
-            };
-        }
         let mut lent = number_space(four(list, at + 8) as u32);
-        Replayed {
-            next,
-            agrees: agrees(
+        room <= ROOM_NUMBERS
+            && agrees(
                 &mut lent[..room],
                 list,
                 at + 16,
                 &list[start..end],
                 end,
                 count,
-            ),
-        }
+            )
     }
-}
-
-// The cases of the list, from its start to its end.
-fn replay(list: &[u8]) -> Counts
-    ensures { Replays list.now (nextAt list.now) (CaseAgrees list.now) (length list.now) result.cases result.differ }
-{
-    cases::replay::<Places>(list)
 }
 
 // No ensures: no contract can speak of what was written to standard output.
 fn main(rt: HostRuntime) -> io::Result<()> {
     let mut list = Vec::new(rt.alloc());
     rt.reader().read_to_end(&mut list)?;
-    let counts = replay(&list);
+    let counts = cases::replay::<Places>(&list);
     println!(rt;
         "{} scripts replayed, {} differ",
         counts.cases, counts.differ

@@ -26,8 +26,8 @@ pub record LineTheorems (script : List ℕ) : Type 0 where
   pub answers : (index : List ℕ) (a : ℕ) (block : List ℕ) → Answers script index a block (positionTold script index a block)
   pub answers-one : (index : List ℕ) (a : ℕ) (block : List ℕ) (x : Told) → (numberTold x ≡ 0 → take (length (startsOf script)) index ≡ startsOf script)
       → Answers script index a block x → positionTold script index a block ≡ x
-  -- "Over the index built from that script, the indexed answer equals counting from the script's first byte."
+  -- Over the index that was built a query gives what counting from the first byte gives.
   pub over-built : (index block : List ℕ) → numberSeen (indexSeen script index block) ≡ 0 → (a l c : ℕ) → Position script a l c
       → (other : List ℕ) → length other ≡ 16 → positionTold script (bufferSeen (indexSeen script index block)) a other ≡ told 0 (blockOf 0 0 l c)
-  -- Examples come out as document 02 says.
+  -- Examples come out as REQUESTS says.
   pub examples : LineExamples

@@ -1,3 +1,3 @@
--- Document 02, request 2, "Line and column beside the script".
+-- What REQUESTS (docs/REQUESTS.md), "Lines and columns", says.
 pub mod Lines
 pub mod Host

@@ -26,7 +26,7 @@ fn count_block(block: &[u8], low: u8, high: u8) -> u8
     n
 }
 
-// How many bytes lie in the range from low to high.
+/// How many bytes lie in the range from low to high.
 #[tactic(auto, using(crate::proofs::count::Laws::counting))]
 pub fn count_in(s: &[u8], low: u8, high: u8) -> usize
     ensures { result ≡ countIn low high s.now }

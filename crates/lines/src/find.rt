@@ -4,9 +4,7 @@ ghost use Rattle.lines.specs.computed.Lines.{searchOf, columnSince};
 
 use crate::count::count_in;
 
-// Which of the first `lines` numbers is the start of the line in which the place lies, counted from 0. By halves: of a part of the index that begins
-// at `low` one half goes with each turn, whatever the numbers are, so that the search ends for any; std's
-// searches tell nothing of numbers out of order.
+/// Which of the first `lines` numbers is the start of the line in which the place lies, counted from 0.
 #[tactic(auto, using(crate::proofs::find::Laws::halves), unfolding(crate::specs::computed::Lines::searchOf))]
 pub fn find_line(index: &[u32], lines: usize, place: usize) -> usize
     requires some { 1 ≤ lines }
@@ -14,6 +12,8 @@ pub fn find_line(index: &[u32], lines: usize, place: usize) -> usize
     ensures value { result ≡ searchOf index.now lines place }
     ensures upper_bound { result < lines }
 {
+    // By halves: of a part of the index that begins at `low` one half goes with each turn, whatever the numbers are, so that the search ends for
+    // any; std's searches tell nothing of numbers out of order.
     let mut low: usize = 0;
     let mut size = lines;
     while 1 < size {
@@ -29,7 +29,7 @@ pub fn find_line(index: &[u32], lines: usize, place: usize) -> usize
     low
 }
 
-// The column of a place in a line that starts at `start`: one more than the characters between the two.
+/// The column of a place in a line that starts at `start`: one more than the characters between the two.
 #[tactic(auto, using(crate::proofs::count::Laws::counting), unfolding(crate::specs::computed::Lines::columnSince))]
 pub fn find_column(script: &[u8], start: usize, place: usize) -> usize
     requires { place ≤ length script.now }

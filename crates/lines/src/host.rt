@@ -1,4 +1,4 @@
-// What hosts call: building the index, and asking for a place. Document 02, request 2.
+// What hosts call: building the index, and asking for a place. REQUESTS, "Building an index" and "Asking for a place".
 ghost use Rattle.std.specs.Prelude.{◌≡◌, ◌≤◌, length, OnOk};
 ghost use Rattle.token.specs.paper.Records.{mostBytes};
 ghost use Rattle.words.specs.Words.{told};
@@ -24,7 +24,7 @@ fn check_script(script: &[u8]) -> Result<usize, Refused>
     Ok(count_in(script, LF, LF) + 1)
 }
 
-// 20, 25 and 26 are told where they are met, each with a block of its own: an enum would be taken apart again at once.
+// 20, 25 and 26 are told where they are met, 20 without a block, the others each with its own: an enum would be taken apart again at once.
 
 /// The block has 16 bytes: refusal, place, number of lines, 0. Every refusal leaves the index as it was; 26 tells the number of lines too.
 #[tactic(auto, unfolding(crate::specs::computed::Host::indexSeen, crate::specs::computed::Host::builtBy, crate::specs::computed::Host::checkedOf))]

@@ -5,6 +5,7 @@ ghost use Rattle.token.specs.paper.Records.{mostBytes};
 ghost use Rattle.lines.specs.computed.Lines.{part, startsIn, startsOf, lineCount};
 ghost use Rattle.lines.specs.code.Index.{noLf};
 
+/// What ends a line.
 pub const LF: u8 = b'\n';
 
 // Whether no LF is among the eight bytes from a place on. `&` looks at all of them, without a branch.
@@ -43,7 +44,7 @@ fn put_each(index: &mut [u32], first: usize, s: &[u8], from: usize, to: usize) -
     k
 }
 
-// All starts, from the first number on. Eight bytes without an LF are passed at once. A `for` by `step_by` took 5 per cent more on contract text.
+/// All starts, from the first number on.
 #[tactic(auto, using(crate::proofs::index::Laws::each_eight))]
 pub fn put_starts(index: &mut [u32], s: &[u8])
     requires in_limit { length s.now ≤ mostBytes }
@@ -54,6 +55,7 @@ pub fn put_starts(index: &mut [u32], s: &[u8])
     let mut k: usize = 1;
     let whole = s.len() - s.len() % 8;
     let mut i: usize = 0;
+    // Eight bytes without an LF are passed at once. A `for` by `step_by` took 5 per cent more on contract text.
     while i < whole {
         if !eight_free(s, i) {
             k = put_each(index, k, s, i, i + 8);

@@ -1,5 +1,5 @@
-// Line and column beside the script: an index of line starts in lent numbers, and the line and column of a place. Document 02, request 2. The crate
-// `ergo` exports the host's functions.
+// Line and column beside the script: an index of line starts in lent numbers, and the line and column of a place. REQUESTS
+// (docs/REQUESTS.md), "Lines and columns". The crate `ergo` exports the host's functions.
 #![tactic(auto)]
 
 mod count; // bytes of a range, counted

@@ -1,6 +1,6 @@
-// The listing program. Document 01, "Host entry and text": it takes up to 3,000 bytes on standard input (more prints `long`) and prints kind,
-// start, end, cut and values, or `refused N at P`. `rt ci` runs it on `stdin`, document 01's example, and holds what it prints to
-// `stdout`, the lines that document 01 gives.
+// The listing program. RULES (docs/RULES.md), "Listing": it takes up to 3,000 bytes on standard input (more prints `long`) and prints kind,
+// start, end, cut and values, or `refused N at P`. `rt ci` runs it on `stdin`, the example there, and holds what it prints to
+// `stdout`, the lines that stand there.
 #![tactic(auto)]
 
 use std::io;
@@ -13,7 +13,7 @@ const SCRIPT_BYTES: u64 = listing_text::MOST_BYTES as u64 + 1;
 fn main(rt: HostRuntime) -> io::Result<()> {
     let mut script = Vec::new(rt.alloc());
     let n = rt.reader().take(SCRIPT_BYTES).read_to_end(&mut script)?;
-    let mut text = Vec::new(rt.alloc());
+    let mut text = Vec::with_capacity(rt.alloc(), listing_text::MOST_TEXT)?;
     listing_text::listing(&mut text, &script[..n])?;
     rt.write_all(&text)
 }

@@ -64,6 +64,7 @@ fn put_cases(text: &mut Vec<u8>, list: &[u8]) -> Result<(), AllocError>
 {
     let mut at: usize = 0;
     let mut earlier: u64 = 0;
+    // Each case says itself where the next one starts.
     while list.len() - at >= HEAD_BYTES {
         put_case(text, list, at, earlier)?;
         at = case_end(list, at);

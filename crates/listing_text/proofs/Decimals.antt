@@ -1,4 +1,4 @@
--- Two descriptions of a number in base ten agree: the paper's side of the listing, and the standard library's.
+-- Two descriptions of a number in base ten agree: that of the listing as it is declared, and the standard library's.
 use Prim.Native.Nat.{ℕ, ◌<◌}
 use mathlib.Core.Path.{◌≡◌, sym, ◌∙◌}
 use mathlib.Core.List.{[], append-nil}

@@ -1,4 +1,4 @@
--- Document 01's listing and marked scripts come out as it says: each is computed.
+-- The listings of RULES, "Listing" and "Marked scripts", come out as it says: each is computed.
 use mathlib.Core.Path.{refl}
 use Rattle.listing_text.specs.Examples.{made, ListingExamples}
 

@@ -1,4 +1,4 @@
--- Document 01, "Host entry and text": the listing's example, and the twelve marked scripts, as the text that the listing program makes.
+-- RULES, "Listing" and "Marked scripts": the listing's example, and the marked scripts, as the text that the listing program makes.
 -- The contract of `listing` asks for them.
 use Rattle.std.specs.Prelude.{◌≡◌, true, List, ℕ, replicate}
 use Rattle.chars.specs.paper.Quoted.{codes}

@@ -1,4 +1,4 @@
--- Document 01, "Host entry and text", the listing program: the text that it prints, as bytes.
+-- RULES, "Listing": the text that the listing program prints, as bytes.
 use Rattle.std.specs.Prelude.{ℕ, zero, suc, ◌/◌, ◌%◌, false, cond, List, [], ◌∷◌, ◌++◌, length, take, drop, replicate, eqb, leb}
 use Rattle.words.specs.Words.{twoAt, fourAt}
 use Rattle.chars.specs.paper.Quoted.{codes}
@@ -11,7 +11,7 @@ use Rattle.token.specs.declared.kinds.TokenKind.TheVariants as tk
 use Rattle.entry.specs.paper.Host.{Seen, seen}
 use Rattle.entry.specs.computed.Listing.{listingOf}
 
--- length (2 bytes, whole record); 0 where no whole record stands at the start
+-- RULES, "Record": the length of the whole record; 0 where none stands whole at the start
 unfoldable pub lengthHere : List ℕ → ℕ
 lengthHere bytes =
     let n = twoAt bytes 0 in
@@ -30,8 +30,7 @@ str = kindNumber (tk.Str 0 0)
 abbrev pub newline : ℕ
 newline = kindNumber (tk.Newline false)
 
--- IntLit (+4: value), LongLit (+8: value), Str (+8: content start and end), Newline (+1: after-comment): the values of a kind, from all of them as
--- one number, of which the first of two is in the lower four bytes
+-- RULES, "Values": those of a kind, from all of them as one number, of which the first of two is in the lower four bytes
 unfoldable pub heldValues : ℕ → ℕ → List ℕ
 heldValues kind values =
     cond (eqb kind intLit) (values ∷ [])
@@ -39,11 +38,11 @@ heldValues kind values =
     (cond (eqb kind newline) (values ∷ [])
     (cond (eqb kind str) (values % 4294967296 ∷ values / 4294967296 ∷ []) [])))
 
--- "prints kind, start, end, cut": numbers in base ten, single spaces between them
+-- kind, start, end and cut, "in base ten, with single spaces"
 unfoldable pub headText : Held → List ℕ
 headText held = decimal held.number ++ spaced (held.start ∷ held.end ∷ held.cut ∷ [])
 
--- "and values": as many as the kind has
+-- then the values, as many as the kind has
 unfoldable pub valuesText : Held → List ℕ
 valuesText held = spaced (heldValues held.number held.values)
 
@@ -62,7 +61,7 @@ linesFor (suc most) bytes =
 unfoldable pub recordLines : List ℕ → List ℕ
 recordLines bytes = linesFor (length bytes) bytes
 
--- By what the host sees: "0 if accepted. The block then holds four 4-byte little-endian numbers: refusal, place, token count, record bytes".
+-- By what the host sees (RULES, "Answer"): the number, the place at 4 of the block, the record bytes at 12.
 unfoldable pub answerText : Seen → List ℕ
 answerText (seen number records block) =
     let lines = recordLines (take (fourAt block 12) records) in
@@ -81,8 +80,8 @@ mostScript = 3000
 abbrev pub recordsRoom : ℕ
 recordsRoom = mostNeed mostScript
 
--- "The listing program takes up to 3,000 bytes on standard input (more prints `long`) and prints kind, start, end, cut and values, or
--- `refused N at P`": over the script's tokens.
+-- "a line for each record: kind, start, end, cut and values, in base ten, with single spaces. Of a refused script it prints `refused N at P`, and of a
+-- longer one `long`.": over the script's tokens.
 unfoldable pub printed : List ℕ → List ℕ
 printed script =
     let lines = listingOf script in

@@ -1,4 +1,4 @@
-// The text of the listing program. Document 01, "Host entry and text".
+// The text of the listing program. RULES (docs/RULES.md), "Listing".
 #![tactic(auto)]
 
 mod lines;

@@ -1,4 +1,4 @@
-// The lines of a listing. Document 01, "Host entry and text": kind, start, end, cut and values, or `refused N at P`. Each function puts its text
+// The lines of a listing. RULES, "Listing": kind, start, end, cut and values, or `refused N at P`. Each function puts its text
 // behind the one that it is given.
 ghost use Rattle.std.specs.Prelude.{◌≡◌, ◌<◌, ◌≤◌, ◌∷◌, length, IfSome, IfNone};
 ghost use Rattle.puts.specs.Puts.{Puts};

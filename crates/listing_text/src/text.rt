@@ -1,4 +1,4 @@
-// The whole text of a listing. Document 01, "Host entry and text".
+// The whole text of a listing. RULES, "Listing".
 ghost use Rattle.std.specs.Prelude.{◌≤◌, ◌*◌, length};
 ghost use Rattle.puts.specs.Puts.{Puts};
 ghost use Rattle.entry.specs.paper.Host.{seen};
@@ -36,8 +36,8 @@ fn put_answer(
     put_records(text, &records[..bytes])
 }
 
-/// Puts the listing of a script behind a text; more than `MOST_BYTES` bytes give `long`. The last clause: document 01's listing and marked scripts come
-/// out as it says.
+/// Puts the listing of a script behind a text; more than `MOST_BYTES` bytes give `long`. The last clause: the listings
+/// of RULES, "Listing" and "Marked scripts", come out as it says.
 #[tactic(auto, using(crate::proofs::Sizes::sizes, crate::proofs::Examples::listing_examples))]
 pub fn listing(text: &mut Vec<u8>, script: &[u8]) -> Result<(), AllocError>
     ensures put { Puts text.old text.new result (printed script.now) }

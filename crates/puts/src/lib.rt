@@ -7,7 +7,6 @@ ghost use Rattle.puts.specs.Puts.{Puts};
 use std::alloc::AllocError;
 
 /// Puts a number in base ten behind a text.
-
 pub fn put_number(text: &mut Vec<u8>, number: u64) -> Result<(), AllocError>
     ensures put { Puts text.old text.new result (decimal number) }
     ensures short { length (decimal number) ≤ 20 }
@@ -17,7 +16,6 @@ pub fn put_number(text: &mut Vec<u8>, number: u64) -> Result<(), AllocError>
 }
 
 /// Puts a space and a number behind a text.
-
 pub fn put_spaced(text: &mut Vec<u8>, number: u64) -> Result<(), AllocError>
     ensures { Puts text.old text.new result (0x20 ∷ decimal number) }
 {

@@ -3,7 +3,7 @@ use Rattle.std.specs.Prelude.{ℕ, ◌+◌, ◌-◌, ◌≤◌, ◌≡◌, cond,
 use Rattle.words.specs.Words.{fourAt}
 use Rattle.entry.specs.paper.Host.{Seen, seen}
 use Rattle.entry.specs.computed.Host.{hostOf}
-use Rattle.cases.specs.Cases.{untouched, nextIn}
+use Rattle.cases.specs.Cases.{untouched}
 
 -- lent bytes that hold records first, and behind them what they held before a call
 abbrev pub recordsIn : List ℕ → ℕ → List ℕ
@@ -36,10 +36,6 @@ recordsAt list at = take (listedBytes list at) (drop (scriptEnd list at) list)
 
 unfoldable pub caseEnd : List ℕ → ℕ → ℕ
 caseEnd list at = scriptEnd list at + listedBytes list at
-
--- where the next case starts
-unfoldable pub nextAt : List ℕ → ℕ → ℕ
-nextAt list at = nextIn list (caseEnd list at)
 
 -- ---- what it means that it agrees
 

@@ -13,12 +13,12 @@
 // records stand in the lent bytes, and every other lent byte is as it was.
 #![tactic(auto)]
 
-ghost use Rattle.std.specs.Prelude.{◌≡◌, true, ◌↔◌, ◌+◌, ◌≤◌, ◌<◌, length};
+ghost use Rattle.std.specs.Prelude.{◌≡◌, ◌↔◌, ◌+◌, ◌≤◌, ◌<◌, length, IsTrue};
 ghost use Rattle.entry.specs.paper.Host.{bufferSeen};
-ghost use Rattle.cases.specs.Cases.{untouched, Replays};
-ghost use Rattle.replay.specs.Cases.{recordsIn, mostRoom, listedBytes, seenLent, listedOf, CaseAgrees, nextAt};
+ghost use Rattle.cases.specs.Cases.{untouched};
+ghost use Rattle.replay.specs.Cases.{recordsIn, mostRoom, listedBytes, seenLent, listedOf, caseEnd, CaseAgrees};
 
-use cases::{Case, Counts, Replayed, UNTOUCHED, is_listed};
+use cases::{Case, UNTOUCHED, is_listed};
 use std::io;
 use std::io::Read;
 use words::read::four;
@@ -39,18 +39,12 @@ fn untouched_space() -> [u8; ROOM_BYTES]
 // Whether the lent bytes hold these records, and behind them what they held before.
 fn holds_records(lent: &[u8], records: &[u8]) -> bool
     requires { length lent.now ≤ mostRoom }
-    ensures { (result ≡ true) ↔ (lent.now ≡ recordsIn records.now (length lent.now)) }
+    ensures { IsTrue result ↔ (lent.now ≡ recordsIn records.now (length lent.now)) }
 {
     let bytes = records.len();
-    if bytes > lent.len() {
-        return false;
-    }
-    if &lent[..bytes] != records {
-        return false;
-    }
-    let rest = lent.len() - bytes;
-    let fresh = untouched_space();
-    lent[bytes..] == fresh[..rest]
+    bytes <= lent.len()
+        && &lent[..bytes] == records
+        && lent[bytes..] == untouched_space()[..lent.len() - bytes]
 }
 
 // How many record bytes the case at a place lists.
@@ -61,9 +55,10 @@ fn listed_bytes(list: &[u8], at: usize) -> usize
     ensures upper_bound { result < 4294967296 }
 {
     if four(list, at + 8) == 0 {
-        return four(list, at + 20) as usize;
+        four(list, at + 20) as usize
+    } else {
+        0
     }
-    0
 }
 
 // Whether the tokenizer answers a script as the list says: the block stands at a place of it, and these are the records. The lent bytes are untouched.
@@ -72,70 +67,53 @@ fn agrees(lent: &mut [u8], list: &[u8], at: usize, script: &[u8], records: &[u8]
     requires at_in_bounds { at + 16 ≤ length list.now }
     requires lent_len_bound { length lent.old ≤ mostRoom }
     requires lent_value { lent.old ≡ untouched (length lent.old) }
-    ensures agreement { (result ≡ true) ↔ (seenLent script.now (length lent.old) ≡ listedOf list.now at records.now (length lent.old)) }
+    ensures agreement { IsTrue result ↔ (seenLent script.now (length lent.old) ≡ listedOf list.now at records.now (length lent.old)) }
     ensures lent_after { lent.new ≡ bufferSeen (seenLent script.now (length lent.old)) }
 {
     let mut block = [UNTOUCHED; 16];
     let number = entry::host::tokenize(script, lent, &mut block);
-    if !is_listed(list, at, number, &block) {
-        return false;
-    }
-    holds_records(lent, records)
+    is_listed(list, at, number, &block) && holds_records(lent, records)
 }
 
 // The kind of this program's cases.
 struct Scripts;
 
 impl Case for Scripts {
-    ghost next = { nextAt };
+    ghost end = { caseEnd };
 
     ghost agrees = { CaseAgrees };
 
-    // The case at a place. One that the end of the list cuts short, or that lends more than there is, does not agree.
-    #[tactic(auto, using(crate::proofs::Laws::part), unfolding(crate::specs::Cases::scriptAt, crate::specs::Cases::recordsAt, crate::specs::Cases::nextAt, crate::specs::Cases::caseEnd, crate::specs::Cases::scriptEnd, crate::specs::Cases::roomAt))]
-    fn replay_case(list: &[u8], at: usize) -> Replayed {
+    ghost whole = { λ list at case. case.whole };
+
+    #[tactic(auto, unfolding(crate::specs::Cases::caseEnd, crate::specs::Cases::scriptEnd))]
+    fn case_end(list: &[u8], at: usize) -> usize {
+        at + HEAD_BYTES + four(list, at) as usize + listed_bytes(list, at)
+    }
+
+    // One that lends more than there is does not agree.
+    #[tactic(auto, using(crate::proofs::Laws::part), unfolding(crate::specs::Cases::scriptAt, crate::specs::Cases::recordsAt, crate::specs::Cases::caseEnd, crate::specs::Cases::scriptEnd, crate::specs::Cases::roomAt))]
+    fn case_agrees(list: &[u8], at: usize) -> bool {
         let start = at + HEAD_BYTES;
         let end = start + four(list, at) as usize;
         let next = end + listed_bytes(list, at);
-        if next > list.len() {
-            return Replayed {
-                next: list.len(),
-                agrees: false,
-            };
-        }
         let room = four(list, at + 4) as usize;
-        if room > ROOM_BYTES {
-            return Replayed {
-                next,
-                agrees: false,
-            };
-        }
         let mut lent = untouched_space();
-        Replayed {
-            next,
-            agrees: agrees(
+        room <= ROOM_BYTES
+            && agrees(
                 &mut lent[..room],
                 list,
                 at + 8,
                 &list[start..end],
                 &list[end..next],
-            ),
-        }
+            )
     }
-}
-
-// The cases of the list, from its start to its end.
-fn replay(list: &[u8]) -> Counts
-    ensures { Replays list.now (nextAt list.now) (CaseAgrees list.now) (length list.now) result.cases result.differ }
-{
-    cases::replay::<Scripts>(list)
 }
 
 // No ensures: no contract can speak of what was written to standard output.
 fn main(rt: HostRuntime) -> io::Result<()> {
     let mut list = Vec::new(rt.alloc());
     rt.reader().read_to_end(&mut list)?;
-    let counts = replay(&list);
+    let counts = cases::replay::<Scripts>(&list);
     println!(rt;
         "{} scripts replayed, {} differ",
         counts.cases, counts.differ

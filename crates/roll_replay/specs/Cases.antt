@@ -2,7 +2,7 @@
 use Rattle.std.specs.Prelude.{ℕ, ◌+◌, ◌*◌, ◌≤◌, ◌<◌, List, length, take, drop}
 use Rattle.words.specs.Words.{fourAt, Told, numberTold, blockTold}
 use Rattle.rolls.specs.computed.Host.{rollTold, recordTold}
-use Rattle.cases.specs.Cases.{untouched, Listed, nextIn}
+use Rattle.cases.specs.Cases.{untouched, Listed}
 
 -- the roll of the case at a place, and where it ends
 unfoldable pub rollAt : List ℕ → ℕ → List ℕ
@@ -14,10 +14,6 @@ rollEnd list at = at + 24 + fourAt list at
 -- where the case ends, behind the records that it asks for
 unfoldable pub caseEnd : List ℕ → ℕ → ℕ
 caseEnd list at = rollEnd list at + 48 * fourAt list (at + 4)
-
--- where the next case starts
-unfoldable pub nextAt : List ℕ → ℕ → ℕ
-nextAt list at = nextIn list (caseEnd list at)
 
 -- what is told is what the list has at a place
 abbrev pub AsListed : List ℕ → ℕ → Told → Type 0

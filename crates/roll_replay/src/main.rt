@@ -13,11 +13,10 @@
 // answer_record does so for each record.
 #![tactic(auto)]
 
-ghost use Rattle.std.specs.Prelude.{◌≡◌, true, ◌↔◌, ◌+◌, ◌*◌, ◌≤◌, ◌<◌, length};
-ghost use Rattle.cases.specs.Cases.{Replays};
-ghost use Rattle.roll_replay.specs.Cases.{RollAgrees, RecordAgrees, RecordsAgree, CaseAgrees, nextAt};
+ghost use Rattle.std.specs.Prelude.{◌≡◌, ◌↔◌, ◌+◌, ◌*◌, ◌≤◌, ◌<◌, length, IsTrue};
+ghost use Rattle.roll_replay.specs.Cases.{RollAgrees, RecordAgrees, RecordsAgree, caseEnd, CaseAgrees};
 
-use cases::{Case, Counts, Replayed, UNTOUCHED, is_listed};
+use cases::{Case, UNTOUCHED, is_listed};
 use std::io;
 use std::io::Read;
 use words::read::four;
@@ -29,7 +28,7 @@ const ASKED_BYTES: usize = 48;
 #[tactic(auto, unfolding(cases::specs::Cases::untouched))]
 fn roll_agrees(list: &[u8], at: usize, roll: &[u8]) -> bool
     requires { at + 16 ≤ length list.now }
-    ensures { (result ≡ true) ↔ RollAgrees list.now at roll.now }
+    ensures { IsTrue result ↔ RollAgrees list.now at roll.now }
 {
     let mut block = [UNTOUCHED; 16];
     let number = rolls::host::answer_roll(roll, &mut block);
@@ -39,7 +38,7 @@ fn roll_agrees(list: &[u8], at: usize, roll: &[u8]) -> bool
 // The record that is asked for at a place of the list.
 fn record_agrees(list: &[u8], roll: &[u8], at: usize) -> bool
     requires { at + 48 ≤ length list.now }
-    ensures { (result ≡ true) ↔ RecordAgrees list.now roll.now at }
+    ensures { IsTrue result ↔ RecordAgrees list.now roll.now at }
 {
     let offset = four(list, at) as u32;
     let previous = four(list, at + 4) as u32;
@@ -51,61 +50,40 @@ fn record_agrees(list: &[u8], roll: &[u8], at: usize) -> bool
 // So many records asked for, from a place on.
 fn records_agree(list: &[u8], roll: &[u8], from: usize, count: usize) -> bool
     requires { from + 48 * count ≤ length list.now }
-    ensures { (result ≡ true) ↔ RecordsAgree list.now roll.now from count }
+    ensures { IsTrue result ↔ RecordsAgree list.now roll.now from count }
 {
-    for k in 0..count {
-        if !record_agrees(list, roll, from + ASKED_BYTES * k) {
-            return false;
-        }
-    }
-    true
+    (0..count).all(|k| record_agrees(list, roll, from + ASKED_BYTES * k))
 }
 
 // The kind of this program's cases.
 struct Rolls;
 
 impl Case for Rolls {
-    ghost next = { nextAt };
+    ghost end = { caseEnd };
 
     ghost agrees = { CaseAgrees };
 
-    // The case at a place. One that the end of the list cuts short does not agree.
-    #[tactic(auto, unfolding(crate::specs::Cases::nextAt, crate::specs::Cases::caseEnd, crate::specs::Cases::rollEnd, crate::specs::Cases::rollAt))]
-    fn replay_case(list: &[u8], at: usize) -> Replayed {
+    ghost whole = { λ list at case. case.whole };
+
+    #[tactic(auto, unfolding(crate::specs::Cases::caseEnd, crate::specs::Cases::rollEnd))]
+    fn case_end(list: &[u8], at: usize) -> usize {
+        at + HEAD_BYTES + four(list, at) as usize + ASKED_BYTES * four(list, at + 4) as usize
+    }
+
+    #[tactic(auto, unfolding(crate::specs::Cases::caseEnd, crate::specs::Cases::rollEnd, crate::specs::Cases::rollAt))]
+    fn case_agrees(list: &[u8], at: usize) -> bool {
         let start = at + HEAD_BYTES;
         let end = start + four(list, at) as usize;
         let count = four(list, at + 4) as usize;
-        let next = end + ASKED_BYTES * count;
-        if next > list.len() {
-            return Replayed {
-                next: list.len(),
-                agrees: false,
-            };
-        }
-        if !roll_agrees(list, at + 8, &list[start..end]) {
-            return Replayed {
-                next,
-                agrees: false,
-            };
-        }
-        Replayed {
-            next,
-            agrees: records_agree(list, &list[start..end], end, count),
-        }
+        let roll = &list[start..end];
+        roll_agrees(list, at + 8, roll) && records_agree(list, roll, end, count)
     }
-}
-
-// The cases of the list, from its start to its end.
-fn replay(list: &[u8]) -> Counts
-    ensures { Replays list.now (nextAt list.now) (CaseAgrees list.now) (length list.now) result.cases result.differ }
-{
-    cases::replay::<Rolls>(list)
 }
 
 // No ensures: no contract can speak of what was written to standard output.
 fn main(rt: HostRuntime) -> io::Result<()> {
     let mut list = Vec::new(rt.alloc());
     rt.reader().read_to_end(&mut list)?;
-    let counts = replay(&list);
+    let counts = cases::replay::<Rolls>(&list);
     println!(rt; "{} rolls replayed, {} differ", counts.cases, counts.differ)
 }

@@ -11,7 +11,7 @@ use Rattle.rolls.specs.computed.Host.{rollTold, recordTold}
 use Rattle.rolls.specs.computed.Examples.{RollExamples}
 
 pub record RollTheorems (roll : List ℕ) : Type 0 where
-  -- The answer is what document 02 declares, and nothing else: of one record, wherever it is asked for, and of the roll.
+  -- The answer is what is declared (`paper`), and nothing else: of one record, wherever it is asked for, and of the roll.
   pub steps : (at previous : ℕ) (x : Stepped) → (readAt roll at previous ≡ x) ↔ Steps roll at previous x
   pub reads : (x : Outcome) → (readRoll roll ≡ x) ↔ ReadsRoll roll x
   -- So is what a host is told, with any block.
@@ -22,11 +22,12 @@ pub record RollTheorems (roll : List ℕ) : Type 0 where
   pub onward : (at previous next : ℕ) (t : Token) → readAt roll at previous ≡ yielded t next → (at < next) × (next ≤ length roll) × (t.end < 4294967296)
   pub by-block : (at previous next : ℕ) (t : Token) → length roll < 4294967296 → readAt roll at previous ≡ yielded t next
       → (fourAt (tokenBlock t next) 8 ≡ kindNumber t.kind) × (fourAt (tokenBlock t next) 16 ≡ t.end) × (fourAt (tokenBlock t next) 28 ≡ next)
-  -- "Every roll that the writer makes is read to the same tokens": for every script of at most 16,777,216 bytes that has a reading.
+  -- REQUESTS, "Rolls that were written": "The roll of every script that has a reading, of at most 16,777,216 bytes, is read to the tokens of that
+  -- reading."
   pub written : (script : List ℕ) (ts : List Token) → length script ≤ mostBytes → TokensOf script ts → readRoll (records ts) ≡ tokens ts
-  -- "and writing those tokens gives the same bytes": for every roll that is read, whoever made it.
+  -- "And of every roll that is read, whoever made it, writing the tokens again gives the same bytes."
   pub back : (ts : List Token) → readRoll roll ≡ tokens ts → records ts ≡ roll
-  -- "The roll must end with its only Eof."
+  -- REQUESTS, "End of a roll": "A roll ends with its only Eof."
   pub one-eof : (ts : List Token) → readRoll roll ≡ tokens ts → OnlyLastEof ts
-  -- Rolls whole and damaged come out as document 02 says.
+  -- Rolls whole and damaged come out as REQUESTS says.
   pub examples : RollExamples

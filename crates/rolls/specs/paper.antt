@@ -1,4 +1,4 @@
--- Document 02, request 1, "Records read back".
+-- What REQUESTS (docs/REQUESTS.md), "Stored rolls", says.
 pub mod Refusals
 pub mod Roll
 pub mod Host

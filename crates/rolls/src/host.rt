@@ -1,4 +1,4 @@
-// What hosts call: a number and an answer block. Document 02, request 1.
+// What hosts call: a number and an answer block. REQUESTS, "Answer of a roll" and "Answer of a record".
 ghost use Rattle.std.specs.Prelude.{◌≡◌, length};
 ghost use Rattle.words.specs.Words.{told};
 ghost use Rattle.rolls.specs.paper.Refusals.{refusalNumber};

@@ -1,4 +1,4 @@
-// Stored records read back, without the script. Document 02, request 1. The crate `ergo` exports the host's functions.
+// Stored records read back, without the script. REQUESTS (docs/REQUESTS.md), "Stored rolls". The crate `ergo` exports the host's functions.
 #![tactic(auto)]
 
 pub mod refusal; // 22, 23 and 24

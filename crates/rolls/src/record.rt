@@ -1,4 +1,4 @@
-// One record of a roll: its token and the cursor behind it, or a refusal. Document 02, request 1.
+// One record of a roll: its token and the cursor behind it, or a refusal. REQUESTS, "Reading a roll".
 ghost use Rattle.std.specs.Prelude.{◌≡◌, IfOk};
 ghost use Rattle.rolls.specs.computed.Roll.{badValues, isWrong, stepHeld, readAt, eofFollowed};
 ghost use Rattle.rolls.specs.code.Record.{lengthIf, kindIf, kindOf, stepOf};
@@ -48,11 +48,11 @@ fn kind_for(number: u16, values: u64) -> Option<TokenKind>
         TokenKind::IDENT => TokenKind::Ident,
         TokenKind::OP_ID => TokenKind::OpId,
         TokenKind::BACKTICK_ID => TokenKind::BacktickId,
-        TokenKind::INT_LIT => TokenKind::IntLit((values % 4294967296) as u32),
+        TokenKind::INT_LIT => TokenKind::IntLit((values & 0xFFFF_FFFF) as u32),
         TokenKind::LONG_LIT => TokenKind::LongLit(values),
         TokenKind::STR => TokenKind::Str {
-            from: (values % 4294967296) as usize,
-            to: (values / 4294967296) as usize,
+            from: (values & 0xFFFF_FFFF) as usize,
+            to: (values >> 32) as usize,
         },
         TokenKind::CHAR_SYM => TokenKind::CharSym,
         TokenKind::L_PAREN => TokenKind::LParen,
@@ -76,9 +76,7 @@ fn kind_for(number: u16, values: u64) -> Option<TokenKind>
 fn kind_of(held: Held) -> Option<TokenKind>
     ensures { result ≡ kindOf held }
 {
-    let Ok(number) = u16::try_from(held.number) else {
-        return None;
-    };
+    let number = u16::try_from(held.number).ok()?;
     if length_for(number)? as u64 != held.length {
         return None;
     }
@@ -90,18 +88,15 @@ fn kind_of(held: Held) -> Option<TokenKind>
 fn bad_values(held: Held) -> bool
     ensures { result ≡ badValues held }
 {
-    let Ok(number) = u16::try_from(held.number) else {
-        return false;
-    };
-    match number {
-        TokenKind::INT_LIT => held.values > 2147483647,
-        TokenKind::LONG_LIT => held.values > 9223372036854775807,
-        TokenKind::STR => {
-            let from = held.values % 4294967296;
-            let to = held.values / 4294967296;
+    match u16::try_from(held.number) {
+        Ok(TokenKind::INT_LIT) => held.values > 2147483647,
+        Ok(TokenKind::LONG_LIT) => held.values > 9223372036854775807,
+        Ok(TokenKind::STR) => {
+            let from = held.values & 0xFFFF_FFFF;
+            let to = held.values >> 32;
             from < held.start || held.end < to || to < from
         }
-        TokenKind::NEWLINE => held.values > 1,
+        Ok(TokenKind::NEWLINE) => held.values > 1,
         _ => false,
     }
 }

@@ -1,4 +1,4 @@
-// The refusals of stored records: 22, 23 and 24. Document 02, request 1.
+// The refusals of stored records: 22, 23 and 24. REQUESTS, "Refusals of a record".
 ghost use Rattle.std.specs.Prelude.{◌≡◌};
 ghost use Rattle.rolls.specs.paper.Refusals.{refusalNumber};
 

@@ -20,6 +20,7 @@ pub fn read_roll(roll: &[u8]) -> Result<usize, Refused>
 {
     let mut c = RollCursor { at: 0, previous: 0 };
     let mut count: usize = 0;
+    // Each record says itself where the next one starts.
     loop {
         let found = read_token(roll, c)?;
         count += 1;

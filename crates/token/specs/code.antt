@@ -7,13 +7,12 @@ pub mod Gap
 pub mod Digits
 pub mod String
 pub mod Keyword
+pub mod Ident
 pub mod Charsym
 pub mod Lexer
 pub mod Form
 pub mod Ascii
 pub mod ByteClass
 pub mod Names
-pub mod Literal
 pub mod Records
-pub mod Symbol
 pub mod Walk

@@ -1,12 +1,12 @@
 // Digits: one walk over a run and one value, for numbers and escapes alike. Document 01, "Number" and "Escape".
-ghost use Rattle.std.specs.Prelude.{◌≡◌, ◌⊎◌, ◌+◌, ◌*◌, ◌≤◌, ◌<◌, length};
-ghost use Rattle.chars.specs.paper.Text.{from};
-ghost use Rattle.token.specs.paper.Tests.{hexAhead};
+ghost use Rattle.std.specs.Prelude.{◌≡◌, true, ℕ, ◌*◌, ◌^◌, ◌≤◌, ◌<◌, length, get_or};
+ghost use Rattle.chars.specs.paper.Text.{Text, from};
+ghost use Rattle.token.specs.paper.Tests.{isDigit, digitValue, hexAhead};
 ghost use Rattle.token.specs.computed.Answer.{numeral, readDigits, numberOf, scanNumber};
-ghost use Rattle.token.specs.code.Digits.{digitIn, digitOf, afterUpTo, valueOf, intOr};
+ghost use Rattle.token.specs.code.Digits.{digitIn, digitOf, afterUpTo, Untested, intOr, longOr, numberBy};
 ghost use Rattle.token.specs.code.Piece.{pieceOf};
 
-use crate::cursor::{Cursor, byte_at, two_at};
+use crate::cursor::{Cursor, byte_at};
 use crate::kinds::TokenKind;
 use crate::piece::Piece;
 use crate::refusal::{Refusal, Refused};
@@ -16,9 +16,6 @@ pub struct Value;
 
 impl Value {
     pub const LONG_MOST: u64 = 9223372036854775807;
-
-    // With one more digit, of base 10 or 16, still at most LONG_MOST.
-    pub const SAFE_MOST: u64 = 576460752303423487;
 
     pub const INT_MOST: u64 = 2147483647;
 }
@@ -69,72 +66,96 @@ pub fn consume_digits(s: &[u8], c: Cursor, base: u64, most: usize) -> Cursor
     Cursor { at: i }
 }
 
-// A value with one more digit, if it is at most LONG_MOST. Most values are far from the limit, and only the others need a division.
-#[tactic(auto, unfolding(crate::specs::code::Digits::valueOf))]
-fn push_digit(v: u64, d: u64, base: u64) -> Option<u64>
-    requires digit { d < 16 }
-    requires base_in { (base ≡ 10) ⊎ (base ≡ 16) }
-    ensures { result ≡ valueOf (v * base + d) }
-{
-    if v <= Value::SAFE_MOST {
-        return Some(v * base + d);
-    }
-    if (Value::LONG_MOST - d) / base < v {
-        return None;
-    }
-    Some(v * base + d)
-}
-
-// Do `0x` and a hex digit stand there?
+// Do `0x` and a hex digit stand there? The `x` is looked for first: few numbers have one.
 #[tactic(auto, using(crate::proofs::digits::Laws::hex_bytes))]
-pub fn hex_ahead(s: &[u8], c: Cursor) -> bool
+fn hex_ahead(s: &[u8], c: Cursor) -> bool
     requires { c.at ≤ length s.now }
     ensures { result ≡ hexAhead (from s.now c.at) }
 {
-    two_at(s, c.at, b'0', b'x') && is_digit(byte_at(s, c.at + 2), 16)
+    byte_at(s, c.at + 1) == b'x' && is_digit(byte_at(s, c.at + 2), 16) && s[c.at] == b'0'
 }
 
-// The number from its digits on; start is where it begins. One walk finds the digits' end and their value.
-fn number_from(s: &[u8], start: usize, c: Cursor, base: u64) -> Piece
-    requires order { start ≤ c.at }
-    requires within { c.at ≤ length s.now }
-    requires base_in { (base ≡ 10) ⊎ (base ≡ 16) }
-    ensures { result ≡ pieceOf (length s.now) (numberOf (from s.now start) (readDigits (digitIn base) base 0 (from s.now c.at))) }
+// Above the most of every kind.
+const ABOVE_ALL: u64 = u64::MAX;
+
+// A run of digits: where it ends, its value, and the byte behind it.
+#[derive(Clone, Copy, Debug, PartialEq, Eq)]
+struct DigitRun {
+    end: usize,
+    value: u64,
+    next: u8,
+}
+
+// The digits of a base that stand there, at most so many: so few that no value has to be tested. The base is compiled in: each has its own loop, as
+// fast as one that is written for it.
+#[inline(always)]
+fn digit_run<const BASE: u64, const MOST: usize>(s: &[u8], at: usize) -> DigitRun
+    requires within { at ≤ length s.now }
+    requires untested { Untested BASE MOST }
+    ensures within { result.end ≤ length s.now }
+    ensures next { result.next ≡ get_or s.now result.end 0 }
+    ensures value { readDigits (digitIn BASE) BASE result.value (from s.now result.end) ≡ readDigits (digitIn BASE) BASE 0 (from s.now at) }
+    ensures lead { digitIn BASE result.next ≡ true → (get_or s.now at 0 ≡ 0x30 → ⊥) → BASE ^ MOST ≤ result.value * BASE }
 {
+    let stop = s.len().min(at + MOST);
     let mut v: u64 = 0;
-    let mut i = c.at;
-    loop {
-        let d = digit_of(byte_at(s, i));
-        if base <= d {
-            return number_end(s, start, v, i);
+    let mut i = at;
+    while i < stop {
+        let b = s[i];
+        let d = digit_of(b);
+        if BASE <= d {
+            return DigitRun {
+                end: i,
+                value: v,
+                next: b,
+            };
         }
-        let more = push_digit(v, d, base);
-        let Some(w) = more else {
-            return Err(Refused {
-                what: Refusal::LargeNumber,
-                place: start,
-            });
-        };
-        v = w;
+        v = v * BASE + d;
         i += 1;
     }
+    DigitRun {
+        end: i,
+        value: v,
+        next: byte_at(s, i),
+    }
 }
 
-// The number of this value whose digits end at a place: `L` or `l` makes it a LongLit.
-fn number_end(s: &[u8], start: usize, v: u64, end: usize) -> Piece
-    requires order { start ≤ end }
-    requires within { end ≤ length s.now }
-    requires fits { v ≤ 9223372036854775807 }
-    ensures { result ≡ pieceOf (length s.now) (numberOf (from s.now start) (numeral v (from s.now end))) }
+// Past the zeros that stand there.
+fn skip_zeros(s: &[u8], at: usize) -> usize
+    requires { at ≤ length s.now }
+    ensures within { result ≤ length s.now }
+    ensures past { get_or s.now result 0 ≡ 0x30 → ⊥ }
+    ensures value { (base : ℕ) → readDigits (digitIn base) base 0 (from s.now result) ≡ readDigits (digitIn base) base 0 (from s.now at) }
 {
-    match byte_at(s, end) {
-        b'L' | b'l' => Ok((TokenKind::LongLit(v), Cursor { at: end + 1 })),
-        _ => int_literal(start, v, Cursor { at: end }),
+    let mut i = at;
+    while byte_at(s, i) == b'0' {
+        i += 1;
     }
+    i
+}
+
+// The same where more digits stand there than are read at once: zeros lead them, or their value is above every most.
+#[inline(never)]
+fn long_run<const BASE: u64, const MOST: usize>(s: &[u8], at: usize) -> DigitRun
+    requires within { at ≤ length s.now }
+    requires untested { Untested BASE MOST }
+    ensures within { result.end ≤ length s.now }
+    ensures next { result.next ≡ get_or s.now result.end 0 }
+    ensures same { (t : Text) → numberOf t (numeral result.value (from s.now result.end)) ≡ numberOf t (readDigits (digitIn BASE) BASE 0 (from s.now at)) }
+{
+    let run = digit_run::<BASE, MOST>(s, skip_zeros(s, at));
+    if is_digit(run.next, BASE) {
+        return DigitRun {
+            value: ABOVE_ALL,
+            ..run
+        };
+    }
+    run
 }
 
 // An IntLit, unless it is too large.
 #[tactic(auto, unfolding(crate::specs::code::Digits::intOr))]
+#[inline(always)]
 fn int_literal(start: usize, v: u64, end: Cursor) -> Piece
     ensures { result ≡ intOr start v end }
 {
@@ -147,12 +168,76 @@ fn int_literal(start: usize, v: u64, end: Cursor) -> Piece
     Ok((TokenKind::IntLit(v as u32), end))
 }
 
+// A LongLit, unless it is too large.
+#[tactic(auto, unfolding(crate::specs::code::Digits::longOr))]
+#[inline(always)]
+fn long_literal(start: usize, v: u64, end: Cursor) -> Piece
+    ensures { result ≡ longOr start v end }
+{
+    if Value::LONG_MOST < v {
+        return Err(Refused {
+            what: Refusal::LargeNumber,
+            place: start,
+        });
+    }
+    Ok((TokenKind::LongLit(v), end))
+}
+
+// The number that begins at `start` and has these digits: `L` or `l` behind them makes it a LongLit.
+#[inline(always)]
+fn number_of(start: usize, run: DigitRun) -> Piece
+    requires { run.end < 18446744073709551615 }
+    ensures { result ≡ numberBy start run }
+{
+    match run.next {
+        b'L' | b'l' => long_literal(start, run.value, Cursor { at: run.end + 1 }),
+        _ => int_literal(start, run.value, Cursor { at: run.end }),
+    }
+}
+
+// A function of its own, since the answer of `long_run` goes through memory, which is made ready where its name stands.
+#[inline(always)]
+fn long_number<const BASE: u64, const MOST: usize>(s: &[u8], start: usize, at: usize) -> Piece
+    requires order { start ≤ at }
+    requires within { at ≤ length s.now }
+    requires untested { Untested BASE MOST }
+    ensures { result ≡ pieceOf (length s.now) (numberOf (from s.now start) (readDigits (digitIn BASE) BASE 0 (from s.now at))) }
+{
+    number_of(start, long_run::<BASE, MOST>(s, at))
+}
+
+// The number that begins at `start` and whose digits of a base begin at `at`.
+#[inline(always)]
+fn number_in<const BASE: u64, const MOST: usize>(s: &[u8], start: usize, at: usize) -> Piece
+    requires order { start ≤ at }
+    requires within { at ≤ length s.now }
+    requires untested { Untested BASE MOST }
+    ensures { result ≡ pieceOf (length s.now) (numberOf (from s.now start) (readDigits (digitIn BASE) BASE 0 (from s.now at))) }
+{
+    let run = digit_run::<BASE, MOST>(s, at);
+    if is_digit(run.next, BASE) {
+        return long_number::<BASE, MOST>(s, start, at);
+    }
+    number_of(start, run)
+}
+
+/// The number that stands there.
+#[inline(always)]
 pub fn lex_number(s: &[u8], c: Cursor) -> Piece
     requires { c.at ≤ length s.now }
     ensures { result ≡ pieceOf (length s.now) (scanNumber (from s.now c.at)) }
 {
     if hex_ahead(s, c) {
-        return number_from(s, c.at, Cursor { at: c.at + 2 }, 16);
+        return number_in::<16, 16>(s, c.at, c.at + 2);
     }
-    number_from(s, c.at, c, 10)
+    number_in::<10, 19>(s, c.at, c.at)
+}
+
+/// The value of the digit that stands there.
+pub fn digit_value(s: &[u8], at: usize) -> u64
+    requires within { at < length s.now }
+    requires digit { isDigit (get_or s.now at 0) ≡ true }
+    ensures { result ≡ digitValue (get_or s.now at 0) }
+{
+    s[at] as u64 % 16
 }

@@ -18,9 +18,9 @@ pub fn head_of(length: u16, number: u16) -> u32
     length as u32 + 65536 * (number as u32)
 }
 
-// Length and kind, start, end and cut.
-#[tactic(auto, using(crate::proofs::form::Stores::put_head))]
+// Length and kind, start, end and cut. This and the three that follow are compiled into each caller, where most of a form is known.
 #[inline(always)]
+#[tactic(auto, using(crate::proofs::form::Stores::put_head))]
 fn put_head(out: &mut [u8], w: usize, head: u32, start: usize, end: usize, cut: bool)
     requires { w + headLength ≤ length out.old }
     ensures { out.new ≡ sets out.old w (headBytes head start end cut) }
@@ -32,25 +32,27 @@ fn put_head(out: &mut [u8], w: usize, head: u32, start: usize, end: usize, cut: 
 }
 
 // The values: as many bytes of them as the record's length has.
-#[tactic(auto, using(crate::proofs::form::Laws::record_stores))]
 #[inline(always)]
+#[tactic(auto, using(crate::proofs::form::Laws::record_stores))]
 fn put_values(out: &mut [u8], w: usize, size: u16, values: u64)
-    requires { Known size × (w + (size - headLength) ≤ length out.old) }
+    requires known { Known size }
+    requires room { w + (size - headLength) ≤ length out.old }
     ensures { out.new ≡ sets out.old w (take (size - headLength) (le8 values)) }
 {
     match size {
-        TokenKind::NEWLINE_LENGTH => out[w] = (values % 256) as u8,
-        TokenKind::INT_LIT_LENGTH => put4(out, w, (values % 4294967296) as usize),
+        TokenKind::NEWLINE_LENGTH => out[w] = values.to_le_bytes()[0],
+        TokenKind::INT_LIT_LENGTH => put4(out, w, values as usize),
         TokenKind::LONG_LIT_LENGTH => put8(out, w, values),
         _ => {}
     }
 }
 
-// A record by its form.
-#[tactic(auto, using(crate::proofs::form::Laws::record_stores))]
+/// A record by its form.
 #[inline(always)]
+#[tactic(auto, using(crate::proofs::form::Laws::record_stores))]
 pub fn put_record(out: &mut [u8], w: usize, form: Form, start: usize, end: usize, cut: bool)
-    requires { Known form.length × (w + form.length ≤ length out.old) }
+    requires known { Known form.length }
+    requires room { w + form.length ≤ length out.old }
     ensures { out.new ≡ sets out.old w (byForm form start end cut) }
 {
     put_head(out, w, head_of(form.length, form.number), start, end, cut);
@@ -62,20 +64,20 @@ pub fn put_record(out: &mut [u8], w: usize, form: Form, start: usize, end: usize
     );
 }
 
-// The same, where it fits.
-#[tactic(auto, using(crate::proofs::form::Shapes::fitting))]
+/// The same, where it fits.
 #[inline(always)]
+#[tactic(auto, using(crate::proofs::form::Shapes::fitting))]
 pub fn put_if(out: &mut [u8], w: usize, form: Form, start: usize, end: usize, cut: bool)
-    requires { Known form.length × (w + form.length ≤ 18446744073709551615) }
+    requires known { Known form.length }
+    requires room { w + form.length ≤ 18446744073709551615 }
     ensures { out.new ≡ storedIf out.old w (byForm form start end cut) }
 {
     if w + form.length as usize <= out.len() {
         put_record(out, w, form, start, end, cut);
-        return;
     }
 }
 
-// A token without values, by its length and kind.
+/// The same for one of the nine signs, by its length and kind as one number: made of its form, these cost an instruction more a sign.
 #[tactic(auto, using(crate::proofs::form::Shapes::fitting))]
 pub fn put_head_if(out: &mut [u8], w: usize, head: u32, start: usize, end: usize, cut: bool)
     requires { w + headLength ≤ 18446744073709551615 }
@@ -83,12 +85,11 @@ pub fn put_head_if(out: &mut [u8], w: usize, head: u32, start: usize, end: usize
 {
     if w + TokenKind::HEAD_LENGTH as usize <= out.len() {
         put_head(out, w, head, start, end, cut);
-        return;
     }
 }
 
-// A record as it stands in bytes.
-#[derive(Clone, Copy)]
+/// A record as it stands in bytes.
+#[derive(Clone, Copy, Debug, PartialEq, Eq)]
 pub struct Held {
     pub number: u64,
     pub length: u64,
@@ -118,8 +119,8 @@ fn read_values(bytes: &[u8], at: usize, size: u64) -> u64
     }
 }
 
-// Every record is read here. Every byte is allowed: past the end a byte counts as 0. The second clause: what is stored is read back, and what is
-// read is stored again.
+/// Every record is read here. Every byte is allowed: past the end a byte counts as 0. The second clause: what is stored is read back, and what is
+/// read is stored again.
 #[tactic(auto, using(crate::proofs::form::ReadBack::reads), unfolding(crate::specs::code::Form::heldAt))]
 pub fn read_record(bytes: &[u8], at: usize) -> Held
     requires { at + mostLength ≤ 18446744073709551615 }

@@ -1,48 +1,38 @@
 // Identifiers, operators and backticks. Document 01, "Piece table".
-ghost use Rattle.std.specs.Prelude.{◌≡◌, true, false, cond, ◌≤◌, length, drop};
+ghost use Rattle.std.specs.Prelude.{◌≡◌, true, false, ◌≤◌, length, drop};
 ghost use Rattle.chars.specs.paper.Classes.{isIdStart};
 ghost use Rattle.chars.specs.paper.Text.{from, headIs};
-ghost use Rattle.chars.specs.code.Text.{charEnd};
 ghost use Rattle.chars.specs.computed.Runs.{afterRun};
 ghost use Rattle.token.specs.paper.Tests.{isAny, opSign, freeSign, opensComment};
 ghost use Rattle.token.specs.computed.Answer.{afterIdent, orPrefixed, scanIdent, scanOperator, scanBacktick};
+ghost use Rattle.token.specs.code.Ident.{signEnd};
+ghost use Rattle.token.specs.code.Names.{lowBefore};
 ghost use Rattle.token.specs.code.Piece.{pieceOf};
 ghost use Rattle.token.specs.code.String.{backtickOf};
 
+use crate::byte_class::Class;
 use crate::cursor::{Cursor, byte_at, two_at};
 use crate::keyword::{run_number, word_number};
 use crate::kinds::{TokenKind, keyword_of};
 use crate::piece::Piece;
 use crate::refusal::{Refusal, Refused};
 use crate::string::lex_prefixed_string;
-use chars::runs::{NoneOf, OneOf, run_end};
+use chars::classes::{id_run_end, is_arrow_at};
+use chars::runs::{NoneOf, run_end};
 
-// Where the operator sign at a place ends; the place itself, if none stands there. Past ASCII the one sign is U+21D2.
-fn sign_end(s: &[u8], at: usize) -> usize
-    ensures { result ≡ cond (opSign (from s.now at)) (charEnd s.now at) at }
+// Where the operator sign ends that stands at a place, if one does. Past ASCII the one sign is U+21D2.
+fn sign_end(s: &[u8], at: usize) -> Option<usize>
+    requires { at ≤ length s.now }
+    ensures { result ≡ signEnd s.now at }
 {
-    let b = byte_at(s, at);
-    if 0x80 <= b {
-        return wide_sign_end(s, at);
+    let class = Class::at(s, at);
+    if class.is_op() {
+        return Some(at + 1);
     }
-    if chars::classes::is_op_byte(b) {
-        return at + 1;
+    if class == Class::WIDE && is_arrow_at(s, at) {
+        return Some(at + 3);
     }
-    at
-}
-
-// The same by the character that stands there.
-#[tactic(auto, using(crate::proofs::cursor::Laws::step_within))]
-fn wide_sign_end(s: &[u8], at: usize) -> usize
-    ensures { result ≡ cond (opSign (from s.now at)) (charEnd s.now at) at }
-{
-    let Some(here) = chars::text::char_at(s, at) else {
-        return at;
-    };
-    if chars::classes::is_op_char(here.code) {
-        return at + here.width;
-    }
-    at
+    None
 }
 
 // Past the operator signs that stand there; `//` stops none.
@@ -52,45 +42,54 @@ fn consume_signs(s: &[u8], c: Cursor) -> Cursor
     ensures rest { from s.now result.at ≡ afterRun opSign (from s.now c.at) }
 {
     let mut i = c.at;
-    loop {
-        let next = sign_end(s, i);
-        if next == i {
-            return Cursor { at: i };
-        }
+    while let Some(next) = sign_end(s, i) {
         i = next;
     }
+    Cursor { at: i }
 }
 
-/// Past an identifier's rest. Most have no underscore: then one run of id characters is all of it, and no chunks are counted.
+/// Past an identifier's rest. Most have no underscore: then one run of id characters is all of it.
 pub fn skip_id_rest(s: &[u8], c: Cursor) -> Cursor
     requires { c.at ≤ length s.now }
     ensures within { result.at ≤ length s.now }
     ensures rest { from s.now result.at ≡ afterIdent false (from s.now c.at) }
 {
-    let end = chars::classes::id_run_end(s, c.at);
+    let end = id_run_end(s, c.at);
     if byte_at(s, end) == b'_' {
-        return consume_id_rest(s, Cursor { at: end });
+        return consume_id_rest(s, Cursor { at: end }, false);
     }
     Cursor { at: end }
 }
 
-// The same by chunks, each of zero or more underscores and one or more id characters, then signs where underscores are left.
-fn consume_id_rest(s: &[u8], c: Cursor) -> Cursor
+// The same by chunks, each of zero or more underscores and one or more id characters, then signs where underscores are left. `low`: an underscore
+// came last before c.
+fn consume_id_rest(s: &[u8], c: Cursor, low: bool) -> Cursor
     requires { c.at ≤ length s.now }
-    ensures { (result.at ≤ length s.now) × (from s.now result.at ≡ afterIdent false (from s.now c.at)) }
+    ensures within { result.at ≤ length s.now }
+    ensures rest { from s.now result.at ≡ afterIdent low (from s.now c.at) }
 {
-    let mut chunk = c.at;
-    loop {
-        let behind = run_end::<OneOf<b'_', b'_'>>(s, chunk);
-        let end = chars::classes::id_run_end(s, behind);
-        if end == behind {
-            if behind == chunk {
-                return Cursor { at: chunk };
+    let mut i = c.at;
+    let mut left = low;
+    'chunks: loop {
+        loop {
+            if byte_at(s, i) == b'_' {
+                i += 1;
+                left = true;
+            } else {
+                let end = id_run_end(s, i);
+                if end == i {
+                    break 'chunks;
+                }
+                i = end;
+                left = false;
+                break;
             }
-            return consume_signs(s, Cursor { at: behind });
         }
-        chunk = end;
     }
+    if left {
+        return consume_signs(s, Cursor { at: i });
+    }
+    Cursor { at: i }
 }
 
 /// Past the operator run that stands there; a comment's opening ends it.
@@ -100,16 +99,13 @@ pub fn consume_op_run(s: &[u8], c: Cursor) -> Cursor
     ensures rest { from s.now result.at ≡ afterRun freeSign (from s.now c.at) }
 {
     let mut d = c;
-    loop {
-        let next = sign_end(s, d.at);
-        if next == d.at {
-            return d;
-        }
+    while let Some(next) = sign_end(s, d.at) {
         if opens_comment(s, d) {
             return d;
         }
         d = Cursor { at: next };
     }
+    d
 }
 
 /// Does `//` or `/*` stand there?
@@ -134,15 +130,18 @@ fn or_prefixed(s: &[u8], kind: TokenKind, start: usize, c: Cursor) -> Piece
     Ok((kind, c))
 }
 
-/// An identifier, a keyword, or the string that an identifier prefixes. Its first character ends at `rest`.
+/// An identifier, a keyword, or the string that an identifier prefixes. It was read up to `rest`, which is behind its first character or, past id
+/// characters and underscores, further on.
 pub fn lex_ident(s: &[u8], c: Cursor, rest: Cursor) -> Piece
     requires within { c.at ≤ length s.now }
     requires starts { headIs isIdStart (from s.now c.at) ≡ true }
     requires rest_within { rest.at ≤ length s.now }
-    requires rest_is { from s.now rest.at ≡ drop 1 (from s.now c.at) }
+    requires rest_same { afterIdent (lowBefore s.now c.at rest.at) (from s.now rest.at)
+        ≡ afterIdent false (drop 1 (from s.now c.at)) }
     ensures { result ≡ pieceOf (length s.now) (scanIdent (length s.now) (from s.now c.at)) }
 {
-    let end = skip_id_rest(s, rest);
+    let low = is_low(s, c.at, rest.at);
+    let end = consume_id_rest(s, rest, low);
     let word = keyword_of(word_number(s, c.at, end.at));
     match word {
         Some(k) => Ok((TokenKind::Kw(k), end)),
@@ -150,12 +149,22 @@ pub fn lex_ident(s: &[u8], c: Cursor, rest: Cursor) -> Piece
     }
 }
 
-/// An operator; a keyword's run is an operator where a comment follows directly.
-pub fn lex_op_run(s: &[u8], c: Cursor) -> Piece
-    requires { c.at ≤ length s.now }
+// Does an underscore stand last before `end`, and not first?
+fn is_low(s: &[u8], start: usize, end: usize) -> bool
+    requires { end ≤ length s.now }
+    ensures { result ≡ lowBefore s.now start end }
+{
+    end > 0 && s[end - 1] == b'_' && start < end - 1
+}
+
+/// An operator, which was read up to `rest`; a keyword's run is an operator where a comment follows directly.
+pub fn lex_op_run(s: &[u8], c: Cursor, rest: Cursor) -> Piece
+    requires within { c.at ≤ length s.now }
+    requires rest_within { rest.at ≤ length s.now }
+    requires rest_same { afterRun freeSign (from s.now rest.at) ≡ afterRun freeSign (from s.now c.at) }
     ensures { result ≡ pieceOf (length s.now) (scanOperator (from s.now c.at)) }
 {
-    let end = consume_op_run(s, c);
+    let end = consume_op_run(s, rest);
     let run = keyword_of(run_number(s, c.at, end.at));
     match run {
         Some(k) => {

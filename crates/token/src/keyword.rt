@@ -15,7 +15,7 @@ fn two_of(s: &[u8], at: usize) -> u32
     requires { at + 2 ≤ length s.now }
     ensures { result ≡ twoAt s.now at }
 {
-    s[at] as u32 + 256 * (s[at + 1] as u32)
+    u32::from(u16::from_le_bytes([s[at], s[at + 1]]))
 }
 
 #[tactic(auto, unfolding(words::specs::Words::twoAt, words::specs::Words::fourAt))]
@@ -23,7 +23,7 @@ fn four_of(s: &[u8], at: usize) -> u32
     requires { at + 4 ≤ length s.now }
     ensures { result ≡ fourAt s.now at }
 {
-    two_of(s, at) + 65536 * two_of(s, at + 2)
+    u32::from_le_bytes([s[at], s[at + 1], s[at + 2], s[at + 3]])
 }
 
 // The keyword's number, where its bytes stand; else that of an identifier.
@@ -83,7 +83,8 @@ fn eight_number(s: &[u8], at: usize) -> u16
     )
 }
 
-// The kind's number of the identifier from `at` to `end`. Most differ from all nine words in their length.
+/// The kind's number of the identifier from `at` to `end`. Most differ from all nine words in their length. A `match` of the slice with the words as
+/// byte strings was tried: it is slower, on keywords by a fifth.
 #[tactic(auto, using(crate::proofs::keyword::Laws::keywords))]
 pub fn word_number(s: &[u8], at: usize, end: usize) -> u16
     requires order { at ≤ end }
@@ -115,7 +116,7 @@ fn sign_number(b: u8) -> u16
     }
 }
 
-// The kind's number of the operator from `at` to `end`, if no comment stands behind it.
+/// The kind's number of the operator from `at` to `end`, if no comment stands behind it.
 #[tactic(auto, using(crate::proofs::keyword::Laws::keywords))]
 pub fn run_number(s: &[u8], at: usize, end: usize) -> u16
     requires order { at ≤ end }

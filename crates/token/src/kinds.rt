@@ -2,7 +2,7 @@
 ghost use Rattle.std.specs.Prelude.{◌≡◌};
 ghost use Rattle.token.specs.paper.Kinds.{kwNumber};
 ghost use Rattle.token.specs.paper.Records.{bit};
-ghost use Rattle.token.specs.code.Form.{formOf, plainForm};
+ghost use Rattle.token.specs.code.Form.{formOf, plainForm, Known};
 ghost use Rattle.token.specs.code.Keyword.{keywordBy};
 ghost use Rattle.token.specs.declared.kinds.TokenKind.TheVariants as tk;
 
@@ -148,7 +148,8 @@ impl TokenKind {
 
     #[tactic(auto, unfolding(crate::specs::code::Form::formOf, crate::specs::paper::Records::recordLength, crate::specs::paper::Records::values))]
     pub fn form(self) -> Form
-        ensures { result ≡ formOf self }
+        ensures value { result ≡ formOf self }
+        ensures known { Known result.length }
     {
         match self {
             TokenKind::IntLit(v) => Form::int(v as u64),
@@ -183,9 +184,11 @@ pub struct Form {
 }
 
 impl Form {
-    // A kind without values.
+    /// A kind without values.
+    #[tactic(auto, using(crate::proofs::form::Laws::known))]
     pub fn plain(number: u16) -> Form
-        ensures { result ≡ plainForm number }
+        ensures value { result ≡ plainForm number }
+        ensures known { Known result.length }
     {
         Form {
             number,
@@ -196,7 +199,8 @@ impl Form {
 
     #[tactic(auto, using(crate::proofs::form::Shapes::forms))]
     pub fn int(v: u64) -> Form
-        ensures { result ≡ formOf (tk.IntLit v) }
+        ensures value { result ≡ formOf (tk.IntLit v) }
+        ensures known { Known result.length }
     {
         Form {
             number: TokenKind::INT_LIT,
@@ -207,7 +211,8 @@ impl Form {
 
     #[tactic(auto, using(crate::proofs::form::Shapes::forms))]
     pub fn long(v: u64) -> Form
-        ensures { result ≡ formOf (tk.LongLit v) }
+        ensures value { result ≡ formOf (tk.LongLit v) }
+        ensures known { Known result.length }
     {
         Form {
             number: TokenKind::LONG_LIT,
@@ -216,10 +221,11 @@ impl Form {
         }
     }
 
-    // A string, by its content's start and end.
+    /// A string, by its content's start and end.
     #[tactic(auto, using(crate::proofs::form::Shapes::forms))]
     pub fn span(from: usize, to: usize) -> Form
-        ensures { result ≡ formOf (tk.Str from to) }
+        ensures value { result ≡ formOf (tk.Str from to) }
+        ensures known { Known result.length }
     {
         Form {
             number: TokenKind::STR,
@@ -230,7 +236,8 @@ impl Form {
 
     #[tactic(auto, using(crate::proofs::form::Shapes::forms))]
     pub fn line(mark: bool) -> Form
-        ensures { result ≡ formOf (tk.Newline mark) }
+        ensures value { result ≡ formOf (tk.Newline mark) }
+        ensures known { Known result.length }
     {
         Form {
             number: TokenKind::NEWLINE,

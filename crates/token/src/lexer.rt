@@ -28,7 +28,7 @@ fn lex_word(s: &[u8], c: Cursor) -> Piece
         return lex_wide_word(s, c);
     }
     if chars::classes::is_op_byte(b) {
-        return crate::ident::lex_op_run(s, c);
+        return crate::ident::lex_op_run(s, c, c);
     }
     Err(Refused {
         what: Refusal::NoPiece,
@@ -36,7 +36,7 @@ fn lex_word(s: &[u8], c: Cursor) -> Piece
     })
 }
 
-// The same by the character that stands there. A Russian letter is recognised from its bytes; an operator sign needs no table.
+// The same by the character that stands there.
 #[tactic(auto, using(crate::proofs::lexer::Starts::wide_words))]
 fn lex_wide_word(s: &[u8], c: Cursor) -> Piece
     requires within { c.at < length s.now }
@@ -44,9 +44,6 @@ fn lex_wide_word(s: &[u8], c: Cursor) -> Piece
     requires no_comment { opensComment (from s.now c.at) ≡ false }
     ensures { result ≡ pieceOf (length s.now) (scan (length s.now) (from s.now c.at)) }
 {
-    if chars::classes::is_cyrillic_at(s, c.at) {
-        return crate::ident::lex_ident(s, c, Cursor { at: c.at + 2 });
-    }
     let here = c.peek(s);
     let Some((code, _)) = here else {
         return Err(Refused {
@@ -55,7 +52,7 @@ fn lex_wide_word(s: &[u8], c: Cursor) -> Piece
         });
     };
     if chars::classes::is_op_char(code) {
-        return crate::ident::lex_op_run(s, c);
+        return crate::ident::lex_op_run(s, c, c);
     }
     if chars::classes::is_id_start(code) {
         return crate::ident::lex_ident(s, c, c.step(s));

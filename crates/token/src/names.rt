@@ -1,5 +1,6 @@
-// Words and runs of operator signs that are recognised from their ASCII bytes, as most are. Each reader answers by a place and the class of the byte
-// there; `name_end` and `operator_end` by None, where a character past ASCII stands behind it: `lexer::next_token` then reads the token.
+// Words and runs of operator signs that are recognised from their ASCII bytes, as most are: byte by byte, since few have the sixteen that
+// `chars::runs` looks at together. Each reader answers by a place and the class of the byte there; `name_end` and `operator_end` by None, where a
+// character past ASCII stands behind it: `lexer::lex_token` then reads the token.
 ghost use Rattle.std.specs.Prelude.{◌≡◌, ◌+◌, ◌≤◌, ◌<◌, length};
 ghost use Rattle.chars.specs.paper.Quoted.{oneOf};
 ghost use Rattle.token.specs.code.ByteClass.{inWord, isSign, inRun};

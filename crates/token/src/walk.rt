@@ -8,24 +8,22 @@ ghost use Rattle.token.specs.code.Records.{storedIf, measuredFrom, storedFrom};
 ghost use Rattle.token.specs.code.Form.{byForm, plainForm};
 ghost use Rattle.token.specs.code.ByteClass.{classAt, blankClass, digitClass, lfClass, crClass, tickClass, backtickClass, quoteClass, keywordClass, upToBlank, isSign, inWord};
 ghost use Rattle.token.specs.code.Names.{hereOf};
-ghost use Rattle.token.specs.code.Literal.{literalOf};
 ghost use Rattle.token.specs.code.Piece.{pieceOf};
 ghost use Rattle.token.specs.code.Walk.{beginning, movedTo, plainBehind, valuesBehind, lineBehind, commentBehind, blockBehind, nameNumber, operatorNumber, beginsName, stateAt, Good, LeftTo, Prefixes, Refuses, Steps};
 
 use crate::byte_class::Class;
+use crate::charsym::lex_char_sym;
 use crate::cursor::{Cursor, byte_at, skip_more};
-use crate::digits::Value;
-use crate::form::{put_head_if, put_if};
+use crate::digits::{digit_value, lex_number};
+use crate::form::{put_head_if, put_if, put_record};
+use crate::ident::consume_backtick;
 use crate::keyword::{run_number, word_number};
 use crate::kinds::{Form, TokenKind};
-use crate::ident::consume_backtick;
 use crate::lexer::lex_token;
-use crate::literal::{NumberLit, digit_value, literal_at};
 use crate::names::{Here, here_at, name_end, opens_with, operator_end, run_end, word_end};
 use crate::piece::Piece;
 use crate::refusal::{Refusal, Refused};
 use crate::string::{lex_plain_string, lex_prefixed_string};
-use crate::symbol::char_sym_end;
 
 const HEAD: usize = TokenKind::HEAD_LENGTH as usize;
 
@@ -184,14 +182,8 @@ fn line_step(out: &mut [u8], s: &[u8], x: Stand) -> Stand
     ensures on { Steps s.now x out.old result out.new }
     ensures further { result.at ≡ x.at + 1 }
 {
-    put_if(
-        out,
-        x.bytes,
-        Form::line(x.mark == x.bytes),
-        x.at,
-        x.at + 1,
-        false,
-    );
+    let form = Form::line(x.mark == x.bytes);
+    put_if(out, x.bytes, form, x.at, x.at + 1, false);
     behind_line(s, x, x.at + 1)
 }
 
@@ -211,14 +203,8 @@ fn return_step(out: &mut [u8], s: &[u8], x: Stand) -> Result<Stand, Refused>
             place: x.at,
         });
     }
-    put_if(
-        out,
-        x.bytes,
-        Form::line(x.mark == x.bytes),
-        x.at,
-        x.at + 2,
-        false,
-    );
+    let form = Form::line(x.mark == x.bytes);
+    put_if(out, x.bytes, form, x.at, x.at + 2, false);
     Ok(behind_line(s, x, x.at + 2))
 }
 
@@ -301,14 +287,8 @@ fn put_run_if(out: &mut [u8], s: &[u8], x: Stand, end: Here)
     ensures { out.new ≡ storedIf out.old x.bytes (byForm (plainForm (operatorNumber s.now x.at end)) x.at end.at x.cut) }
 {
     if x.bytes + HEAD <= out.len() {
-        put_if(
-            out,
-            x.bytes,
-            Form::plain(operator_number(s, x.at, end)),
-            x.at,
-            end.at,
-            x.cut,
-        );
+        let form = Form::plain(operator_number(s, x.at, end));
+        put_record(out, x.bytes, form, x.at, end.at, x.cut);
     }
 }
 
@@ -337,68 +317,12 @@ fn digit_step(out: &mut [u8], s: &[u8], x: Stand, end: Here) -> Stand
     ensures on { Steps s.now x out.old result out.new }
     ensures further { result.at ≡ x.at + 1 }
 {
-    put_if(
-        out,
-        x.bytes,
-        Form::int(digit_value(s, x.at)),
-        x.at,
-        end.at,
-        x.cut,
-    );
+    let form = Form::int(digit_value(s, x.at));
+    put_if(out, x.bytes, form, x.at, end.at, x.cut);
     behind_values(x, end, INT)
 }
 
-// A number that was read, as an IntLit. One that is too large is left.
-fn int_step(out: &mut [u8], s: &[u8], x: Stand, number: NumberLit) -> Option<Stand>
-    requires short { length s.now ≤ mostBytes }
-    requires good { Good s.now x }
-    requires digit { eqb x.class.number digitClass ≡ true }
-    requires number_is { number ≡ literalOf s.now x.at }
-    requires int { number.long ≡ false }
-    ensures on { IfSome result (λ y. Steps s.now x out.old y out.new) }
-    ensures further { IfSome result (λ y. x.at < y.at) }
-    ensures kept { IfNone result (out.new ≡ out.old) }
-{
-    if Value::INT_MOST < number.value {
-        return None;
-    }
-    put_if(
-        out,
-        x.bytes,
-        Form::int(number.value),
-        x.at,
-        number.end,
-        x.cut,
-    );
-    Some(behind_values(x, here_at(s, number.end), INT))
-}
-
-// The same as a LongLit.
-fn long_step(out: &mut [u8], s: &[u8], x: Stand, number: NumberLit) -> Option<Stand>
-    requires short { length s.now ≤ mostBytes }
-    requires good { Good s.now x }
-    requires digit { eqb x.class.number digitClass ≡ true }
-    requires number_is { number ≡ literalOf s.now x.at }
-    requires long { number.long ≡ true }
-    ensures on { IfSome result (λ y. Steps s.now x out.old y out.new) }
-    ensures further { IfSome result (λ y. x.at < y.at) }
-    ensures kept { IfNone result (out.new ≡ out.old) }
-{
-    if Value::LONG_MOST < number.value {
-        return None;
-    }
-    put_if(
-        out,
-        x.bytes,
-        Form::long(number.value),
-        x.at,
-        number.end,
-        x.cut,
-    );
-    Some(behind_values(x, here_at(s, number.end), LONG))
-}
-
-// A number.
+// A number; None, where it is refused.
 fn number_step(out: &mut [u8], s: &[u8], x: Stand) -> Option<Stand>
     requires short { length s.now ≤ mostBytes }
     requires good { Good s.now x }
@@ -411,11 +335,23 @@ fn number_step(out: &mut [u8], s: &[u8], x: Stand) -> Option<Stand>
     if !next.class.in_word() {
         return Some(digit_step(out, s, x, next));
     }
-    let number = literal_at(s, next.class, x.at);
-    if number.long {
-        return long_step(out, s, x, number);
+    let piece = lex_number(s, Cursor { at: x.at });
+    let Ok((kind, end)) = piece else {
+        return None;
+    };
+    match kind {
+        TokenKind::IntLit(v) => {
+            let form = Form::int(v as u64);
+            put_if(out, x.bytes, form, x.at, end.at, x.cut);
+            Some(behind_values(x, here_at(s, end.at), INT))
+        }
+        TokenKind::LongLit(v) => {
+            let form = Form::long(v);
+            put_if(out, x.bytes, form, x.at, end.at, x.cut);
+            Some(behind_values(x, here_at(s, end.at), LONG))
+        }
+        _ => None,
     }
-    int_step(out, s, x, number)
 }
 
 // A character or a symbol.
@@ -427,16 +363,18 @@ fn char_sym_step(out: &mut [u8], s: &[u8], x: Stand) -> Option<Stand>
     ensures further { IfSome result (λ y. x.at < y.at) }
     ensures kept { IfNone result (out.new ≡ out.old) }
 {
-    let end = char_sym_end(s, x.at)?;
-    put_if(
-        out,
-        x.bytes,
-        Form::plain(TokenKind::CHAR_SYM),
-        x.at,
-        end,
-        x.cut,
-    );
-    Some(behind(x, here_at(s, end)))
+    let piece = lex_char_sym(s, Cursor { at: x.at });
+    let Ok((kind, end)) = piece else {
+        return None;
+    };
+    match kind {
+        TokenKind::CharSym => {
+            let form = Form::plain(TokenKind::CHAR_SYM);
+            put_if(out, x.bytes, form, x.at, end.at, x.cut);
+            Some(behind(x, here_at(s, end.at)))
+        }
+        _ => None,
+    }
 }
 
 // The kind's number of the word from `at` to `end`, whose first byte has this class.
@@ -458,14 +396,8 @@ fn put_word_if(out: &mut [u8], s: &[u8], x: Stand, end: usize)
     ensures { out.new ≡ storedIf out.old x.bytes (byForm (plainForm (nameNumber s.now x.class.number x.at end)) x.at end x.cut) }
 {
     if x.bytes + HEAD <= out.len() {
-        put_if(
-            out,
-            x.bytes,
-            Form::plain(name_number(s, x.class, x.at, end)),
-            x.at,
-            end,
-            x.cut,
-        );
+        let form = Form::plain(name_number(s, x.class, x.at, end));
+        put_record(out, x.bytes, form, x.at, end, x.cut);
     }
 }
 
@@ -542,7 +474,14 @@ fn backtick_step(out: &mut [u8], s: &[u8], x: Stand) -> Result<Stand, Refused>
     if end.class == Class::QUOTE {
         return prefixed_step(out, s, x, end.at);
     }
-    put_if(out, x.bytes, Form::plain(TokenKind::BACKTICK_ID), x.at, end.at, x.cut);
+    put_if(
+        out,
+        x.bytes,
+        Form::plain(TokenKind::BACKTICK_ID),
+        x.at,
+        end.at,
+        x.cut,
+    );
     Ok(behind(x, end))
 }
 

@@ -13,6 +13,9 @@ use puts::{put_number, put_spaced};
 use std::alloc::AllocError;
 use std::io;
 
+// Room for all lines, which take less than 21,000 bytes.
+const ROOM_BYTES: usize = 32 * 1024;
+
 const EDGES: [u8; 4] = [0x7F, 0x80, 0xBF, 0xC0];
 
 // The bytes of the sequence of number k that begins with a, of which the first n count.
@@ -21,18 +24,17 @@ fn bytes_of(n: usize, a: u8, k: u32) -> [u8; 4]
     ensures value { result ≡ bytesOf n a k }
     ensures size { 4 ≡ length result }
 {
-    let low = (k % 256) as u8;
-    if n <= 2 {
-        return [a, low, 0, 0];
+    let low = (k & 0xFF) as u8;
+    match n {
+        0..=2 => [a, low, 0, 0],
+        3 => [a, (k >> 8 & 0xFF) as u8, low, 0],
+        _ => {
+            let second = (k >> 4 & 0xFF) as u8;
+            let third = (k >> 2 & 3) as usize;
+            let fourth = (k & 3) as usize;
+            [a, second, EDGES[third], EDGES[fourth]]
+        }
     }
-    if n == 3 {
-        let middle = (k / 256 % 256) as u8;
-        return [a, middle, low, 0];
-    }
-    let second = (k / 16 % 256) as u8;
-    let third = (k / 4 % 4) as usize;
-    let fourth = (k % 4) as usize;
-    [a, second, EDGES[third], EDGES[fourth]]
 }
 
 // Counts an answer.
@@ -111,7 +113,7 @@ fn put_rows(text: &mut Vec<u8>, n: usize, tails: u32) -> Result<(), AllocError>
 }
 
 fn main(rt: HostRuntime) -> io::Result<()> {
-    let mut text = Vec::new(rt.alloc());
+    let mut text = Vec::with_capacity(rt.alloc(), ROOM_BYTES)?;
     put_rows(&mut text, 1, 1)?;
     put_rows(&mut text, 2, 256)?;
     put_rows(&mut text, 3, 65536)?;

@@ -1,12 +1,12 @@
 -- Stores that follow one another are one store; what each writer of src/write.rt stores is one list.
-use Prim.Native.Nat.{ℕ, suc, ◌≤◌, ◌+◌, ◌/◌, ◌%◌}
+use Prim.Native.Nat.{ℕ, suc, ◌≤◌, ◌+◌, ◌-◌, ◌*◌, ◌/◌, ◌%◌}
 use mathlib.Core.Path.{◌≡◌, refl, sym, ◌∙◌, ap}
-use mathlib.Core.List.{List, [], ◌∷◌, ◌++◌, append-nil}
+use mathlib.Core.List.{List, [], ◌∷◌, ◌++◌, append-nil, append_assoc}
 use lib.ListN.{length, set, take, drop}
-use lib.Seq.{sets, sets-eq, length-take-le, drop-length}
+use lib.Seq.{sets, sets-eq, length-take-le, drop-drop, drop-length}
 use native.Mathlib.Nat.{add-zero, zero-add}
-use native.Mathlib.Numerals.{add-one, add-two, add-three}
 use native.Mathlib.Omega.{arith}
+use Rattle.std.specs.Int.{w64, to_le_bytes}
 use Rattle.words.specs.Words.{le4, le8, blockOf}
 
 pub sets-append : (l : List ℕ) (i : ℕ) (a b : List ℕ) → sets l i (a ++ b) ≡ sets (sets l i a) (i + length a) b
@@ -40,18 +40,47 @@ length-four x = refl
 
 -- ---- numbers
 
-pub put-four : (l : List ℕ) (w x : ℕ)
-    → set (set (set (set l w (x % 256)) (w + 1) (x / 256 % 256)) (w + 2) (x / 65536 % 256)) (w + 3) (x / 16777216 % 256) ≡ sets l w (le4 x)
+-- a multiple of 4294967296 is in none of the lower four bytes
+low-byte : (q r : ℕ) → (r + q * 4294967296) % 256 ≡ r % 256
+low-byte q r = omega arith
+
+second-byte : (q r : ℕ) → (r + q * 4294967296) / 256 % 256 ≡ r / 256 % 256
+second-byte q r = let e : (r + q * 4294967296) / 256 ≡ r / 256 + q * 16777216 = omega arith in rw e (omega arith)
+
+third-byte : (q r : ℕ) → (r + q * 4294967296) / 65536 % 256 ≡ r / 65536 % 256
+third-byte q r = let e : (r + q * 4294967296) / 65536 ≡ r / 65536 + q * 65536 = omega arith in rw e (omega arith)
+
+fourth-byte : (q r : ℕ) → (r + q * 4294967296) / 16777216 % 256 ≡ r / 16777216 % 256
+fourth-byte q r = let e : (r + q * 4294967296) / 16777216 ≡ r / 16777216 + q * 256 = omega arith in rw e (omega arith)
+
+lower-four : (q r : ℕ) → le4 (r + q * 4294967296) ≡ le4 r
 unfolding le4
-put-four l w x = rw (add-one, add-two, add-three)
+lower-four q r = rw (low-byte q r, second-byte q r, third-byte q r, fourth-byte q r)
+
+pub low-four : (v : ℕ) → le4 (v % 4294967296) ≡ le4 v
+low-four v =
+    let e : v % 4294967296 + v / 4294967296 * 4294967296 ≡ v = omega arith in
+    sym (ap le4 (sym e) ∙ lower-four (v / 4294967296) (v % 4294967296))
+
+-- the first four of the library's eight bytes are these
+pub four-bytes : (x : ℕ) → take 4 (to_le_bytes w64 x) ≡ le4 x
+unfolding le4
+four-bytes x = refl
+
+-- bytes copied over a part are stored there
+pub copied-at : (l part v : List ℕ) (w k : ℕ) → part ≡ v → length v ≡ k → w + k ≤ length l → take w l ++ (part ++ drop (w + k - w) (drop w l)) ≡ sets l w v
+copied-at l part v w k p e h =
+    let n : w + (w + k - w) ≡ w + length v = omega arith in
+    rw p (ap (λ t. take w l ++ (v ++ t)) (drop-drop (w + k - w) w l ∙ ap (λ j. drop j l) n)
+    ∙ sym (append_assoc (take w l) v (drop (w + length v) l)) ∙ sym (sets-eq v l w (omega arith)))
 
 -- two numbers of four bytes
 pub put-fours : (l m n : List ℕ) (w x y : ℕ) → m ≡ sets l w (le4 x) → n ≡ sets m (w + 4) (le4 y) → n ≡ sets l w (le4 x ++ le4 y)
 put-fours l m n w x y p q = q ∙ after (le4 x) (le4 y) l m w (w + 4) p (ap (λ k. w + k) (sym (length-four x)))
 
-pub put-eight : (l m n : List ℕ) (w x : ℕ) → m ≡ sets l w (le4 (x % 4294967296)) → n ≡ sets m (w + 4) (le4 (x / 4294967296)) → n ≡ sets l w (le8 x)
+pub put-eight : (l m n : List ℕ) (w x : ℕ) → m ≡ sets l w (le4 x) → n ≡ sets m (w + 4) (le4 (x / 4294967296)) → n ≡ sets l w (le8 x)
 unfolding le8
-put-eight l m n w x = put-fours l m n w (x % 4294967296) (x / 4294967296)
+put-eight l m n w x p = put-fours l m n w (x % 4294967296) (x / 4294967296) (p ∙ ap (sets l w) (sym (low-four x)))
 
 -- ---- the answer block
 

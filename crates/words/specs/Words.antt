@@ -30,7 +30,7 @@ eightAt bytes at = fourAt bytes at + fourAt bytes (at + 4) * 4294967296
 
 -- ---- the answer block
 
--- The block then holds four 4-byte little-endian numbers: refusal, place, token count, record bytes; unused ones 0.
+-- RULES, "Answer": "The block then holds four numbers of 4 bytes, little-endian; unused ones are 0."
 unfoldable pub blockOf : ℕ → ℕ → ℕ → ℕ → List ℕ
 blockOf j a count bytes = le4 j ++ le4 a ++ le4 count ++ le4 bytes
 

@@ -3,34 +3,35 @@ ghost use Rattle.std.specs.Prelude.{◌≡◌, ◌+◌, ◌≤◌, length, take}
 ghost use Rattle.std.proofs.lemmas.List.Edits.{sets};
 ghost use Rattle.words.specs.Words.{le4, le8, blockOf};
 
+/// The lowest four bytes of a number.
 pub fn put4(out: &mut [u8], w: usize, x: usize)
     requires { w + 4 ≤ length out.old }
     ensures { out.new ≡ sets out.old w (le4 x) }
 {
-    out[w] = (x % 256) as u8;
-    out[w + 1] = (x / 256 % 256) as u8;
-    out[w + 2] = (x / 65536 % 256) as u8;
-    out[w + 3] = (x / 16777216 % 256) as u8;
+    let bytes = x.to_le_bytes();
+    out[w..w + 4].copy_from_slice(&bytes[..4]);
 }
 
+/// All eight bytes, by halves: where these come as two numbers, one store of eight is slower.
 pub fn put8(out: &mut [u8], w: usize, x: u64)
     requires { w + 8 ≤ length out.old }
     ensures { out.new ≡ sets out.old w (le8 x) }
 {
-    put4(out, w, (x % 4294967296) as usize);
-    put4(out, w + 4, (x / 4294967296) as usize);
+    put4(out, w, x as usize);
+    put4(out, w + 4, (x >> 32) as usize);
 }
 
-// The first n bytes of a buffer into another.
+/// The first n bytes of a buffer into another.
 #[tactic(auto, using(crate::proofs::Stores::copied))]
 pub fn copy(out: &mut [u8], src: &[u8], n: usize)
-    requires { (n ≤ length out.old) × (n ≤ length src.now) }
+    requires room { n ≤ length out.old }
+    requires there { n ≤ length src.now }
     ensures { out.new ≡ sets out.old 0 (take n src.now) }
 {
     out[..n].copy_from_slice(&src[..n]);
 }
 
-// Four numbers of four bytes, from w on.
+/// Four numbers of four bytes, from w on.
 pub fn put_numbers(
     out: &mut [u8],
     w: usize,
@@ -48,7 +49,7 @@ pub fn put_numbers(
     put4(out, w + 12, fourth);
 }
 
-// The answer block, whole: refusal, place, token count, record bytes.
+/// The answer block, whole: refusal, place, token count, record bytes.
 pub fn put_block(out: &mut [u8], number: usize, place: usize, count: usize, bytes: usize)
     requires { length out.old ≡ 16 }
     ensures { out.new ≡ blockOf number place count bytes }

@@ -1,5 +1,5 @@
 // Lines and columns: by the library's own two functions and by the wrapper. What to expect is counted here from the script's first byte, from
-// document 02.
+// REQUESTS (docs/REQUESTS.md), "Lines and columns".
 use ergo_token::{position, tokenize, view, Lines, Position, Refusal, SCRIPT_LIMIT};
 
 // The wrapper links the library that has these two.
@@ -228,7 +228,7 @@ fn random_scripts() {
     assert!(refused > 40, "{refused}");
 }
 
-// Document 02's sentences, and the examples of the pages.
+// The sentences of REQUESTS, and the examples of the pages.
 #[test]
 fn examples() {
     let positions = |script: &[u8]| {

@@ -1,5 +1,5 @@
 // Stored rolls, read back without the script: by the wrapper and, step by step, by the library's own function for one record. What to expect of
-// damaged rolls is written down here a second time, from document 02.
+// damaged rolls is written down here a second time, from REQUESTS (docs/REQUESTS.md), "Stored rolls".
 use ergo_token::{tokenize, Kw, Record, Refusal, Roll, TokenKind};
 use ergo_token::{INT_LIT_LENGTH, LONG_LIT_LENGTH, NEWLINE_LENGTH, RECORD_HEAD, STR_LENGTH};
 use std::iter::FusedIterator;
@@ -45,7 +45,7 @@ fn number(bytes: &[u8]) -> u64 {
     bytes.iter().rev().fold(0, |value, &byte| value << 8 | byte as u64)
 }
 
-// What document 02 says of a roll: the number of its tokens, or number and place of its refusal.
+// What REQUESTS says of a roll: the number of its tokens, or number and place of its refusal.
 fn judged(roll: &[u8]) -> Result<usize, (u32, u32)> {
     let (mut at, mut previous, mut count) = (0, 0, 0);
     loop {
@@ -85,7 +85,7 @@ fn judged(roll: &[u8]) -> Result<usize, (u32, u32)> {
     }
 }
 
-// The bytes of a token's record, as document 01 has them.
+// The bytes of a token's record, as RULES, "Record", has them.
 fn written(record: Record) -> Vec<u8> {
     let values = match record.kind {
         TokenKind::IntLit(value) => value.to_le_bytes().to_vec(),
@@ -145,7 +145,7 @@ fn block_of(record: Record, at: u32) -> [u32; 10] {
     [0, 0, record.kind.number() as u32, record.start, record.end, record.cut as u32, 0, at + length as u32, first, second]
 }
 
-// Whatever the bytes: wrapper, steps and document 02 agree, and the tokens of a roll that is read are written as the same bytes.
+// Whatever the bytes: wrapper, steps and REQUESTS agree, and the tokens of a roll that is read are written as the same bytes.
 fn agrees(roll: &[u8]) -> Result<usize, (u32, u32)> {
     let wanted = judged(roll);
     let (blocks, refused) = steps(roll);
@@ -396,7 +396,7 @@ fn the_rules_one_by_one() {
         record(6, 3, 9, 0, &content(9, 9)),
         record(45, 3, 3, 0, &[]),
         record(17, 9, 9, 0, &[1]),
-        // What document 02 does not list is not judged: the cut of a line end, texts that no such token has.
+        // What REQUESTS does not list is not judged: the cut of a line end, texts that no such token has.
         record(17, 3, 9, 1, &[0]),
         record(8, 4, 9, 0, &[]),
     ];

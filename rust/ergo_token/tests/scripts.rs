@@ -1,4 +1,4 @@
-// The wrapper on document 01's examples: the header's and the C example's script, the listing, the twelve marked scripts, and each refusal's.
+// The wrapper on the examples of RULES (docs/RULES.md): the header's and the C example's script, the listing, the twelve marked scripts, and each refusal's.
 use ergo_token::{measure, record_bound, token_text, tokenize, view, write, Kw, Refusal, Size, Token, TokenKind};
 use ergo_token::{INT_LIT_LENGTH, LONG_LIT_LENGTH, NEWLINE_LENGTH, RECORD_HEAD, STR_LENGTH};
 
@@ -69,7 +69,7 @@ fn lengths_of_records() {
 }
 
 #[test]
-fn listing_of_document_01() {
+fn listing_of_the_rules() {
     let lines = ["1 0 1 0", "43 2 3 0", "4 4 5 0 7", "17 10 11 0 1", "6 11 14 0 12 13", "18 14 14 0"];
     assert_eq!(listing("x = 7 // n\n\"a\""), lines);
 }

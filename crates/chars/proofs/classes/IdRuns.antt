@@ -13,7 +13,6 @@ use Rattle.chars.specs.code.Text.{charEnd}
 use Rattle.chars.specs.computed.Runs.{afterRun}
 use Rattle.chars.specs.code.Classes.{asciiIdChar, isAsciiId}
 use Rattle.chars.specs.promises.Texts.{Suffix, AsciiClass}
-use Rattle.chars.specs.promises.Classes.{Russian}
 use Rattle.chars.proofs.Bools.{clash, and-both}
 use Rattle.chars.proofs.text.Texts.{suffix-refl, suffix-cons, text-suffix, text-place}
 use Rattle.chars.proofs.text.Places.{head-byte, at-end, next-on, ascii-code, ascii-next, head-at, run-next, run-stop, run-end, runs-on, runs-out}
@@ -95,8 +94,7 @@ pub ascii-id-id : (t : Text) → asciiIdChar t ≡ true → idChar t ≡ true
 ascii-id-id [] e = clash e
 ascii-id-id (c ∷ t) e = (and-both (ltb c.code 0x80) (isIdChar c.code) e).1
 
--- A run of id characters goes on past the byte at i, by the test b of the byte, or past a Russian letter, or stops there; f: what the loop found at
--- its start.
+-- A run of id characters goes on past the byte at i, by the test b of the byte, or stops there; f: what the loop found at its start.
 module _ (s : List ℕ) (i : ℕ) (f : Text) where
   pub id-on : {b : Bool} → i < length s → b ≡ isAsciiId (get_or s i 0) → b ≡ true
       → afterRun idChar (from s i) ≡ f → afterRun idChar (from s (i + 1)) ≡ f
@@ -111,11 +109,6 @@ module _ (s : List ℕ) (i : ℕ) (f : Text) where
       let z = sym q ∙ t in
       let e : isIdChar (get_or s i 0) ≡ false = rw (lt-ltb (get_or s i 0) 0x80 l) at z in
       runs-out isIdChar s i f h (ap isIdChar (ascii-code s i h l) ∙ e) v
-
-  pub russian-on : Russian s i → afterRun idChar (from s i) ≡ f → afterRun idChar (from s (i + 2)) ≡ f
-  russian-on r v =
-      let w = r.within in
-      ap (λ j. afterRun idChar (from s j)) (sym r.next) ∙ runs-on isIdChar s i f (omega arith) r.goes-on v
 
 -- a run of ASCII id characters that ends at the place r
 module _ (s : List ℕ) (i r : ℕ) (h : i ≤ length s) (e : r ≡ place (length s) (afterRun asciiIdChar (from s i))) where

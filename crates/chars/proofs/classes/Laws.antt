@@ -9,10 +9,11 @@ use lib.Dec.{eqb, ltb}
 use Rattle.chars.specs.paper.Quoted.{between, codes, oneOf}
 use Rattle.chars.specs.paper.Tables.{alphabeticTable, lowercaseTable, uppercaseTable, ndTable, alphaNotLetterTable}
 use Rattle.chars.specs.paper.Classes.{isIdStart, isIdChar, opSigns, isOpSign, isPrintable, alphabetic, lowercase, uppercase, nd, alphaNotLetter}
-use Rattle.chars.proofs.classes.Ranges.{between-in, between-out, in-between, clear-out, covered-in, only-first}
+use Rattle.chars.proofs.classes.Ranges.{between-in, between-out, clear-out, covered-in, only-first}
 use Rattle.chars.specs.promises.Codes.{every}
 use Rattle.chars.specs.promises.Classes.{lowStart, lowId}
 use Rattle.chars.proofs.Carry.{carry, each-same}
+use Rattle.chars.proofs.classes.Masks.{start-masks, id-masks}
 use Rattle.std.specs.Char.{is_ascii_alphanumeric}
 
 -- ---- operator signs
@@ -198,31 +199,24 @@ mark-range : (c : ℕ) → 0x0410 ≤ c → c ≤ 0x044F → alphaNotLetter c �
 unfolding alphaNotLetter
 mark-range c l h = clear-out 0x0410 0x044F c l h alphaNotLetterTable refl
 
-pub russian-start : (c : ℕ) → between 0x0410 0x044F c ≡ true → isIdStart c ≡ true
-russian-start c e = go (ltb c 0x0430) refl
-  where
-    r : (0x0410 ≤ c) × (c ≤ 0x044F)
-    r = in-between 0x0410 0x044F c e
+module _ (c : ℕ) (from : 0x0410 ≤ c) (to : c ≤ 0x044F) where
+  pub russian-start : isIdStart c ≡ true
+  russian-start = go (ltb c 0x0430) refl
+    where
+      either : lowercase c || uppercase c ≡ true → isIdStart c ≡ true
+      either h = wide-start c (omega arith) (omega arith) (λ m. absurd (omega arith)) ∙ h
 
-    either : lowercase c || uppercase c ≡ true → isIdStart c ≡ true
-    either h = let k = r in wide-start c (omega arith) (omega arith) (λ m. absurd (omega arith)) ∙ h
+      go : (b : Bool) → ltb c 0x0430 ≡ b → isIdStart c ≡ true
+      go true q = let l = ltb-true c 0x0430 q in either (ap (λ z. lowercase c || z) (capital-range c from (omega arith)) ∙ or-true (lowercase c))
+      go false q = either (ap (λ z. z || uppercase c) (small-range c (ltb-false c 0x0430 q) to))
 
-    go : (b : Bool) → ltb c 0x0430 ≡ b → isIdStart c ≡ true
-    go true q =
-        let k = r in
-        let l = ltb-true c 0x0430 q in
-        either (ap (λ z. lowercase c || z) (capital-range c k.0 (omega arith)) ∙ or-true (lowercase c))
-    go false q = either (ap (λ z. z || uppercase c) (small-range c (ltb-false c 0x0430 q) r.1))
-
-pub russian-id : (c : ℕ) → between 0x0410 0x044F c ≡ true → isIdChar c ≡ true
-russian-id c e =
-    let r = in-between 0x0410 0x044F c e in
-    wide-id c (omega arith) (omega arith) ∙ rw (letter-range c r.0 r.1, mark-range c r.0 r.1)
+  pub russian-id : isIdChar c ≡ true
+  russian-id = wide-id c (omega arith) (omega arith) ∙ rw (letter-range c from to, mark-range c from to)
 
 -- ---- what `src/classes.rt` names for the prover
 
 pub ruleset ascii_bytes = (byte-start, byte-id)
 
-pub ruleset start_laws = (above-no-start, circled-no-start, wide-start, russian-start)
+pub ruleset start_laws = (start-masks, above-no-start)
 
-pub ruleset id_laws = (above-no-id, wide-id)
+pub ruleset id_laws = (id-masks, above-no-id)

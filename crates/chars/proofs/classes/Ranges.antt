@@ -1,17 +1,15 @@
 -- The laws of a table of ranges in ascending order: what the order test says, and what a binary search finds.
-use Prim.Native.Nat.{ℕ, zero, suc, ◌-◌, ◌≤◌, ◌<◌, zero-le, suc-le-suc}
-use mathlib.Core.Path.{◌≡◌, refl, sym, ap, ◌∙◌}
-use mathlib.Core.Bool.{Bool, true, false, ◌&&◌, ◌||◌, and-eq-true_iff, or-true, or-false}
+use Prim.Native.Nat.{ℕ, zero, suc, ◌≤◌, ◌<◌}
+use mathlib.Core.Path.{◌≡◌, refl, ap}
+use mathlib.Core.Bool.{Bool, true, false, ◌&&◌, ◌||◌, and-eq-true_iff, or-true}
 use mathlib.Core.List.{List, [], ◌∷◌}
 use native.Mathlib.Nat.{not-suc-le-zero, le_of_suc-le-suc}
 use native.Mathlib.Omega.{arith}
 use borrow.Author.Tests.{ltb-true, leb-true, leb-false, le-leb, lt-leb}
 use lib.Dec.{leb, ltb}
-use lib.ListN.{length, take, drop, get_or}
-use Rattle.std.specs.List.Sorted.{IsPartitionPoint, IsPartitionedBy}
+use lib.ListN.{length, take, drop}
 use Rattle.chars.specs.paper.Quoted.{between}
 use Rattle.chars.specs.paper.Ranges.{Range, ◌to◌, low, high, rangeAt, inRanges, Ascending}
-use Rattle.chars.specs.code.Tables.{pairs}
 use Rattle.chars.specs.computed.Ascending.{ascendingFrom}
 use Rattle.chars.proofs.Bools.{clash}
 
@@ -113,91 +111,3 @@ disjoint-from f (◌to◌ a b ∷ t) e (suc k) h = disjoint-from (suc b) t (firs
 -- a table that passes the test keeps document 01's rule
 pub ascending : (t : List Range) → ascendingFrom 0 t ≡ true → Ascending t
 ascending t e = record { ordered = ordered-from 0 t e; disjoint = disjoint-from 0 t e }
-
--- ---- what a search finds
-
--- a code below the first range is in none
-outside : (f : ℕ) (t : List Range) (c : ℕ) → ascendingFrom f t ≡ true → (0 < length t → c < low (rangeAt t 0)) → inRanges t c ≡ false
-outside f [] c e h = refl
-outside f (◌to◌ a b ∷ t) c e h =
-    let q = first-range f a b t e in
-    let z : c < a = h (suc-le-suc zero-le) in
-    let y : between a b c ≡ false = between-out a b c (λ l. omega arith) in
-    rw y (outside (suc b) t c q.rest (λ n. let i = low-from (suc b) t q.rest 0 n in omega arith))
-
--- a code from one range's low on and below the next one's is in the table where it is at most that range's high
-found : (f : ℕ) (t : List Range) (c k : ℕ) → ascendingFrom f t ≡ true → k < length t → low (rangeAt t k) ≤ c → (suc k < length t → c < low (rangeAt t (suc k))) → inRanges t c ≡ leb c (high (rangeAt t k))
-found f [] c k e h l n = absurd (not-suc-le-zero h)
-found f (◌to◌ a b ∷ t) c zero e h l n =
-    let q = first-range f a b t e in
-    rw (le-leb a c l, outside (suc b) t c q.rest (λ m. n (suc-le-suc m))) (or-false (leb c b))
-found f (◌to◌ a b ∷ t) c (suc k) e h l n =
-    let q = first-range f a b t e in
-    let i = low-from (suc b) t q.rest k (le_of_suc-le-suc h) in
-    let y : between a b c ≡ false = between-out a b c (λ m. omega arith) in
-    rw y (found (suc b) t c k q.rest (le_of_suc-le-suc h) l (λ m. n (suc-le-suc m)))
-
--- ---- the same over pairs, by the place where the ranges that begin at c or before end
-
-pub pairs-length : (l : List (ℕ × ℕ)) → length (pairs l) ≡ length l
-pairs-length [] = refl
-pairs-length (r ∷ l) = ap suc (pairs-length l)
-
-pairs-low : (l : List (ℕ × ℕ)) (d : ℕ × ℕ) (k : ℕ) → k < length l → low (rangeAt (pairs l) k) ≡ (get_or l k d).0
-pairs-low [] d k h = absurd (not-suc-le-zero h)
-pairs-low (r ∷ l) d zero h = refl
-pairs-low (r ∷ l) d (suc k) h = pairs-low l d k (le_of_suc-le-suc h)
-
-pairs-high : (l : List (ℕ × ℕ)) (d : ℕ × ℕ) (k : ℕ) → k < length l → high (rangeAt (pairs l) k) ≡ (get_or l k d).1
-pairs-high [] d k h = absurd (not-suc-le-zero h)
-pairs-high (r ∷ l) d zero h = refl
-pairs-high (r ∷ l) d (suc k) h = pairs-high l d k (le_of_suc-le-suc h)
-
--- the ranges begin further and further on
-lows-rise : (f : ℕ) (t : List Range) → ascendingFrom f t ≡ true → (i j : ℕ) → i ≤ j → j < length t → low (rangeAt t i) ≤ low (rangeAt t j)
-lows-rise f [] e i j h l = absurd (not-suc-le-zero l)
-lows-rise f (◌to◌ a b ∷ t) e zero zero h l = omega arith
-lows-rise f (◌to◌ a b ∷ t) e zero (suc j) h l =
-    let q = first-range f a b t e in
-    let s = q.ends in
-    let x = low-from (suc b) t q.rest j (le_of_suc-le-suc l) in
-    omega arith
-lows-rise f (◌to◌ a b ∷ t) e (suc i) zero h l = absurd (omega arith)
-lows-rise f (◌to◌ a b ∷ t) e (suc i) (suc j) h l = lows-rise (suc b) t (first-range f a b t e).rest i j (le_of_suc-le-suc h) (le_of_suc-le-suc l)
-
-module _ (l : List (ℕ × ℕ)) (c : ℕ) (e : ascendingFrom 0 (pairs l) ≡ true) where
-  -- those that begin at c or before come first
-  pub parted : IsPartitionedBy (λ (r : ℕ × ℕ). leb r.0 c) l
-  parted i j d h k m =
-      let n = pairs-length l in
-      let r = lows-rise 0 (pairs l) e i j h (omega arith) in
-      let a = pairs-low l d i (omega arith) in
-      let b = pairs-low l d j k in
-      let u = leb-true (get_or l j d).0 c m in
-      le-leb (get_or l i d).0 c (omega arith)
-
-  -- where i of them do, the last of these decides
-  pub at-last : (i : ℕ) → i ≤ length l → 0 < i → IsPartitionPoint (λ (r : ℕ × ℕ). leb r.0 c ≡ true) (λ (r : ℕ × ℕ). leb r.0 c ≡ false) l i
-      → leb c (get_or l (i - 1) (0, 0)).1 ≡ inRanges (pairs l) c
-  at-last i h p q =
-      let n = pairs-length l in
-      let k = i - 1 in
-      let w : k < length (pairs l) = omega arith in
-      let v : k < length l = omega arith in
-      let a = pairs-low l (0, 0) k v in
-      let b = leb-true (get_or l k (0, 0)).0 c (q.0 k (0, 0) (omega arith) (omega arith)) in
-      let y : low (rangeAt (pairs l) k) ≤ c = omega arith in
-      ap (leb c) (sym (pairs-high l (0, 0) k v))
-      ∙ sym (found 0 (pairs l) c k e w y
-      (λ m. let o : suc k < length l = omega arith in
-      let r = pairs-low l (0, 0) (suc k) o in
-      let z = leb-false (get_or l (suc k) (0, 0)).0 c (q.1 (suc k) (0, 0) (omega arith) o) in omega arith))
-
-  -- where none does, c is in no range
-  pub before-all : IsPartitionPoint (λ (r : ℕ × ℕ). leb r.0 c ≡ true) (λ (r : ℕ × ℕ). leb r.0 c ≡ false) l 0 → inRanges (pairs l) c ≡ false
-  before-all q =
-      let n = pairs-length l in
-      outside 0 (pairs l) c e
-      (λ m. let o : 0 < length l = omega arith in
-      let r = pairs-low l (0, 0) 0 o in
-      let z = leb-false (get_or l 0 (0, 0)).0 c (q.1 0 (0, 0) (omega arith) o) in omega arith)

@@ -16,7 +16,6 @@ use Rattle.chars.specs.promises.Codes.{CodeLaws}
 use Rattle.chars.specs.promises.Utf8.{Decoding, ValidLaws}
 use Rattle.chars.specs.promises.Texts.{TextLaws}
 use Rattle.chars.specs.promises.Classes.{tables, ClassLaws}
-use Rattle.chars.specs.promises.Runs.{RunLaws}
 use Rattle.std.specs.Prelude.{None}
 use Rattle.chars.proofs.utf8.Rows.{here, inside, row-00, none-low, none-high}
 use Rattle.chars.proofs.utf8.Codes.{code-one}
@@ -27,9 +26,9 @@ use Rattle.chars.proofs.text.Places as places
 use Rattle.chars.proofs.text.Texts as texts
 use Rattle.chars.proofs.Carry as carries
 use Rattle.chars.proofs.classes.Laws as classes
-use Rattle.chars.proofs.classes.Cyrillic as letters
+use Rattle.chars.proofs.classes.Masks as masks
+use Rattle.chars.proofs.classes.Arrow as arrows
 use Rattle.chars.proofs.classes.IdRuns as runs
-use Rattle.chars.proofs.runs.Eights as eights
 use Rattle.chars.proofs.classes.Ranges as ranges
 
 abbrev allAscend : List (List Range) → Bool
@@ -139,7 +138,7 @@ text-laws = record {
   run-done = runs.run-done;
 }
 
--- the order of the tables: one computed test over the five
+-- the order of the tables: one computed test over the five; those of the source: by comparing
 pub class-laws : ClassLaws
 unfolding tables
 class-laws = record {
@@ -156,14 +155,15 @@ class-laws = record {
   above-no-start = classes.above-no-start;
   above-no-id = classes.above-no-id;
   above-no-print = classes.above-no-print;
-  russian = letters.russian;
+  russian-start = classes.russian-start;
+  russian-id = classes.russian-id;
+  tables-are = refl;
+  id-masks = masks.id-masks;
+  start-masks = masks.start-masks;
+  arrow-here = arrows.arrow-here;
+  arrow-sign = arrows.arrow-sign;
   ascii-id = runs.ascii-id;
   ascii-whole = runs.ascii-whole;
-}
-
-pub run-laws : RunLaws
-run-laws = record {
-  eight-all = eights.eight-all;
 }
 
 -- for contracts of which one is a clause

@@ -79,11 +79,6 @@ fits-last a b (◌to◌ p q) y s i =
     rw (fits-next a b (p to q ∷ y ∷ []) s i, fits-next p q (y ∷ []) s (i + 1), fits-next a b (p to q ∷ []) s i, e)
     (sym (and_assoc (fits (a to b ∷ []) (drop i s)) (fits (p to q ∷ []) (drop (i + 1) s)) (fits (y ∷ []) (drop (i + 2) s))))
 
--- what a width says of the test that gave it
-pub some-given : (b : Bool) (k : ℕ) → (cond b (k + 1) 0 ≡ 0 → ⊥) → b ≡ true
-some-given true k e = refl
-some-given false k e = absurd (e refl)
-
 -- where a character stands there is a byte
 pub inside : (s : List ℕ) (i : ℕ) → (width (drop i s) ≡ 0 → ⊥) → i < length s
 unfolding width

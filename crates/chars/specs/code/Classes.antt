@@ -1,6 +1,6 @@
 -- What the shortcuts of `classes` test: sets of ASCII characters as masks, runs of id characters.
-use Rattle.std.specs.Prelude.{ℕ, ◌-◌, ◌/◌, ◌%◌, ◌^◌, Bool, cond, ◌&&◌, ◌||◌, List, [], ◌∷◌, drop, eqb, ltb}
-use Rattle.chars.specs.paper.Ranges.{◌to◌}
+use Rattle.std.specs.Prelude.{ℕ, ◌-◌, ◌/◌, ◌%◌, ◌^◌, Bool, cond, ◌&&◌, List, [], ◌∷◌, drop, eqb, ltb}
+use Rattle.chars.specs.paper.Ranges.{Range, ◌to◌}
 use Rattle.chars.specs.paper.Utf8.{fits}
 use Rattle.chars.specs.paper.Classes.{isIdChar}
 use Rattle.chars.specs.paper.Text.{Text, headIs}
@@ -16,6 +16,9 @@ isAsciiId c = ltb c 0x80 && isIdChar c
 abbrev pub asciiIdChar : Text → Bool
 asciiIdChar t = headIs isAsciiId t
 
--- does a Russian letter, U+0410 to U+044F, stand at the place i?
-unfoldable pub cyrillicAt : List ℕ → ℕ → Bool
-cyrillicAt s i = fits (0xD0 to 0xD0 ∷ 0x90 to 0xBF ∷ []) (drop i s) || fits (0xD1 to 0xD1 ∷ 0x80 to 0x8F ∷ []) (drop i s)
+-- do the three bytes of `⇒` stand at the place i?
+abbrev pub arrow : List Range
+arrow = 0xE2 to 0xE2 ∷ 0x87 to 0x87 ∷ 0x92 to 0x92 ∷ []
+
+unfoldable pub arrowAt : List ℕ → ℕ → Bool
+arrowAt s i = fits arrow (drop i s)

@@ -1,14 +1,18 @@
 -- Character classes: the order of the tables, what excludes what, ASCII by its byte, runs of id characters.
-use Rattle.std.specs.Prelude.{ℕ, ◌+◌, ◌≤◌, ◌<◌, ◌≡◌, Bool, true, false, ◌&&◌, ◌||◌, length, drop, get_or, ltb}
+use Rattle.std.specs.Prelude.{ℕ, ◌+◌, ◌≤◌, ◌<◌, ◌≡◌, Bool, true, false, ◌&&◌, ◌||◌, length, get_or, ltb}
 use mathlib.Core.List.{List, [], ◌∷◌, Memᴰ}
 use Rattle.chars.specs.paper.Quoted.{between, oneOf}
 use Rattle.chars.specs.paper.Ranges.{Range, Ascending}
 use Rattle.chars.specs.paper.Tables.{alphabeticTable, lowercaseTable, uppercaseTable, ndTable, alphaNotLetterTable}
 use Rattle.chars.specs.paper.Classes.{isIdStart, isIdChar, opSigns, isOpSign, isPrintable}
-use Rattle.chars.specs.paper.Text.{from, place, headIs, idChar}
+use Rattle.chars.specs.paper.Text.{from, place, idChar}
 use Rattle.chars.specs.computed.Runs.{afterRun}
+use Rattle.chars.specs.code.Classes.{asciiIdChar, isAsciiId, arrowAt}
 use Rattle.chars.specs.code.Text.{codeAt, charEnd}
-use Rattle.chars.specs.code.Classes.{asciiIdChar, isAsciiId, cyrillicAt}
+use Rattle.chars.specs.code.Tables.{pairs}
+use Rattle.chars.specs.code.Masks.{inMasks}
+use Rattle.chars.specs.declared.tables.TheConstants.{ALPHABETIC, LOWERCASE, UPPERCASE, ND, ALPHA_NOT_LETTER}
+use Rattle.chars.specs.declared.masks.TheConstants.{BLOCKS, ID_CHARS, ID_STARTS}
 use Rattle.chars.specs.promises.Texts.{AsciiClass}
 
 -- the five tables of document 01
@@ -21,15 +25,6 @@ lowStart c = between 0x61 0x7A c || between 0x41 0x5A c || oneOf "$_" c
 
 abbrev pub lowId : ℕ → Bool
 lowId c = oneOf "$" c || (between 0x41 0x5A c || between 0x61 0x7A c || between 0x30 0x39 c)
-
--- a Russian letter, U+0410 to U+044F, stands at i: two bytes, which start an identifier and go on in one
-pub record Russian (s : List ℕ) (i : ℕ) : Type 0 where
-  pub letter : between 0x0410 0x044F (codeAt s i) ≡ true
-  pub within : i + 2 ≤ length s
-  pub next : charEnd s i ≡ i + 2
-  pub start : headIs isIdStart (from s i) ≡ true
-  pub goes-on : isIdChar (codeAt s i) ≡ true
-  pub after : from s (i + 2) ≡ drop 1 (from s i)
 
 pub record ClassLaws : Type 0 where
   -- each table keeps document 01's rule
@@ -49,8 +44,16 @@ pub record ClassLaws : Type 0 where
   pub above-no-start : (c : ℕ) → 0xFFFF < c → isIdStart c ≡ false
   pub above-no-id : (c : ℕ) → 0xFFFF < c → isIdChar c ≡ false
   pub above-no-print : (c : ℕ) → 0xFFFF < c → isPrintable c ≡ false
-  -- a Russian letter by its two bytes
-  pub russian : (s : List ℕ) (i : ℕ) → cyrillicAt s i ≡ true → Russian s i
+  -- the Russian letters U+0410 to U+044F do both
+  pub russian-start : (c : ℕ) → 0x0410 ≤ c → c ≤ 0x044F → isIdStart c ≡ true
+  pub russian-id : (c : ℕ) → 0x0410 ≤ c → c ≤ 0x044F → isIdChar c ≡ true
+  -- the source's range tables are these five; its masks, by blocks of 64 codes, say what these say, of every code up to U+FFFF
+  pub tables-are : pairs ALPHABETIC ∷ pairs LOWERCASE ∷ pairs UPPERCASE ∷ pairs ND ∷ pairs ALPHA_NOT_LETTER ∷ [] ≡ tables
+  pub id-masks : (c : ℕ) → c ≤ 0xFFFF → inMasks ID_CHARS BLOCKS c ≡ isIdChar c
+  pub start-masks : (c : ℕ) → c ≤ 0xFFFF → inMasks ID_STARTS BLOCKS c ≡ isIdStart c
+  -- `⇒` by its three bytes: where a byte past ASCII stands there is no other operator sign
+  pub arrow-here : (s : List ℕ) (i : ℕ) → arrowAt s i ≡ true → (i + 3 ≤ length s) × (codeAt s i ≡ 0x21D2) × (charEnd s i ≡ i + 3)
+  pub arrow-sign : (s : List ℕ) (i : ℕ) → 0x80 ≤ get_or s i 0 → get_or s i 0 < 0x100 → isOpSign (codeAt s i) ≡ arrowAt s i
   -- an id character of ASCII is seen by its byte
   pub ascii-id : AsciiClass isAsciiId
   -- where a run of ASCII id characters ends at r, and the byte there is ASCII, the run of all id characters ends at r too; past the script the byte

@@ -1,4 +1,4 @@
--- Document 01's examples hold: each is computed.
+-- The examples of RULES hold: each is computed.
 use mathlib.Core.Path.{refl}
 use Rattle.entry.specs.computed.Host.{verdict}
 use Rattle.entry.specs.paper.TokenText.{hasText, tokenText}

@@ -1,4 +1,4 @@
--- What the host sees is what the refusal table and its order declare: specs/Theorems.HostTheorems.
+-- What the host sees is what the refusals and their order declare: specs/Theorems.HostTheorems.
 use Prim.Native.Nat.{ℕ, ◌≤◌}
 use mathlib.Core.Path.{◌≡◌, refl, ◌∙◌, ap}
 use mathlib.Core.Bool.{Bool, true, false}
@@ -29,7 +29,7 @@ open valid-laws use {valid, longest-one, valid-all, all-valid}
 verdict-judge : (script block : List ℕ) (room : ℕ) → Clean script block → verdict script room ≡ byRoom room (answer script)
 verdict-judge script block room h = let e = valid-all script h.utf8 in verdict-rest script room h.sized.in-limit (omega arith)
 
--- the numbers of the table's first sixteen rows
+-- the numbers of the refusals of a piece
 escape-range : {b q : Text} {j : ℕ} → BadEscape b j q → (1 ≤ j) × (j ≤ 16)
 escape-range (BadEscape.e12 o) = (omega arith, omega arith)
 escape-range (BadEscape.e13 n l o z) = (omega arith, omega arith)

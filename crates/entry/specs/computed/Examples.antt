@@ -1,4 +1,4 @@
--- Document 01's examples: by the listing of a script, by what the host sees, and of token text. `HostTheorems` asks for them.
+-- The examples of RULES: by the listing of a script, by what the host sees, and of token text. `HostTheorems` asks for them.
 use Rattle.std.specs.Prelude.{ℕ, ◌≡◌, true, List, [], ◌∷◌, ◌++◌, map, length, replicate, ltb}
 use Rattle.words.specs.Words.{blockOf}
 use Rattle.chars.specs.paper.Quoted.{codes}
@@ -16,7 +16,7 @@ abbrev pub illFormed : List (List ℕ)
 illFormed = (0x61 ∷ 0xC0 ∷ 0x80 ∷ []) ∷ (0xED ∷ 0xA0 ∷ 0x80 ∷ []) ∷ (0x61 ∷ 0xF4 ∷ 0x90 ∷ 0x80 ∷ 0x80 ∷ []) ∷ (0x22 ∷ 0xE4 ∷ 0xB8 ∷ []) ∷ []
 
 pub record Examples : Type 0 where
-  -- the twelve marked scripts, the listing's example, the refusal table's 1 to 16, ties and traps: by the listing of a script
+  -- the twelve marked scripts, the listing's example, refusals 1 to 16, ties and traps: by the listing of a script
   pub scripts-hold : holdBy entered (marked ++ listingExample ++ refusalExamples ++ tieExamples ++ traps) ≡ true
   -- 17, for every script that is so long
   pub too-long : (s : List ℕ) (room : ℕ) → ltb mostBytes (length s) ≡ true → verdict s room ≡ rejected 17 0

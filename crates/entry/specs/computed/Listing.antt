@@ -1,4 +1,4 @@
--- Document 01, "Host entry and text": the listing of a script, kind, start, end, cut and values of each token, or `refused N at P`.
+-- RULES, "Listing": the listing of a script, kind, start, end, cut and values of each token, or `refused N at P`.
 use Rattle.std.specs.Prelude.{ℕ, List, [], length}
 use Rattle.words.specs.Words.{le2, le4, le8, blockOf}
 use Rattle.chars.specs.computed.Valid.{validFrom}

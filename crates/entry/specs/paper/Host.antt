@@ -1,4 +1,4 @@
--- Document 01, the refusal table's order 20, 17, 18, 1 to 16, 19; "Host entry and text".
+-- What the host sees: RULES, "Refusals of a call", "Order of refusals" and "Answer".
 use Rattle.std.specs.Prelude.{ℕ, ◌≤◌, ◌<◌, ◌≡◌, List, ◌++◌, length, drop}
 use Rattle.chars.specs.paper.Utf8.{WellFormed, LongestValid}
 use Rattle.token.specs.paper.Kinds.{Token}
@@ -17,7 +17,7 @@ numberSeen (seen j buffer block) = j
 abbrev pub bufferSeen : Seen → List ℕ
 bufferSeen (seen j buffer block) = buffer
 
--- The order: 20, 17, 18, the first of 1 to 16 from the left, 19. What is not met before each of them, step by step.
+-- RULES, "Order of refusals": "20, then 17, then 18, then the first of 1 to 16, then 19." What is not met before each of them, step by step.
 
 -- neither 20 nor 17
 pub record Sized (script block : List ℕ) : Type 0 where
@@ -34,19 +34,19 @@ pub record Read (script block : List ℕ) (ts : List Token) : Type 0 where
   pub clean : Clean script block
   pub tokensOf : TokensOf script ts
 
--- What the host sees, by the refusal table and its order. Every refusal leaves the records buffer unchanged.
+-- What the host sees, by the refusals and their order. "Every refusal leaves the records buffer as it was."
 pub data Sees (script buffer block : List ℕ) : Seen → Type 0 where
-  -- answer block isn't 16 bytes. After 20 the block is unchanged.
+  -- RULES, "Answer": "A block of another length is refused by 20 and keeps its bytes."
   twenty : (length block ≡ 16 → ⊥) → Sees script buffer block (seen 20 buffer block)
-  -- over 16,777,216 bytes, at 0
+  -- RULES, "Refusals of a call": "the script has more than 16,777,216 bytes"; at 0
   seventeen : length block ≡ 16 → mostBytes < length script → Sees script buffer block (seen 17 buffer (blockOf 17 0 0 0))
-  -- not UTF-8, at the length of the longest valid prefix
+  -- "the script is not well-formed UTF-8"; at "the length of the longest valid prefix"
   eighteen : {n : ℕ} → Sized script block → LongestValid script n → n < length script → Sees script buffer block (seen 18 buffer (blockOf 18 n 0 0))
   -- 1 to 16
   refused : {j a : ℕ} → Clean script block → Refused script j a → Sees script buffer block (seen j buffer (blockOf j a 0 0))
-  -- records need more than lent: carries the token count and bytes needed
+  -- "the records need more bytes than were lent"; RULES, "Order of refusals": "it tells the token count and the record bytes"
   nineteen : {ts : List Token} → Read script block ts → length buffer < recordBytes ts
       → Sees script buffer block (seen 19 buffer (blockOf 19 0 (tokenCount ts) (recordBytes ts)))
-  -- 0 if accepted. Bytes past the records keep their values.
+  -- RULES, "Answer": "On acceptance the records stand at the buffer's start, and bytes behind them keep their values."
   accepted : {ts : List Token} → Read script block ts → recordBytes ts ≤ length buffer
       → Sees script buffer block (seen 0 (records ts ++ drop (recordBytes ts) buffer) (blockOf 0 0 (tokenCount ts) (recordBytes ts)))

@@ -1,4 +1,4 @@
--- The numbers of the refusals.
+-- The numbers of the refusals: RULES, "Refusals of a piece" and "Refusals of a call".
 use Rattle.std.specs.Prelude.{ℕ}
 use Rattle.token.specs.code.Refusal as piece
 use Rattle.entry.specs.declared.refusal.Refusal.{Refusal}

@@ -1,4 +1,4 @@
--- What the host sees of building and of a query is what document 02 declares.
+-- What the host sees of building and of a query is what is declared.
 use Prim.Native.Nat.{ℕ, suc, ◌≤◌}
 use mathlib.Core.Path.{◌≡◌, refl, sym, ◌∙◌, ap}
 use mathlib.Core.Bool.{Bool, true, false}

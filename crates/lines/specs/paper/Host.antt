@@ -1,5 +1,5 @@
--- Document 02, request 2: the refusals of building and of a query, in their order, and what the host sees. The number handed back and the place come
--- first in the block; 20, a block of another length, goes before every other refusal and leaves the block unchanged, as in document 01.
+-- REQUESTS, "Building an index" and "Asking for a place": the refusals of building and of a query, in their order, and what the host sees. The number
+-- handed back and the place come first in the block; 20, a block of another length, goes before every other refusal and leaves the block as it was.
 use Rattle.std.specs.Prelude.{ℕ, ◌+◌, ◌≤◌, ◌<◌, ◌≡◌, List, ◌++◌, length, take, drop}
 use Rattle.words.specs.Words.{blockOf, Told, told}
 use Rattle.chars.specs.paper.Utf8.{WellFormed, LongestValid}
@@ -13,15 +13,16 @@ pub record Taken (script block : List ℕ) : Type 0 where
   pub in-limit : length script ≤ mostBytes
   pub utf8 : WellFormed script
 
--- ---- building: refusal, place, number of lines, 0. What is seen is the number handed back, the index, "a lent buffer of 32-bit numbers", and the block.
+-- ---- building: refusal, place, number of lines, 0. What is seen is the number handed back, the index, which is 32-bit numbers, and the block.
 
--- "Building can give 17, 18 and 26"; "a refusal leaves the buffer unchanged, and numbers past the index keep their values".
+-- REQUESTS, "Building an index": "Building can be refused, in this order, by 20, 17, 18 and 26. Otherwise the starts of all lines stand at the buffer's
+-- start, in order, and numbers behind them keep their values. A refusal leaves the whole buffer as it was."
 pub data Builds (script index block : List ℕ) : Seen → Type 0 where
   twenty : (length block ≡ 16 → ⊥) → Builds script index block (seen 20 index block)
   seventeen : length block ≡ 16 → mostBytes < length script → Builds script index block (seen 17 index (blockOf 17 0 0 0))
   eighteen : {n : ℕ} → length block ≡ 16 → length script ≤ mostBytes → LongestValid script n → n < length script
       → Builds script index block (seen 18 index (blockOf 18 n 0 0))
-  -- "26, an index buffer shorter than the number of lines", "at place 0". That number is told, so that the host can lend enough: ours.
+  -- "fewer numbers were lent than the script has lines"; that number is told, so that the host can lend enough
   twentySix : {l : List ℕ} → Taken script block → Starts script l → length index < length l
       → Builds script index block (seen 26 index (blockOf 26 0 (length l) 0))
   built : {l : List ℕ} → Taken script block → Starts script l → length l ≤ length index
@@ -29,8 +30,7 @@ pub data Builds (script index block : List ℕ) : Seen → Type 0 where
 
 -- ---- a query: refusal, place, line, column. What is told is the number handed back and the block.
 
--- "a query all four": "After 17 and 18 come 25, a place past the end or inside a character, and 26, an index buffer shorter than the number of lines,
--- both at place 0."
+-- REQUESTS, "Asking for a place": "It can be refused, in this order, by 20, 17, 18, 25 and 26; the place of 25 and 26 is 0."
 pub data Answers (script index : List ℕ) (a : ℕ) (block : List ℕ) : Told → Type 0 where
   twenty : (length block ≡ 16 → ⊥) → Answers script index a block (told 20 block)
   seventeen : length block ≡ 16 → mostBytes < length script → Answers script index a block (told 17 (blockOf 17 0 0 0))
@@ -39,9 +39,9 @@ pub data Answers (script index : List ℕ) (a : ℕ) (block : List ℕ) : Told �
   twentyFive : Taken script block → (GoodPlace script a → ⊥) → Answers script index a block (told 25 (blockOf 25 0 0 0))
   twentySix : {l : List ℕ} → Taken script block → GoodPlace script a → Starts script l → length index < length l
       → Answers script index a block (told 26 (blockOf 26 0 0 0))
-  -- "Over the index built from that script, the indexed answer equals counting from the script's first byte; over other numbers a query still ends,
-  -- with some line and column of at least 1." Ours: the line is one of the script's lines, and the column at most one more than the place. So both fit
-  -- their four bytes.
+  -- "Where the index begins with the script's own starts, whatever numbers stand behind them, they are those of counting from the first byte. Over other
+  -- numbers the query still ends, with a line from 1 to the number of lines and a column from 1 to one more than the place." So both fit their four
+  -- bytes.
   answered : {l : List ℕ} {line column : ℕ} → Taken script block → GoodPlace script a → Starts script l → length l ≤ length index
       → (take (length l) index ≡ l → Position script a line column) → 1 ≤ line → line ≤ length l → 1 ≤ column → column ≤ a + 1
       → Answers script index a block (told 0 (blockOf 0 0 line column))

@@ -1,12 +1,26 @@
 -- Records stand in the lent bytes where these are the records first, and untouched behind them.
-use Rattle.std.proofs.Common.{arith, rules}
+use Rattle.std.proofs.Common.{◌≡◌, true, false, length, sym, ap, ◌∙◌, arith, rules}
+use Rattle.std.proofs.lemmas.Bool.Decides.{nat_tests}
+use Rattle.std.proofs.lemmas.Grind.{common_steps}
 use Rattle.replay.proofs.Laws.{holds-off, holds-is}
 use Rattle.replay.proofs.holds_records.Goals as goal
+use Rattle.replay.proofs.holds_records.Goals.{then-bytes-lent, else-bytes-lent}
 
-pub returns-then-ne : goal.returns-then-ne
-returns-then-ne c = holds-off _ _ (search rules)
+pub returns-then-eq : goal.returns-then-eq
+returns-then-eq c =
+    let space = c.untouched_space.ensures in
+    elim c.if-bytes-lent.branch [
+      | then-bytes-lent w ↦
+          let yes : w.eq.result ≡ true = sym w.value-is ∙ c.if-eq.true in
+          holds-is c.args.lent.now c.args.records.now (search rules) space.value (omega arith) (search rules)
+      | else-bytes-lent w ↦ let within = sym w.value-is ∙ c.if-eq.true in grind (arith, nat_tests)
+    ]
 
-pub returns : goal.returns
-returns c =
-    let space = c.untouched_space-fresh.ensures in
-    holds-is c.args.lent.now c.args.records.now (search rules) space.value (omega arith) (search rules)
+pub returns-else-eq : goal.returns-else-eq
+returns-else-eq c =
+    rw c.if-eq.false
+    (holds-off c.args.lent.now c.args.records.now
+    (elim c.if-bytes-lent.branch [
+      | then-bytes-lent w ↦ let no : w.eq.result ≡ false = sym w.value-is ∙ c.if-eq.false in search rules
+      | else-bytes-lent w ↦ λ e. let n = ap length e in grind (arith, common_steps)
+    ]))

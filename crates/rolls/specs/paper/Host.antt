@@ -1,13 +1,13 @@
--- What a host is told of a roll and of one record: the number handed back, and the answer block afterwards. Document 02 names no block; document 01's form
--- goes on: the number handed back and the place come first, unused numbers are 0, and 20, a block of another length, goes before every other refusal and
--- leaves the block unchanged. Numbers have 4 bytes (`le4`), so that larger ones stand there modulo 2³².
+-- What a host is told of a roll and of one record: the number handed back, and the answer block afterwards. REQUESTS, "Block of another length": "For both
+-- functions 20 goes before everything else: a block of another length than 16, or 40, keeps its bytes." Numbers have 4 bytes (`le4`), so that larger ones
+-- stand there modulo 2³².
 use Rattle.std.specs.Prelude.{ℕ, ◌≡◌, List, ◌++◌, length, take, replicate}
 use Rattle.words.specs.Words.{le4, blockOf, Told, told}
 use Rattle.token.specs.paper.Kinds.{Token, kindNumber}
 use Rattle.token.specs.paper.Records.{bit, values}
 use Rattle.rolls.specs.paper.Roll.{Stepped, yielded, stopped, Steps, Outcome, tokens, refused, ReadsRoll}
 
--- ---- a roll: 16 bytes, refusal, place, token count, bytes of the roll
+-- ---- REQUESTS, "Answer of a roll": "the number handed back, the place of a refusal, the token count and the bytes of the roll."
 
 abbrev pub outcomeTold : ℕ → Outcome → Told
 outcomeTold bytes (tokens ts) = told 0 (blockOf 0 0 (length ts) bytes)
@@ -17,8 +17,8 @@ pub data TellsRoll (roll block : List ℕ) : Told → Type 0 where
   twenty : (length block ≡ 16 → ⊥) → TellsRoll roll block (told 20 block)
   answers : {x : Outcome} → length block ≡ 16 → ReadsRoll roll x → TellsRoll roll block (outcomeTold (length roll) x)
 
--- ---- one record: 40 bytes, refusal, place, kind, start, end, cut, depth (none yet, so 0), offset of the next record, then 8 bytes: the values as
--- the record has them, zeros behind them. On a refusal all behind the place is 0.
+-- ---- REQUESTS, "Answer of a record": refusal, place, kind, start, end, cut, depth (none yet, so 0), offset of the next record, then 8 bytes: "the values
+-- as the record has them, zeros behind them"; "On a refusal everything behind the place is 0."
 
 unfoldable pub tokenBlock : Token → ℕ → List ℕ
 tokenBlock t next =

@@ -1,4 +1,4 @@
--- The numbers of the refusals.
+-- The numbers of the refusals: REQUESTS, "Refusals of a record".
 use Rattle.std.specs.Prelude.{ℕ}
 use Rattle.rolls.specs.declared.refusal.Refusal.{Refusal}
 use Rattle.rolls.specs.declared.refusal.Refusal.TheVariants as refusal

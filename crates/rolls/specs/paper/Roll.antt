@@ -1,4 +1,4 @@
--- Document 02, request 1, "Records read back": what a record holds, the refusals 22 to 24, one record, and the whole roll.
+-- REQUESTS, "Stored rolls": what a record holds, the refusals 22 to 24, one record, and the whole roll.
 use Rattle.std.specs.Prelude.{ℕ, ◌+◌, ◌≤◌, ◌<◌, ◌≡◌, ◌⊎◌, List, [], ◌∷◌, length}
 use Rattle.words.specs.Words.{oneAt, twoAt, fourAt, eightAt}
 use Rattle.token.specs.paper.Kinds.{kindNumber, Token}
@@ -6,8 +6,8 @@ use Rattle.token.specs.paper.Records.{bit, Value, one, four, eight, valuesOf, he
 use Rattle.token.specs.declared.kinds.TokenKind.{TokenKind}
 use Rattle.token.specs.declared.kinds.TokenKind.TheVariants as tk
 
--- ---- what stands at a record's offset. Document 01, "Records": length (2 bytes, whole record), kind (2), start (4), end (4), cut (1), then the
--- values
+-- ---- REQUESTS, "Record in a roll": "The record at an offset has the fields of a record there: length at 0, kind at 2, start at 4, end at 8, cut at 12,
+-- values from 13 on."
 
 abbrev pub lengthAt : List ℕ → ℕ → ℕ
 lengthAt roll at = twoAt roll at
@@ -38,7 +38,7 @@ ValuesFrom roll i (one v ∷ vs) = (v ≡ oneAt roll i) × ValuesFrom roll (i + 
 ValuesFrom roll i (four v ∷ vs) = (v ≡ fourAt roll i) × ValuesFrom roll (i + 4) vs
 ValuesFrom roll i (eight v ∷ vs) = (v ≡ eightAt roll i) × ValuesFrom roll (i + 8) vs
 
--- the token that the record holds, with its values
+-- "Its token is the one of that kind, with that start, end and cut, and with those values."
 pub record TokenAt (roll : List ℕ) (at : ℕ) (t : Token) : Type 0 where
   pub kind-is : kindNumber t.kind ≡ kindAt roll at
   pub start-is : t.start ≡ startAt roll at
@@ -46,9 +46,9 @@ pub record TokenAt (roll : List ℕ) (at : ℕ) (t : Token) : Type 0 where
   pub cut-is : bit t.cut ≡ cutAt roll at
   pub values-are : ValuesFrom roll (at + headLength) (valuesOf t.kind)
 
--- ---- the refusals, checked in this order at each record
+-- ---- REQUESTS, "Refusals of a record": "At each record these are checked in this order; the place is the record's offset."
 
--- 22 bytes are left, but fewer than four or than the record's length
+-- 22: "bytes are left, but fewer than four, or fewer than the record's length says"
 pub record TooFew (roll : List ℕ) (at : ℕ) : Type 0 where
   pub left : at < length roll
   pub fewer : (length roll < at + 4) ⊎ (length roll < at + lengthAt roll at)
@@ -57,22 +57,22 @@ pub record TooFew (roll : List ℕ) (at : ℕ) : Type 0 where
 pub data KindLength : ℕ → ℕ → Type 0 where
   of-kind : (k : TokenKind) → KindLength (kindNumber k) (recordLength k)
 
--- 23 unknown kind or a length that isn't the kind's
+-- 23: "no kind has this number, or its records have another length"
 abbrev pub NoKind : List ℕ → ℕ → Type 0
 NoKind roll at = KindLength (kindAt roll at) (lengthAt roll at) → ⊥
 
--- 24, after a token that ends at `previous` in the script. A number is negative where its last byte is 128 or more.
+-- 24: "a field is out of its range", after a token that ends at `previous` in the script
 pub data Wrong (roll : List ℕ) (at previous : ℕ) : Type 0 where
-  -- a cut or after-comment byte above 1 (17 Newline)
+  -- "the cut is above 1, or the after-comment of a Newline is;" (17)
   cut-byte : 1 < cutAt roll at → Wrong roll at previous
   after-comment : kindAt roll at ≡ 17 → 1 < oneAt roll (at + headLength) → Wrong roll at previous
-  -- a negative IntLit or LongLit value (4 and 5)
+  -- "the value of an IntLit or a LongLit is negative: its last byte is 128 or more;" (4 and 5)
   negative-int : kindAt roll at ≡ 4 → 128 ≤ oneAt roll (at + headLength + 3) → Wrong roll at previous
   negative-long : kindAt roll at ≡ 5 → 128 ≤ oneAt roll (at + headLength + 7) → Wrong roll at previous
-  -- start past end, start before the previous end
+  -- "the start is past the end, or before the end of the record before"
   past-end : endAt roll at < startAt roll at → Wrong roll at previous
   before-previous : startAt roll at < previous → Wrong roll at previous
-  -- Str content outside its token or ending before it starts (6)
+  -- "the content of a Str starts before the token, ends past it, or ends before it starts." (6)
   content-before : kindAt roll at ≡ 6 → contentStart roll at < startAt roll at → Wrong roll at previous
   content-past : kindAt roll at ≡ 6 → endAt roll at < contentEnd roll at → Wrong roll at previous
   content-order : kindAt roll at ≡ 6 → contentEnd roll at < contentStart roll at → Wrong roll at previous
@@ -91,17 +91,18 @@ pub data Stepped : Type 0 where
   yielded : Token → ℕ → Stepped
   stopped : ℕ → ℕ → Stepped
 
--- The refusals are placed at the record's offset, in their order.
+-- REQUESTS, "Reading a roll": "One step, from an offset and the end of the token before, gives the token there and the offset of the next record, or a
+-- refusal with its place."
 pub data Steps (roll : List ℕ) (at previous : ℕ) : Stepped → Type 0 where
-  -- 24 also meets a roll that ends without Eof, at the roll's length. Whoever asks for a record past it is told the same.
+  -- "A step at the roll's length or past it gives 24 at that length."
   no-eof : length roll ≤ at → Steps roll at previous (stopped 24 (length roll))
   twenty-two : TooFew roll at → Steps roll at previous (stopped 22 at)
   twenty-three : at < length roll → (TooFew roll at → ⊥) → NoKind roll at → Steps roll at previous (stopped 23 at)
   twenty-four : at < length roll → (TooFew roll at → ⊥) → (NoKind roll at → ⊥) → Wrong roll at previous → Steps roll at previous (stopped 24 at)
-  -- 24 also meets bytes after Eof, at the first of them and before any other check there
+  -- REQUESTS, "End of a roll": "Bytes behind an Eof are refused by 24 at the first of them, and nothing else is checked there."
   after-eof : {t : Token} → Sound roll at previous t → t.kind ≡ tk.Eof → at + lengthAt roll at < length roll
       → Steps roll at previous (stopped 24 (at + lengthAt roll at))
-  -- yields each token with its values
+  -- the token, with its values
   yields : {t : Token} → Sound roll at previous t → (t.kind ≡ tk.Eof → at + lengthAt roll at ≡ length roll)
       → Steps roll at previous (yielded t (at + lengthAt roll at))
 
@@ -118,11 +119,11 @@ prepend t (refused j a) = refused j a
 -- from an offset on, after a token that ends at `previous`
 pub data Reads (roll : List ℕ) : ℕ → ℕ → Outcome → Type 0 where
   refuses : {at previous j a : ℕ} → Steps roll at previous (stopped j a) → Reads roll at previous (refused j a)
-  -- The roll must end with its only Eof.
+  -- REQUESTS, "End of a roll": "A roll ends with its only Eof."
   last : {at previous next : ℕ} {t : Token} → Steps roll at previous (yielded t next) → t.kind ≡ tk.Eof → Reads roll at previous (tokens (t ∷ []))
   more : {at previous next : ℕ} {t : Token} {x : Outcome} → Steps roll at previous (yielded t next) → (t.kind ≡ tk.Eof → ⊥)
       → Reads roll next t.end x → Reads roll at previous (prepend t x)
 
--- the whole roll: the first record stands at 0, and its previous end is 0
+-- REQUESTS, "Reading a roll": "Reading a roll is stepping from 0, with the end 0 before it"
 abbrev pub ReadsRoll : List ℕ → Outcome → Type 0
 ReadsRoll roll x = Reads roll 0 0 x

@@ -8,7 +8,7 @@ use lib.ListN.{length, drop, get_or}
 use lib.Dec.{eqb, leb, ltb}
 use native.Mathlib.Nat.{le-mul_of_pos_right, one-le-pow}
 use native.Mathlib.Omega.{arith}
-use borrow.Author.Tests.{ltb-true, ltb-false, lt-ltb, le-ltb, leb-true, leb-false, le-leb, lt-leb, eqb-true}
+use borrow.Author.Tests.{ltb-true, ltb-false, lt-ltb, le-ltb, le-leb, lt-leb, eqb-true}
 use Rattle.chars.specs.paper.Quoted.{between, codes, oneOf}
 use Rattle.chars.specs.paper.Text.{Text, from, place, headIs}
 use Rattle.chars.specs.computed.Runs.{afterRun}
@@ -19,13 +19,12 @@ use Rattle.token.specs.paper.Tests.{isDigit, isHexDigit, digitValue, begins, hex
 use Rattle.token.specs.computed.Answer.{Found, numeral, readDigits, numberOf, scanNumber}
 use Rattle.token.specs.code.Cursor.{cursorAt}
 use Rattle.token.specs.code.Piece.{pieceOf, tokenTo}
-use Rattle.token.specs.code.Digits.{digitIn, digitOf, afterUpTo, valueOf, intOr}
+use Rattle.token.specs.code.Digits.{digitIn, digitOf, afterUpTo, intOr, longOr, numberBy}
+use Rattle.token.specs.declared.digits.DigitRun.{DigitRun}
 use Rattle.token.specs.declared.kinds.TokenKind.TheVariants as tk
-use Rattle.token.proofs.Base.{zero-one}
 use Rattle.token.proofs.cursor.Bytes.{any-byte, ascii-list, inside, past, two-bytes}
 use Rattle.token.proofs.theorems.Numbers.{valueAfter, digitsOf, read-is}
 use Rattle.token.specs.code.Refusal.{refusedFor, refusalBy}
-use Rattle.std.specs.Prelude.{Some, None}
 use Rattle.token.specs.declared.refusal.Refusal.TheVariants as refusal
 open code_laws use {hits, misses, between-in, between-out, in-between, not-between}
 open text-laws use {head-byte, at-ascii, at-end, place-from}
@@ -200,40 +199,23 @@ module _ (p : ℕ → Bool) (a : AsciiClass p) where
 no-less : (base v : ℕ) (ds : List ℕ) → 1 ≤ base → v ≤ valueAfter base v ds
 no-less base v ds h = let m = le-mul_of_pos_right v (one-le-pow (length ds) base h) in omega (arith, m)
 
--- where a byte is taken as a digit the script goes on
-pub digit-inside : (base : ℕ) → (base ≡ 10) ⊎ (base ≡ 16) → (s : List ℕ) (i d : ℕ) → d ≡ digitOf (get_or s i 0) → d < base → i < length s
-digit-inside base h s i d e l = (class-at (digitIn base) (digits-ascii base) s i (digit-taken base (get_or s i 0) h (omega arith))).0
-
--- what a byte's value tells: below the base it is one digit more, else the digits end
-module _ (base : ℕ) (h : (base ≡ 10) ⊎ (base ≡ 16)) (s : List ℕ) (i d v : ℕ) (e : d ≡ digitOf (get_or s i 0)) where
-  pub one-more : d < base → readDigits (digitIn base) base (v * base + d) (from s (i + 1)) ≡ readDigits (digitIn base) base v (from s i)
-  one-more l =
-      let p = digitIn base in
-      let t = digit-taken base (get_or s i 0) h (omega arith) in
-      ap (λ k. readDigits p base (v * base + k) (from s (i + 1))) (e ∙ digit-value (get_or s i 0) base t) ∙ read-next p (digits-ascii base) s i base v t
-
-  pub no-more : base ≤ d → numeral v (from s i) ≡ readDigits (digitIn base) base v (from s i)
-  no-more l = read-stop (digitIn base) (digits-ascii base) s i base v (digit-stops base (get_or s i 0) h (omega arith))
-
 pub base-some : (base : ℕ) → (base ≡ 10) ⊎ (base ≡ 16) → 1 ≤ base
 base-some base (inl e) = omega arith
 base-some base (inr e) = omega arith
 
-pub fitted : (w v : ℕ) → Some w ≡ valueOf v → (w ≡ v) × (v ≤ 9223372036854775807)
-unfolding valueOf
-fitted w v e = go (leb v 9223372036854775807) refl e
+-- a number whose value is above every most is refused, whatever follows its digits
+pub over-found : (t : Text) (v : ℕ) (r : Text) → 9223372036854775807 < v → numberOf t (numeral v r) ≡ Found.stuck 6 t
+over-found t v r k = rw (lt-leb v 9223372036854775807 k, lt-leb v 2147483647 (omega arith)) (go (letterL r))
   where
-    go : (b : Bool) → leb v 9223372036854775807 ≡ b → Some w ≡ cond b (Some v) None → (w ≡ v) × (v ≤ 9223372036854775807)
-    go true q e = (cc, leb-true v 9223372036854775807 q)
-    go false q e = zero-one (cc)
+    go : (b : Bool) → cond b (Found.stuck 6 t) (Found.stuck 6 t) ≡ Found.stuck 6 t
+    go true = refl
+    go false = refl
 
-pub overs : (v : ℕ) → None ≡ valueOf v → 9223372036854775807 < v
-unfolding valueOf
-overs v e = go (leb v 9223372036854775807) refl e
-  where
-    go : (b : Bool) → leb v 9223372036854775807 ≡ b → None ≡ cond b (Some v) None → 9223372036854775807 < v
-    go true q e = zero-one (cc)
-    go false q e = leb-false v 9223372036854775807 q
+-- and no digit that follows brings a value back below the limit
+pub over-read : (t : Text) (p : ℕ → Bool) (base : ℕ) → 1 ≤ base → (v : ℕ) (r : Text) → 9223372036854775807 < v → numberOf t (readDigits p base v r) ≡ Found.stuck 6 t
+over-read t p base some v r k =
+    let l = no-less base v (digitsOf p r) some in
+    ap (numberOf t) (read-is p base v r) ∙ over-found t (valueAfter base v (digitsOf p r)) (afterRun (headIs p) r) (omega arith)
 
 -- ---- numbers
 
@@ -246,14 +228,18 @@ letter_miss b h = misses (0x4C ∷ 0x6C ∷ []) b h
 
 -- the number that begins at start, whose digits of the value v end at end
 module _ (s : List ℕ) (start end v : ℕ) (h : start ≤ length s) where
-  pub long-piece : v ≤ 9223372036854775807 → oneOf "Ll" (get_or s end 0) ≡ true
-      → tokenTo (tk.LongLit v) (cursorAt (end + 1)) ≡ pieceOf (length s) (numberOf (from s start) (numeral v (from s end)))
-  unfolding pieceOf
-  long-piece k e =
+  long-piece : oneOf "Ll" (get_or s end 0) ≡ true → longOr start v (cursorAt (end + 1)) ≡ pieceOf (length s) (numberOf (from s start) (numeral v (from s end)))
+  unfolding pieceOf longOr refusalBy
+  long-piece e =
       let c = class-at (oneOf "Ll") (ascii-list (codes "Ll") refl) s end e in
       let q : letterL (from s end) ≡ true = any-byte "Ll" refl s end ∙ e in
       let r : place (length s) (drop 1 (from s end)) ≡ end + 1 = ap (λ t. place (length s) (drop 1 t)) c.1 ∙ place-from s (end + 1) (omega arith) in
-      rw (q, le-leb v 9223372036854775807 k, r)
+      rw q (go r (leb v 9223372036854775807))
+    where
+      go : place (length s) (drop 1 (from s end)) ≡ end + 1 → (b : Bool) → cond b (tokenTo (tk.LongLit v) (cursorAt (end + 1))) (refusedFor refusal.LargeNumber start)
+          ≡ pieceOf (length s) (cond b (Found.token (tk.LongLit v) (drop 1 (from s end))) (Found.stuck 6 (from s start)))
+      go r true = rw r
+      go r false = rw (place-from s start h)
 
   pub int-piece : end ≤ length s → oneOf "Ll" (get_or s end 0) ≡ false
       → intOr start v (cursorAt end) ≡ pieceOf (length s) (numberOf (from s start) (numeral v (from s end)))
@@ -267,22 +253,16 @@ module _ (s : List ℕ) (start end v : ℕ) (h : start ≤ length s) where
       go true = rw (place-from s end k)
       go false = rw (place-from s start h)
 
-module _ (s : List ℕ) (start : ℕ) (h : start ≤ length s) where
-  over-piece : (v : ℕ) (r : Text) → 9223372036854775807 < v → refusedFor refusal.LargeNumber start ≡ pieceOf (length s) (numberOf (from s start) (numeral v r))
-  unfolding pieceOf refusalBy
-  over-piece v r k = rw (lt-leb v 9223372036854775807 k, lt-leb v 2147483647 (omega arith)) (go (letterL r))
-    where
-      go : (b : Bool) → refusedFor refusal.LargeNumber start ≡ pieceOf (length s) (cond b (Found.stuck 6 (from s start)) (Found.stuck 6 (from s start)))
-      go true = rw (place-from s start h)
-      go false = rw (place-from s start h)
-
-  -- no digit that follows brings a value back below the limit
-  pub over-read : (p : ℕ → Bool) (base : ℕ) → 1 ≤ base → (v : ℕ) (t : Text) → 9223372036854775807 < v
-      → refusedFor refusal.LargeNumber start ≡ pieceOf (length s) (numberOf (from s start) (readDigits p base v t))
-  over-read p base some v t k =
-      let l = no-less base v (digitsOf p t) some in
-      over-piece (valueAfter base v (digitsOf p t)) (afterRun (headIs p) t) (omega arith)
-      ∙ ap (λ r. pieceOf (length s) (numberOf (from s start) r)) (sym (read-is p base v t))
+-- the same by the run of its digits
+pub number-piece : (s : List ℕ) (start : ℕ) (r : DigitRun) → start ≤ length s → r.end ≤ length s → r.next ≡ get_or s r.end 0
+    → numberBy start r ≡ pieceOf (length s) (numberOf (from s start) (numeral r.value (from s r.end)))
+unfolding numberBy
+number-piece s start r h k e = go (oneOf "Ll" r.next) refl
+  where
+    go : (b : Bool) → oneOf "Ll" r.next ≡ b → cond b (longOr start r.value (cursorAt (r.end + 1))) (intOr start r.value (cursorAt r.end))
+        ≡ pieceOf (length s) (numberOf (from s start) (numeral r.value (from s r.end)))
+    go true q = long-piece s start r.end r.value h (ap (oneOf "Ll") (sym e) ∙ q)
+    go false q = int-piece s start r.end r.value h k (ap (oneOf "Ll") (sym e) ∙ q)
 
 -- ---- `0x`
 

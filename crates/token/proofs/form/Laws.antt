@@ -7,14 +7,14 @@ use lib.ListN.{length, take, set, length-append}
 use lib.Seq.{sets, length-take-le}
 use native.Mathlib.Omega.{arith}
 use Rattle.token.specs.paper.Kinds.{kindNumber, Token}
-use Rattle.token.specs.paper.Records.{bit, valuesOf, values, headLength, intLength, longLength, lineLength, recordLength, fieldsOf, headOf, recordOf}
+use Rattle.token.specs.paper.Records.{bit, valuesOf, values, headLength, intLength, longLength, strLength, lineLength, recordLength, fieldsOf, headOf, recordOf}
 use Rattle.token.specs.code.Form.{mostLength, joined, formOf, plainForm, Known, headNumber, headBytes, byForm}
 use Rattle.words.specs.Words.{le4, le8}
 use Rattle.token.specs.declared.kinds.Form.{Form}
 use Rattle.token.specs.declared.kinds.TokenKind.{TokenKind}
 use Rattle.token.specs.declared.kinds.TokenKind.TheVariants as tk
 use Rattle.token.proofs.form.Stores.{length-fields, head-fields}
-use Rattle.words.proofs.Stores.{after}
+use Rattle.words.proofs.Stores.{after, low-four}
 
 -- ---- lengths
 
@@ -32,6 +32,24 @@ known-most Known.int = omega arith
 known-most Known.long = omega arith
 known-most Known.str = omega arith
 
+-- the lengths of the code's constants are among them
+pub known-bare : Known headLength
+known-bare = Known.bare
+
+pub known-line : Known lineLength
+known-line = Known.line
+
+pub known-int : Known intLength
+known-int = Known.int
+
+pub known-long : Known longLength
+known-long = Known.long
+
+pub known-str : Known strLength
+known-str = Known.str
+
+pub ruleset known = (known-bare, known-line, known-int, known-long, known-str)
+
 length-eight : (x : ℕ) → length (le8 x) ≡ 8
 unfolding le8 le4
 length-eight x = refl
@@ -47,28 +65,6 @@ length-form f start end cut h =
     ∙ omega (arith, length-fields f.length f.number start end cut, v)
 
 -- ---- values
-
--- a whole multiple of 4294967296 is in none of the lower four bytes
-low-byte : (q r : ℕ) → (r + q * 4294967296) % 256 ≡ r % 256
-low-byte q r = omega arith
-
-second-byte : (q r : ℕ) → (r + q * 4294967296) / 256 % 256 ≡ r / 256 % 256
-second-byte q r = let e : (r + q * 4294967296) / 256 ≡ r / 256 + q * 16777216 = omega arith in rw e (omega arith)
-
-third-byte : (q r : ℕ) → (r + q * 4294967296) / 65536 % 256 ≡ r / 65536 % 256
-third-byte q r = let e : (r + q * 4294967296) / 65536 ≡ r / 65536 + q * 65536 = omega arith in rw e (omega arith)
-
-fourth-byte : (q r : ℕ) → (r + q * 4294967296) / 16777216 % 256 ≡ r / 16777216 % 256
-fourth-byte q r = let e : (r + q * 4294967296) / 16777216 ≡ r / 16777216 + q * 256 = omega arith in rw e (omega arith)
-
-lower-four : (q r : ℕ) → le4 (r + q * 4294967296) ≡ le4 r
-unfolding le4
-lower-four q r = rw (low-byte q r, second-byte q r, third-byte q r, fourth-byte q r)
-
-pub low-four : (v : ℕ) → le4 (v % 4294967296) ≡ le4 v
-low-four v =
-    let e : v % 4294967296 + v / 4294967296 * 4294967296 ≡ v = omega arith in
-    sym (ap le4 (sym e) ∙ lower-four (v / 4294967296) (v % 4294967296))
 
 -- two numbers of four bytes as one of eight
 two-fours : (a e : ℕ) → le8 (a % 4294967296 + e % 4294967296 * 4294967296) ≡ le4 a ++ le4 e
@@ -171,8 +167,8 @@ module _ (l : List ℕ) (w n v : ℕ) where
   pub put-one : n ≡ lineLength → sets l w (take (n - headLength) (le8 v)) ≡ set l w (v % 256)
   put-one e = rw e (ap (sets l w) (take-one v))
 
-  pub put-some : n ≡ intLength → sets l w (take (n - headLength) (le8 v)) ≡ sets l w (le4 (v % 4294967296))
-  put-some e = rw e (ap (sets l w) (take-four v))
+  pub put-some : n ≡ intLength → sets l w (take (n - headLength) (le8 v)) ≡ sets l w (le4 v)
+  put-some e = rw e (ap (sets l w) (take-four v ∙ low-four v))
 
   pub put_most : n ≡ longLength → sets l w (take (n - headLength) (le8 v)) ≡ sets l w (le8 v)
   put_most e = rw e (ap (sets l w) (take-eight v))

@@ -10,11 +10,12 @@ use native.Mathlib.Nat.{add-zero, mod-eq_of_lt}
 use native.Mathlib.Omega.{arith}
 use Rattle.words.specs.Joins.{Bytes}
 use Rattle.words.specs.Words.{le2, le4, le8, oneAt, twoAt, fourAt, eightAt}
+use Rattle.words.proofs.Stores.{low-four}
 use Rattle.words.proofs.Joins.{drop-bytes, two-from, four-from, eight-from, two-drop, four-drop, two-le2, four-le4, eight-le8, le4-four, le8-eight, Width, twos, fours}
 use Rattle.token.specs.paper.Records.{bit, headLength, fieldsOf}
 use Rattle.token.specs.code.Form.{Known, byForm, valuesAt, heldAt, storedOf, Storable, Whole, RecordForm}
 use Rattle.token.specs.declared.kinds.Form.{Form}
-use Rattle.token.proofs.form.Laws.{known-least, known-most, low-four, take-one, take-four, take-eight}
+use Rattle.token.proofs.form.Laws.{known-least, known-most, take-one, take-four, take-eight}
 
 values-from : (l : List ℕ) (i j size : ℕ) → valuesAt (drop i l) j size ≡ valuesAt l (i + j) size
 unfolding valuesAt

@@ -1,23 +1,23 @@
 -- How identifiers, operators and backticks are read place by place.
 use Prim.Native.Nat.{ℕ, zero, suc, ◌+◌, ◌-◌, ◌≤◌, ◌<◌}
 use mathlib.Core.Path.{◌≡◌, refl, sym, ◌∙◌, ap, ap₂}
-use mathlib.Core.Bool.{Bool, true, false, cond, ◌&&◌, ◌||◌, or-false}
+use mathlib.Core.Bool.{Bool, true, false, cond, ◌&&◌, ◌||◌, or-false, and-false}
 use mathlib.Core.List.{List, [], ◌∷◌}
 use mathlib.Core.Option.{Option, some}
 use lib.ListN.{length, drop, get_or, get_or-eq_default}
 use lib.Dec.{eqb, ltb}
 use native.Mathlib.Omega.{arith}
-use borrow.Author.Tests.{ltb-true, ltb-false, eqb-true, ne_eqb}
+use borrow.Author.Tests.{ltb-true, ltb-false, eqb-true, ne_eqb, le-leb}
 use Rattle.chars.specs.paper.Quoted.{oneOf}
 use Rattle.chars.specs.paper.Text.{Char, Text, from, place, headIs, idChar}
 use Rattle.chars.specs.code.Text.{charEnd}
 use Rattle.chars.specs.computed.Runs.{afterRun}
-use Rattle.chars.proofs.Prefix.{end, passed, stopped}
 use Rattle.chars.specs.paper.Classes.{isIdStart, isIdChar, isOpSign}
-use Rattle.chars.proofs.Bools.{clash}
+use Rattle.chars.proofs.Bools.{clash, and-both}
 use Rattle.chars.specs.promises.Texts.{Suffix}
-use Rattle.chars.proofs.theorems.Promises.{text-laws}
-use Rattle.token.proofs.Classes.{under-no-id, nul-no-sign, sign-byte}
+use Rattle.chars.specs.code.Classes.{arrowAt}
+use Rattle.chars.proofs.theorems.Promises.{text-laws, class-laws}
+use Rattle.token.proofs.Classes.{under-no-id, nul-no-sign}
 use Rattle.token.proofs.cursor.Wide.{byte-by-byte}
 use Rattle.token.specs.paper.Tests.{isAny, begins, quote, opSign, freeSign, opensComment, notBacktick}
 use Rattle.token.specs.paper.Kinds.{wordOf, runOf}
@@ -30,11 +30,16 @@ use Rattle.token.specs.declared.kinds.TokenKind.{TokenKind}
 use Rattle.token.specs.declared.kinds.TokenKind.TheVariants as tk
 use Rattle.token.proofs.cursor.Bytes.{any-byte, inside, one-byte}
 use Rattle.token.proofs.theorems.Runs.{after-next, after-stop, run-after, run-suffix}
-use Rattle.token.proofs.cursor.Runs.{passed-to, twice}
 use Rattle.token.proofs.gap.Laws.{opens-line, opens-block}
 use Rattle.token.proofs.theorems.Idents.{ident-finds, start-rest, rest-suffix}
 use Rattle.token.specs.code.Refusal.{refusedBy}
-open text-laws use {run-stays, run-done, run-place, suffix-trans, drop-suffix, at-char, at-ascii, at-end, next-on, place-from}
+use Rattle.std.specs.Prelude.{Some, None}
+use Rattle.token.specs.code.ByteClass.{classAt, wideClass, isSign}
+use Rattle.token.proofs.byte_class.Laws.{class-sign, class-wide}
+use Rattle.token.specs.code.Ident.{signEnd}
+use Rattle.token.specs.code.Names.{lowBefore}
+open class-laws use {arrow-here, arrow-sign}
+open text-laws use {ascii-next, wide-tail, run-stays, run-done, run-place, suffix-trans, drop-suffix, at-char, at-ascii, at-end, next-on, place-from}
 
 -- ---- places
 
@@ -98,30 +103,63 @@ module _ (p : ℕ → Bool) (s : List ℕ) (i : ℕ) where
       go true e = ap (headIs p) (at-ascii s i (ltb-true i (length s) e) l)
       go false e = let h = ltb-false i (length s) e in ap (headIs p) (at-end s i h) ∙ sym (ap p (get_or-eq_default s 0 h) ∙ z)
 
-  pub past-on : (j : ℕ) → headIs p (from s i) ≡ true → j ≡ charEnd s i → j ≡ cond (headIs p (from s i)) (charEnd s i) i
-  past-on j e q = rw e q
+-- ---- an operator sign
 
-  pub past-off : headIs p (from s i) ≡ false → i ≡ cond (headIs p (from s i)) (charEnd s i) i
-  past-off e = rw e
+double-sign : isOpSign 0x21D2 ≡ true
+unfolding isOpSign
+double-sign = refl
 
-  -- the code's test, whether that is the place itself
-  pub past-same : i ≡ cond (headIs p (from s i)) (charEnd s i) i → headIs p (from s i) ≡ false
-  past-same e = go (headIs p (from s i)) refl e
+module _ (s : List ℕ) (i : ℕ) where
+  sign-at : headIs isOpSign (from s i) ≡ true → (j : ℕ) → charEnd s i ≡ j → Some j ≡ signEnd s i
+  unfolding signEnd
+  sign-at e j q = ap Some (sym q) ∙ sym (ap (λ b. cond b (Some (charEnd s i)) None) e)
+
+  -- an ASCII sign by its class, the double arrow by its bytes, and none
+  pub sign-byte-end : isSign (classAt s i) ≡ true → Some (i + 1) ≡ signEnd s i
+  sign-byte-end e =
+      let b = and-both (ltb (get_or s i 0) 0x80) (isOpSign (get_or s i 0)) (sym (class-sign (get_or s i 0)) ∙ e) in
+      let l = ltb-true (get_or s i 0) 0x80 b.0 in
+      let h = head-low isOpSign s i nul-no-sign l ∙ b.1 in
+      sign-at h (i + 1) (ascii-next s i (head-inside isOpSign s i h) l)
+
+  pub arrow-end : arrowAt s i ≡ true → Some (i + 3) ≡ signEnd s i
+  arrow-end e =
+      let a = arrow-here s i e in
+      let h : i < length s = let l = a.0 in omega arith in
+      sign-at (ap (headIs isOpSign) (at-char s i h) ∙ ap isOpSign a.1 ∙ double-sign) (i + 3) a.2
+
+  pub no-sign-end : isSign (classAt s i) ≡ false → eqb (classAt s i) wideClass && arrowAt s i ≡ false → get_or s i 0 < 0x100 → None ≡ signEnd s i
+  unfolding signEnd
+  no-sign-end e f l = sym (ap (λ b. cond b (Some (charEnd s i)) None) (go (ltb (get_or s i 0) 0x80) refl))
     where
-      go : (b : Bool) → headIs p (from s i) ≡ b → i ≡ cond b (charEnd s i) i → b ≡ false
+      go : (b : Bool) → ltb (get_or s i 0) 0x80 ≡ b → headIs isOpSign (from s i) ≡ false
+      go true q =
+          let m = ltb-true (get_or s i 0) 0x80 q in
+          let z : isOpSign (get_or s i 0) ≡ false = sym (ap (λ b. b && isOpSign (get_or s i 0)) q) ∙ sym (class-sign (get_or s i 0)) ∙ e in
+          head-low isOpSign s i nul-no-sign m ∙ z
+      go false q =
+          let m = ltb-false (get_or s i 0) 0x80 q in
+          let h : i < length s = inside s i (omega arith) in
+          let w : eqb (classAt s i) wideClass ≡ true = class-wide (get_or s i 0) ∙ le-leb 0x80 (get_or s i 0) m in
+          let z : arrowAt s i ≡ false = sym (ap (λ b. b && arrowAt s i) w) ∙ f in
+          ap (headIs isOpSign) (at-char s i h) ∙ arrow-sign s i m l ∙ z
+
+  pub sign-none : None ≡ signEnd s i → headIs isOpSign (from s i) ≡ false
+  unfolding signEnd
+  sign-none e = go (headIs isOpSign (from s i)) refl e
+    where
+      go : (b : Bool) → headIs isOpSign (from s i) ≡ b → None ≡ cond b (Some (charEnd s i)) None → b ≡ false
       go false h e = refl
-      go true h e = let n = next-on s i (head-inside p s i h) in absurd (omega arith)
+      go true h e = cc
 
-  pub past-other : (j : ℕ) → j ≡ cond (headIs p (from s i)) (charEnd s i) i → (j ≡ i → ⊥) → (i < length s) × (headIs p (from s i) ≡ true) × (charEnd s i ≡ j)
-  past-other j e n = go (headIs p (from s i)) refl e
+  pub sign-found : (j : ℕ) → Some j ≡ signEnd s i → (i < length s) × (headIs isOpSign (from s i) ≡ true) × (charEnd s i ≡ j)
+  unfolding signEnd
+  sign-found j e = go (headIs isOpSign (from s i)) refl e
     where
-      go : (b : Bool) → headIs p (from s i) ≡ b → j ≡ cond b (charEnd s i) i → (i < length s) × (headIs p (from s i) ≡ true) × (charEnd s i ≡ j)
-      go true h e = (head-inside p s i h, h, sym e)
-      go false h e = absurd (n e)
-
--- an ASCII byte tells whether an operator sign stands there
-pub sign-here : (s : List ℕ) (i b : ℕ) (r : Bool) → b ≡ get_or s i 0 → b < 0x80 → r ≡ ltb b 0x80 && isOpSign b → headIs isOpSign (from s i) ≡ r
-sign-here s i b r e l q = head-low isOpSign s i nul-no-sign (omega arith) ∙ ap isOpSign (sym e) ∙ sign-byte b l ∙ sym q
+      go : (b : Bool) → headIs isOpSign (from s i) ≡ b → Some j ≡ cond b (Some (charEnd s i)) None
+          → (i < length s) × (headIs isOpSign (from s i) ≡ true) × (charEnd s i ≡ j)
+      go true h e = (head-inside isOpSign s i h, h, cc)
+      go false h e = cc
 
 -- two bytes tell whether a comment opens there
 pub comment_bytes : (s : List ℕ) (i : ℕ)
@@ -205,30 +243,24 @@ module _ (s : List ℕ) (i : ℕ) where
       let f = ap idChar (run-place idChar s i j h e).2 ∙ run-done idChar refl (from s i) in
       sym (rest-none false (from s j) f (any-byte "_" refl s j ∙ rw (ne_eqb (get_or s j 0) 0x5F n))) ∙ (pass-run j h e).1
 
--- past the underscores that stand there, be there any
-pub unders-to : (s : List ℕ) (i r : ℕ) → i ≤ length s → r ≡ end (λ b. eqb b 0x5F || eqb b 0x5F) s i
-    → (i ≤ r) × (r ≤ length s) × (afterIdent (ltb i r) (from s r) ≡ afterIdent false (from s i)) × (get_or s r 0 ≡ 0x5F → ⊥)
-unders-to s i r h e =
-    let t = passed-to (afterIdent true) s q (λ k l b. pass-under s k true (under k b)) i r h e in
-    (t.0, t.1, go (ltb i r) refl t.2, stop)
+-- behind an identifier's first character no underscore came last
+pub first_read : (s : List ℕ) (i j : ℕ) → i < length s → j ≤ length s → from s j ≡ drop 1 (from s i)
+    → afterIdent (lowBefore s i j) (from s j) ≡ afterIdent false (drop 1 (from s i))
+first_read s i j h k e = ap (λ u. afterIdent u (from s j)) (go (ltb i (j - 1)) refl) ∙ ap (afterIdent false) e
   where
-    q : ℕ → Bool
-    q b = eqb b 0x5F || eqb b 0x5F
+    ends : j ≡ charEnd s i
+    ends =
+        let n = next-on s i h in
+        let q = e ∙ ap (drop 1) (at-char s i h) in
+        sym (place-from s j k) ∙ ap (place (length s)) q ∙ place-from s (charEnd s i) n.1
 
-    under : (k : ℕ) → q (get_or s k 0) ≡ true → get_or s k 0 ≡ 0x5F
-    under k b = eqb-true (get_or s k 0) 0x5F (sym (twice _) ∙ b)
-
-    go : (x : Bool) → ltb i r ≡ x → afterIdent true (from s r) ≡ afterIdent true (from s i) → afterIdent x (from s r) ≡ afterIdent false (from s i)
-    go true l p =
-        let b = under i (passed q s i i (omega arith) (rw (← e) (ltb-true i r l))) in
-        p ∙ sym (pass-under s i true b) ∙ pass-under s i false b
-    go false l p = let z : r ≡ i = omega (arith, ltb-false i r l, e) in ap (λ j. afterIdent false (from s j)) z
-
-    stop : get_or s r 0 ≡ 0x5F → ⊥
-    stop b =
-        let l = under-inside s r b in
-        let f = sym (ap (λ j. q (get_or s j 0)) e ∙ stopped q s i (rw e at l)) ∙ ap q b in
-        clash f
+    go : (b : Bool) → ltb i (j - 1) ≡ b → eqb (get_or s (j - 1) 0) 0x5F && b ≡ false
+    go false q = and-false (eqb (get_or s (j - 1) 0) 0x5F)
+    go true q =
+        let l = ltb-true i (j - 1) q in
+        let z = ends in
+        let w = (wide-tail s i h (j - 1) l (omega arith)).0 in
+        ap (λ x. x && true) (ne_eqb (get_or s (j - 1) 0) 0x5F (λ f. absurd (omega (arith, w, f))))
 
 -- ---- what is left of a text
 

@@ -4,12 +4,13 @@ use Rattle.chars.specs.paper.Quoted.{codes, oneOf}
 use Rattle.chars.specs.paper.Classes.{isIdStart, isOpSign}
 use Rattle.chars.specs.paper.Text.{Char, Text, from, headIs}
 use Rattle.chars.specs.code.Text.{charEnd, codeAt}
-use Rattle.chars.specs.code.Classes.{cyrillicAt}
-use Rattle.chars.proofs.theorems.Promises.{code_laws, text-laws, class-laws}
+use Rattle.chars.proofs.theorems.Promises.{code_laws, text-laws}
 use Rattle.token.specs.paper.Tests.{isAny, begins, quote, isDigit, opensComment}
-use Rattle.token.specs.computed.Answer.{Found, Start, scan, signOf, scanIdent, scanOperator, scanBacktick, scanString, scanCharSym, scanNumber}
+use Rattle.token.specs.computed.Answer.{Found, Start, scan, signOf, afterIdent, scanIdent, scanOperator, scanBacktick, scanString, scanCharSym, scanNumber}
 use Rattle.token.specs.code.Cursor.{cursorAt, peekedOf, peekAt, peekedTo}
 use Rattle.token.specs.code.Lexer.{wordless}
+use Rattle.token.specs.code.Names.{lowBefore}
+use Rattle.token.proofs.ident.Laws.{first_read}
 use Rattle.token.specs.code.Piece.{pieceOf, tokenTo}
 use Rattle.token.specs.declared.kinds.TokenKind.{TokenKind}
 use Rattle.token.specs.declared.kinds.TokenKind.TheVariants as tk
@@ -22,7 +23,6 @@ use Rattle.token.specs.declared.cursor.Cursor.{Cursor}
 use Rattle.token.specs.declared.refusal.Refusal.TheVariants as refusal
 open code_laws use {carry, no-member, between-in}
 open text-laws use {at-char, at-ascii, place-from, next-on}
-open class-laws use {russian}
 
 -- ---- pieces by their places
 
@@ -77,21 +77,7 @@ start-peek s i = go (from s i)
     go [] = refl
     go (c ∷ r) = refl
 
--- a Russian letter, by its two bytes
-module _ (s : List ℕ) (i : ℕ) (e : cyrillicAt s i ≡ true) where
-  pub russian-start : headIs isIdStart (from s i) ≡ true
-  russian-start = (russian s i e).start
-
-  pub russian-within : i + 2 ≤ length s
-  russian-within = (russian s i e).within
-
-  pub russian-after : from s (i + 2) ≡ drop 1 (from s i)
-  russian-after = (russian s i e).after
-
-  pub russian-scan : opensComment (from s i) ≡ false → scan (length s) (from s i) ≡ scanIdent (length s) (from s i)
-  russian-scan z = scan-by (length s) (from s i) Start.word (starts-word (from s i) (clear (from s i) z) russian-start)
-
-pub ruleset wide_words = (stuck-piece, scan-peek, peek-stands, start-peek, russian-start, russian-within, russian-after, russian-scan)
+pub ruleset wide_words = (stuck-piece, scan-peek, peek-stands, start-peek, first_read)
 
 -- ---- the same, by the byte
 
@@ -114,8 +100,8 @@ module _ (s : List ℕ) (i : ℕ) (h : i < length s) (e : ltb (get_or s i 0) 0x8
   pub start-byte : headIs isIdStart (from s i) ≡ true
   start-byte = (ascii-start s i h e).0
 
-  pub next-byte : from s (i + 1) ≡ drop 1 (from s i)
-  next-byte = (ascii-start s i h e).2
+  pub next-byte : afterIdent (lowBefore s i (i + 1)) (from s (i + 1)) ≡ afterIdent false (drop 1 (from s i))
+  next-byte = first_read s i (i + 1) h (omega arith) (ascii-start s i h e).2
 
 pub ruleset words = (stuck-piece, scan-byte, start-byte, next-byte)
 

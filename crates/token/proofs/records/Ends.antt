@@ -9,12 +9,12 @@ use Rattle.chars.proofs.theorems.Promises.{text-laws}
 use Rattle.token.specs.paper.Kinds.{kindNumber}
 use Rattle.token.specs.paper.Records.{headLength, recordOf}
 use Rattle.token.specs.computed.Answer.{answer}
-use Rattle.token.specs.code.Form.{plainForm, Known, byForm}
+use Rattle.token.specs.code.Form.{plainForm, byForm}
 use Rattle.token.specs.code.Records.{storedIf, eofAt, total, measuredOf, Trail, trail, answerOf, measuredFrom, storedFrom, trailFrom, begun}
 use Rattle.token.specs.code.Walk.{beginning, gapAt, stateAt, Good, Steps}
 use Rattle.token.specs.declared.kinds.TokenKind.TheVariants as tk
 use Rattle.token.specs.declared.walk.Stand.{Stand}
-use Rattle.token.proofs.form.Laws.{form-known, form-length, record-by, eof-form}
+use Rattle.token.proofs.form.Laws.{form-length, record-by, eof-form}
 use Rattle.token.proofs.lexer.Trails.{trail-end, stores-end}
 use Rattle.token.proofs.lexer.Turns.{or-false}
 use Rattle.token.proofs.records.Measures.{measured-end, record-least, record-most, eof-length, begun-answer}
@@ -22,13 +22,10 @@ open text-laws use {at-end}
 
 -- ---- a record's length and bytes
 
-pub head-known : Known headLength
-head-known = Known.bare
-
 pub eof-is : (start end : ℕ) (cut : Bool) → byForm (plainForm (kindNumber tk.Eof)) start end cut ≡ recordOf (record { kind = tk.Eof; start = start; end = end; cut = cut })
 eof-is start end cut = record-by _ (record { kind = tk.Eof; start = start; end = end; cut = cut }) eof-form
 
-pub ruleset sizes = (form-known, form-length, record-least, record-most, head-known, eof-is)
+pub ruleset sizes = (form-length, record-least, record-most, eof-is)
 
 -- ---- the start
 

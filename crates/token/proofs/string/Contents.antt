@@ -203,7 +203,6 @@ content s i e n b c ends last = go (ltb (i + n) (e - n)) refl
     go true f = let l = ltb-true (i + n) (e - n) f in left-stop s i e (i + n) (e - n) left l (λ q. let m = last q in absurd (omega arith))
     go false f = left-end s i e (i + n) (e - n) left (ltb-false (i + n) (e - n) f)
 
-
 -- ---- three quotes at a place
 
 module _ (s : List ℕ) (i : ℕ) (t : threeQuotes (from s i) ≡ true) where

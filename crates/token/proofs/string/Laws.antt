@@ -12,7 +12,6 @@ use Rattle.chars.specs.paper.Quoted.{oneOf}
 use Rattle.chars.specs.paper.Text.{Char, Text, from, place, headIs}
 use Rattle.chars.specs.code.Text.{charEnd, codeAt}
 use Rattle.chars.specs.computed.Runs.{afterRun}
-use Rattle.chars.specs.code.Runs.{Other}
 use Rattle.chars.proofs.Prefix.{end}
 use Rattle.chars.proofs.Bools.{clash, and-both, or-neither}
 use Rattle.chars.specs.promises.Texts.{Suffix}
@@ -175,7 +174,7 @@ module _ (c : ℕ) where
       let d = or-neither (eqb c 36) (eqb c 92 || false) b.1 in
       (a.0, b.0, d.0, (or-neither (eqb c 92) false d.1).0)
 
-  pub other-ordinary : Other 0x0A 0x22 0x24 0x5C c → isOrdinary c ≡ true
+  pub other-ordinary : (c ≡ 0x0A → ⊥) × (c ≡ 0x22 → ⊥) × (c ≡ 0x24 → ⊥) × (c ≡ 0x5C → ⊥) → isOrdinary c ≡ true
   unfolding isOrdinary
   other-ordinary (x, y, z, w) = rw (ne_eqb c 10 x, ne_eqb c 34 y, ne_eqb c 36 z, ne_eqb c 92 w)
 

@@ -11,11 +11,7 @@ use Rattle.std.specs.Prelude.{Err}
 use Rattle.chars.specs.paper.Text.{Text, from, place}
 use Rattle.token.specs.computed.Answer.{Found, scan}
 use Rattle.token.specs.paper.Kinds.{Token}
-use Rattle.token.specs.paper.Records.{mostBytes, headLength, lineLength, recordLength, recordOf}
-use Rattle.token.specs.code.Form.{Known, formOf, plainForm, byForm}
-use Rattle.token.specs.declared.kinds.Form.{Form}
-use Rattle.token.specs.declared.kinds.TokenKind.{TokenKind}
-use Rattle.token.proofs.form.Laws.{form-known, length-by}
+use Rattle.token.specs.paper.Records.{headLength, lineLength, recordLength, recordOf}
 use Rattle.token.specs.computed.Flags.{fresh}
 use Rattle.token.specs.code.ByteClass.{classAt}
 use Rattle.token.specs.code.Records.{storedIf, lineEndAt, trail, answerOf, State, trailFrom, measuredFrom, storedFrom, Reaches}
@@ -26,7 +22,7 @@ use Rattle.token.specs.declared.walk.Stand.{Stand}
 use Rattle.token.specs.declared.refusal.Refused.{Refused}
 use Rattle.token.proofs.lexer.Trails.{stores-stop}
 use Rattle.token.proofs.lexer.Turns.{Turn, turn-stop}
-use Rattle.token.proofs.records.Measures.{newline-length, record-most, measured-stop}
+use Rattle.token.proofs.records.Measures.{newline-length, measured-stop}
 use Rattle.token.proofs.records.Reach.{reach-start, reach-trans, reach-same, reach-turn}
 
 pub at-is : {y z : Stand} → y ≡ z → y.at ≡ z.at
@@ -34,21 +30,6 @@ at-is e = ap (λ (w : Stand). w.at) e
 
 pub steps-trans : {s : List ℕ} {x y z : Stand} {out mid next : List ℕ} → Steps s x out y mid → Steps s y mid z next → Steps s x out z next
 steps-trans a b = record { good = b.good; reaches = reach-trans a.reaches b.reaches }
-
--- ---- a record that is stored by its form
-
-pub stored-as : (out next : List ℕ) (w a e : ℕ) (c : Bool) {f g : Form} → f ≡ g → next ≡ storedIf out w (byForm f a e c) → next ≡ storedIf out w (byForm g a e c)
-stored-as out next w a e c p q = q ∙ ap (λ z. storedIf out w (byForm z a e c)) p
-
-module _ {s : List ℕ} {x : Stand} (g : Good s x) (h : length s ≤ mostBytes) where
-  pub plain-room : (n : ℕ) {f : Form} → f ≡ plainForm n → Known f.length × (x.bytes + f.length ≤ 18446744073709551615)
-  plain-room n e = rw e (Known.bare, omega (arith, g.stands.size, g.stands.within))
-
-  pub form-room : (k : TokenKind) {f : Form} → f ≡ formOf k → Known f.length × (x.bytes + f.length ≤ 18446744073709551615)
-  form-room k {f} e =
-      let l = length-by f k e in
-      let m = record-most k in
-      (subst (λ (z : Form). Known z.length) (sym e) (form-known k), omega (arith, g.stands.size, g.stands.within))
 
 -- ---- the numbers of a state
 

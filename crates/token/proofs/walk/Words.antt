@@ -16,37 +16,36 @@ use Rattle.chars.specs.paper.Text.{Text, from, place}
 use Rattle.chars.specs.promises.Texts.{Suffix}
 use Rattle.chars.proofs.Bools.{clash}
 use Rattle.chars.proofs.theorems.Promises.{code_laws, text-laws}
-use Rattle.token.specs.paper.Tests.{isDigit, digitValue, quote, freeSign, opensComment}
+use Rattle.token.specs.paper.Tests.{isDigit, digitValue, apostrophe, quote, freeSign, opensComment}
 use Rattle.token.specs.declared.kinds.Kw.{Kw}
 use Rattle.token.specs.paper.Kinds.{kwNumber, wordOf, runOf, wordKeywords}
-use Rattle.token.specs.paper.Records.{values, intLength, longLength, strLength}
-use Rattle.token.specs.computed.Answer.{scan, codesTo, closed, closeString, orPrefixed, prefixedOf, afterIdent}
+use Rattle.token.specs.paper.Records.{values, recordLength, headLength, intLength, strLength}
+use Rattle.token.specs.computed.Answer.{scan, scanNumber, scanCharSym, codesTo, closed, closeString, orPrefixed, prefixedOf, afterIdent}
 use Rattle.token.specs.code.ByteClass.{classAt, digitClass, tickClass, backtickClass, keywordClass, wideClass, slashClass, upToBlank, startsWord, inWord, isSign, asksMore, inRun}
 use Rattle.token.specs.code.Cursor.{cursorAt}
 use Rattle.token.specs.code.Form.{formOf, plainForm, byForm}
 use Rattle.token.specs.code.Keyword.{numberOr}
-use Rattle.token.specs.code.Literal.{literalOf}
 use Rattle.token.specs.code.Names.{hereOf, runTo, nameTo, operatorTo}
 use Rattle.token.specs.code.Piece.{pieceOf, pieceNumber, tokenTo}
 use Rattle.token.specs.code.Records.{storedIf}
-use Rattle.token.specs.code.Symbol.{charSymEnd}
-use Rattle.token.specs.code.Walk.{Good, plainBehind, valuesBehind, Steps, nameNumber, operatorNumber, LeftTo}
+use Rattle.token.specs.code.Walk.{gapAt, Good, plainBehind, valuesBehind, Steps, nameNumber, operatorNumber, LeftTo}
+use Rattle.token.specs.declared.cursor.Cursor.{Cursor}
 use Rattle.token.specs.declared.kinds.TokenKind.{TokenKind}
 use Rattle.token.specs.declared.kinds.TokenKind.TheVariants as tk
-use Rattle.token.specs.declared.literal.NumberLit.{NumberLit}
 use Rattle.token.specs.declared.names.Here.{Here}
 use Rattle.token.specs.declared.walk.Stand.{Stand}
 use Rattle.token.proofs.byte_class.Laws.{class-start, class-sign, class-digit, class-tick, class-keyword}
 use Rattle.token.proofs.cursor.Bytes.{inside}
-use Rattle.token.proofs.form.Shapes.{int-size, long-size, str-size}
+use Rattle.token.proofs.form.Shapes.{int-size, str-size}
 use Rattle.token.proofs.keyword.Laws.{word-at, first-none}
-use Rattle.token.proofs.literal.Laws.{int-found, long-found, digit-alone}
+use Rattle.token.proofs.digits.Alone.{digit-alone}
 use Rattle.token.proofs.names.Ascii.{isStart, word-bare, word-left, word-scan, word-found, run-to, run-found, run-counts}
 use Rattle.token.proofs.names.Bytes.{Stops, class-inside}
 use Rattle.token.proofs.names.Laws.{name-rest, word-plain, operator-rest, operator-token, operator-cut, operator-comment, run-clear, run-plain}
 use Rattle.token.proofs.ident.Laws.{quote-byte, token-at}
-use Rattle.token.proofs.symbol.Laws.{symbol-found}
-use Rattle.token.proofs.walk.Pieces.{or-first, by-class, step-valued, step-bare, step-ascii}
+use Rattle.token.proofs.charsym.Laws.{tick-byte}
+use Rattle.token.proofs.lexer.Laws.{number_at, charsym-at}
+use Rattle.token.proofs.walk.Pieces.{or-first, by-class, found-here, step-valued, step-bare, step-ascii}
 open code_laws use {carry}
 open text-laws use {place-from}
 
@@ -146,25 +145,17 @@ module _ {s : List ℕ} {x : Stand} (g : Good s x) (k : eqb x.class.number digit
   pub digit-inside : x.at < length s
   digit-inside = class-inside s x.at (λ z. eqb z digitClass) refl (by-class g (λ z. eqb z digitClass) k)
 
-  -- a number ends past where the walk stands
-  module _ (r : NumberLit) (q : r ≡ literalOf s x.at) where
-    pub int-on : r.long ≡ false → r.value ≤ 2147483647 → x.at < r.end
-    int-on f l = (int-found s x.at digit-inside digit-here r q f l).0
+  -- the number that stands there is what the scanner finds, and ends past where the walk stands
+  module _ (t : TokenKind) (e : Cursor) (f : tokenTo t e ≡ pieceOf (length s) (scanNumber (from s x.at))) where
+    number-found : tokenTo t (cursorAt e.at) ≡ pieceOf (length s) (scan (length s) (from s x.at))
+    number-found = f ∙ ap (pieceOf (length s)) (sym (number_at s x.at digit-inside digit-here))
 
-    pub long-on : r.long ≡ true → r.value ≤ 9223372036854775807 → x.at < r.end
-    long-on f l = (long-found s x.at digit-inside digit-here r q f l).0
+    pub number-on : x.at < e.at
+    number-on = (found-here s x e.at t digit-inside number-found).on
 
-  pub step-int : (r : NumberLit) → r ≡ literalOf s x.at → r.long ≡ false → r.value ≤ 2147483647 → (out next : List ℕ)
-      → next ≡ storedIf out x.bytes (byForm (formOf (tk.IntLit r.value)) x.at r.end x.cut) → Steps s x out (valuesBehind x (hereOf s r.end) intLength) next
-  step-int r q f l out next z =
-      let u = int-found s x.at digit-inside digit-here r q f l in
-      step-valued g digit-inside (tk.IntLit r.value) r.end u.2 intLength (int-size r.value) (int-size r.value) out next z
-
-  pub step-long : (r : NumberLit) → r ≡ literalOf s x.at → r.long ≡ true → r.value ≤ 9223372036854775807 → (out next : List ℕ)
-      → next ≡ storedIf out x.bytes (byForm (formOf (tk.LongLit r.value)) x.at r.end x.cut) → Steps s x out (valuesBehind x (hereOf s r.end) longLength) next
-  step-long r q f l out next z =
-      let u = long-found s x.at digit-inside digit-here r q f l in
-      step-valued g digit-inside (tk.LongLit r.value) r.end u.2 longLength (long-size r.value) (long-size r.value) out next z
+    pub step-number : (l : ℕ) → headLength + (l - headLength) ≡ recordLength t → l ≡ recordLength t → (out next : List ℕ)
+        → next ≡ storedIf out x.bytes (byForm (formOf t) x.at e.at x.cut) → Steps s x out (valuesBehind x (hereOf s e.at) l) next
+    step-number l p r out next z = step-valued g digit-inside t e.at number-found l p r out next z
 
   pub step-digit : (e : Here) → e ≡ hereOf s (x.at + 1) → inWord e.class.number ≡ false → (v : ℕ) → v ≡ digitValue (get_or s x.at 0) → (out next : List ℕ)
       → next ≡ storedIf out x.bytes (byForm (formOf (tk.IntLit v)) x.at e.at x.cut) → Steps s x out (valuesBehind x e intLength) next
@@ -186,13 +177,20 @@ module _ {s : List ℕ} {x : Stand} (g : Good s x) (k : eqb x.class.number tickC
   pub tick-here : get_or s x.at 0 ≡ 0x27
   tick-here = oneOf 0x27 (sym (class-tick (get_or s x.at 0)) ∙ by-class g (λ z. eqb z tickClass) k)
 
-  pub symbol-on : (e : ℕ) → Some e ≡ charSymEnd s x.at → x.at < e
-  symbol-on e q = (symbol-found s x.at e tick-inside tick-here q).0
+  pub tick-opens : apostrophe (from s x.at) ≡ true
+  tick-opens = tick-byte s x.at ∙ eq-eqb (get_or s x.at 0) 0x27 tick-here
 
-  pub step-symbol : (e : ℕ) → Some e ≡ charSymEnd s x.at → (out next : List ℕ)
-      → next ≡ storedIf out x.bytes (byForm (plainForm 7) x.at e x.cut) → Steps s x out (plainBehind x (hereOf s e)) next
-  unfolding values
-  step-symbol e q out next z = step-bare g tick-inside tk.CharSym e (symbol-found s x.at e tick-inside tick-here q).2 refl out next z
+  -- the character or symbol that stands there is what the scanner finds, and ends past where the walk stands
+  module _ (e : Cursor) (f : tokenTo tk.CharSym e ≡ pieceOf (length s) (scanCharSym (from s x.at))) where
+    symbol-found : tokenTo tk.CharSym (cursorAt e.at) ≡ pieceOf (length s) (scan (length s) (from s x.at))
+    symbol-found = f ∙ ap (pieceOf (length s)) (sym (charsym-at s x.at tick-inside tick-opens))
+
+    pub symbol-on : x.at < e.at
+    symbol-on = (found-here s x e.at tk.CharSym tick-inside symbol-found).on
+
+    pub step-symbol : (out next : List ℕ) → next ≡ storedIf out x.bytes (byForm (plainForm 7) x.at e.at x.cut) → Steps s x out (plainBehind x (hereOf s e.at)) next
+    unfolding values
+    step-symbol out next z = step-bare g tick-inside tk.CharSym e.at symbol-found refl out next z
 
 -- ---- words
 

@@ -1,17 +1,19 @@
 -- What `charsym` answers: characters and symbols, by what follows the `'`.
-use Rattle.std.specs.Prelude.{false, cond, not, ◌&&◌, drop}
+use Rattle.std.specs.Prelude.{ℕ, false, cond, not, ◌&&◌, drop, Option, Some, None}
 use Rattle.chars.specs.paper.Classes.{isIdStart}
-use Rattle.chars.specs.paper.Text.{Text, headIs}
+use Rattle.chars.specs.paper.Text.{Text, place, headIs}
 use Rattle.chars.specs.computed.Runs.{afterRun}
-use Rattle.token.specs.paper.Tests.{isAny, opSign, freeSign}
+use Rattle.token.specs.paper.Tests.{isAny, apostrophe, plainChar, opSign, freeSign, opensComment}
 use Rattle.token.specs.computed.Answer.{Found, afterSlash, afterIdent, escapedOf}
+use Rattle.token.specs.code.Cursor.{cursorAt}
+use Rattle.token.specs.declared.cursor.Cursor.{Cursor}
 use Rattle.token.specs.declared.kinds.TokenKind.TheVariants as tk
 
 -- an escape, from behind its backslash
 abbrev pub escapedChar : Text → Found
 escapedChar m = escapedOf m (afterSlash m)
 
--- no character: a symbol, or refusal 16
+-- a symbol, or refusal 16
 unfoldable pub symbolOf : Text → Found
 symbolOf m =
     let word = Found.token tk.CharSym (afterIdent false (drop 1 m)) in
@@ -20,3 +22,17 @@ symbolOf m =
     (cond (freeSign m) run
     (cond (isAny ";" m && not (opSign (drop 1 m))) (Found.token tk.CharSym (drop 1 m))
     (Found.stuck 16 m)))
+
+-- a character that is no escape, or a symbol, or refusal 16
+unfoldable pub plainOf : Text → Found
+plainOf m = cond (plainChar m && apostrophe (drop 1 m)) (Found.token tk.CharSym (drop 2 m)) (symbolOf m)
+
+-- where what is found ends; none, where nothing is
+abbrev pub endOf : ℕ → Found → Option Cursor
+endOf n (Found.token k r) = Some (cursorAt (place n r))
+endOf n (Found.stuck j q) = None
+endOf n (Found.gap g r) = None
+
+-- where a run of operator signs ends; none, where a comment begins
+unfoldable pub runSymbolEnd : ℕ → Text → Option Cursor
+runSymbolEnd n m = cond (opensComment m) None (Some (cursorAt (place n (afterRun freeSign m))))

@@ -1,10 +1,13 @@
 -- What `digits` answers.
-use Rattle.std.specs.Prelude.{ℕ, zero, suc, Bool, cond, [], ◌∷◌, eqb, leb, Option, Some, None}
+use Rattle.std.specs.Prelude.{ℕ, zero, suc, ◌≡◌, ◌⊎◌, ◌+◌, Bool, cond, [], ◌∷◌, eqb, leb}
+use Rattle.chars.specs.paper.Quoted.{oneOf}
 use Rattle.chars.specs.paper.Text.{Text}
 use Rattle.token.specs.paper.Tests.{isDigit, isHexDigit, digitValue}
 use Rattle.token.specs.declared.kinds.TokenKind.TheVariants as tk
 use Rattle.token.specs.declared.cursor.Cursor.{Cursor}
+use Rattle.token.specs.declared.digits.DigitRun.{DigitRun}
 use Rattle.token.specs.declared.refusal.Refusal.TheVariants as refusal
+use Rattle.token.specs.code.Cursor.{cursorAt}
 use Rattle.token.specs.code.Piece.{PieceAnswer, tokenTo}
 use Rattle.token.specs.code.Refusal.{refusedFor}
 
@@ -24,10 +27,18 @@ afterUpTo p (suc m) (c ∷ s) =
     let rest = afterUpTo p m s in
     cond (p c.code) rest (c ∷ s)
 
--- a value of at most 9223372036854775807, or none
-unfoldable pub valueOf : ℕ → Option ℕ
-valueOf v = cond (leb v 9223372036854775807) (Some v) None
+-- so many digits of a base fit 64 bits, so that their value needs no test; with one more, no zero first, it is above every most
+abbrev pub Untested : ℕ → ℕ → Type 0
+Untested base most = ((base ≡ 10) × (most ≡ 19)) ⊎ ((base ≡ 16) × (most ≡ 16))
 
 -- an IntLit that ends at a cursor, at most 2147483647, else refusal 6 at the number's start
 unfoldable pub intOr : ℕ → ℕ → Cursor → PieceAnswer
 intOr start v end = cond (leb v 2147483647) (tokenTo (tk.IntLit v) end) (refusedFor refusal.LargeNumber start)
+
+-- a LongLit that ends at a cursor, at most 9223372036854775807, else refusal 6 at the number's start
+unfoldable pub longOr : ℕ → ℕ → Cursor → PieceAnswer
+longOr start v end = cond (leb v 9223372036854775807) (tokenTo (tk.LongLit v) end) (refusedFor refusal.LargeNumber start)
+
+-- the number that begins at a place and has these digits, with the `L` or `l` behind them
+unfoldable pub numberBy : ℕ → DigitRun → PieceAnswer
+numberBy start r = cond (oneOf "Ll" r.next) (longOr start r.value (cursorAt (r.end + 1))) (intOr start r.value (cursorAt r.end))

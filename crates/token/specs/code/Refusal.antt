@@ -1,6 +1,8 @@
 -- What `refusal` has: the numbers of refusals, and a refusal by its number.
 -- `Refused` here is the code's struct (`src/refusal.rt`), not the paper's `Refused` (`paper/Refusals`).
-use Rattle.std.specs.Prelude.{ℕ, if◌then◌else◌, ◌==◌, Result, Err}
+use Rattle.std.specs.Prelude.{ℕ, ◌≡◌, true, if◌then◌else◌, ◌==◌, List, Result, Err}
+use Rattle.chars.specs.paper.Text.{Text}
+use Rattle.token.specs.computed.Answer.{Found, scan, scanNumber, scanIdent, scanOperator, scanBacktick, scanString, scanCharSym, prefixedOf, closeString, broken, afterSlash, refused, answer}
 use Rattle.token.specs.declared.refusal.Refusal.{Refusal}
 use Rattle.token.specs.declared.refusal.Refusal.TheVariants as refusal
 use Rattle.token.specs.declared.refusal.Refused.{Refused}
@@ -49,3 +51,23 @@ refusedFor what place = Err (record { what = what; place = place })
 
 abbrev pub refusedBy : {A : Type 0} → ℕ → ℕ → Result A Refused
 refusedBy j place = refusedFor (refusalBy j) place
+
+-- j is the number of a refusal: the one that is told for it has it
+abbrev pub OfRefusal : ℕ → Type 0
+OfRefusal j = refusalNumber (refusalBy j) ≡ j
+
+-- Whatever a scanner refuses with is the number of a refusal, so that a reader's answer, which `refusedBy` says, tells it. The contract of
+-- `Refusal::number` asks for it.
+pub record Numbered : Type 0 where
+  pub piece : (n : ℕ) (s q : Text) (j : ℕ) → scan n s ≡ Found.stuck j q → OfRefusal j
+  pub number : (s q : Text) (j : ℕ) → scanNumber s ≡ Found.stuck j q → OfRefusal j
+  pub ident : (n : ℕ) (s q : Text) (j : ℕ) → scanIdent n s ≡ Found.stuck j q → OfRefusal j
+  pub operator : (s q : Text) (j : ℕ) → scanOperator s ≡ Found.stuck j q → OfRefusal j
+  pub backtick : (n : ℕ) (s q : Text) (j : ℕ) → scanBacktick n s ≡ Found.stuck j q → OfRefusal j
+  pub string : (n : ℕ) (s q : Text) (j : ℕ) → scanString n s ≡ Found.stuck j q → OfRefusal j
+  -- a string from r on that what stands from s on prefixes
+  pub prefixed : (n : ℕ) (s r q : Text) (j : ℕ) → prefixedOf n s (closeString true r) ≡ Found.stuck j q → OfRefusal j
+  pub symbol : (s q : Text) (j : ℕ) → scanCharSym s ≡ Found.stuck j q → OfRefusal j
+  -- an escape from behind its backslash
+  pub escape : (s q : Text) (j : ℕ) → afterSlash s ≡ broken j q → OfRefusal j
+  pub script : (s : List ℕ) (j a : ℕ) → answer s ≡ refused j a → OfRefusal j

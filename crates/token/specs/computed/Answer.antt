@@ -1,7 +1,7 @@
 -- The answer for a script, computed: its tokens with their values, or a refusal's number and place. With the declared part it shares: the
 -- script as a text and a text's place (`from`, `place`); the character classes; the tests of what a text begins with, and a digit's value
 -- (`Tests`); the keywords' texts (`wordOf`, `runOf`); what a token is (`Token`). Of shapes, readings, values, marks, cuts and refusals it shares
--- nothing. With the code it shares the enums `Kw` and `TokenKind` and the struct `Gap`.
+-- nothing. With the code it shares the enums `Kw` and `TokenKind`.
 use Rattle.std.specs.Prelude.{ℕ, zero, suc, ◌+◌, ◌*◌, ◌-◌, Bool, true, false, cond, not, ◌&&◌, ◌||◌, List, [], ◌∷◌, map, reverse, length, take, drop, eqb, leb}
 use Rattle.std.proofs.Math.Option.{Option, none, some}
 use Rattle.chars.specs.paper.Text.{Char, Text, from, place, headIs}

@@ -94,6 +94,7 @@ abbrev pub mostBytes : ℕ
 mostBytes = 16777216
 
 -- A script of n bytes needs at most 17 times n plus 13 bytes: no byte of it needs more than a digit's IntLit, and Eof is without values.
+-- The empty script and a script of one digit need all of it, 13 and 30 bytes.
 abbrev pub perByte : ℕ
 perByte = intLength
 

@@ -8,6 +8,6 @@ loop-k-init c = (omega arith, sym (walked_none _ _ _), sym (walked_none _ _ _))
 pub loop-k-preserved : goal.loop-k-preserved
 loop-k-preserved c = (
   omega arith,
-  walked_more _ _ _ _ c.loop-k.invariant.1 c.bytes_of-bytes.ensures.value c.valid_prefix-answer.ensures.value.0 c.tally.ensures,
-  walked_more _ _ _ _ c.loop-k.invariant.2 c.bytes_of-bytes.ensures.value c.valid_prefix-answer.ensures.value.0 c.tally-in-loop-k.ensures,
+  walked_more _ _ _ _ c.loop-k.invariant.1 c.bytes_of-bytes.ensures.value c.valid_prefix-answer.ensures.value c.tally.ensures,
+  walked_more _ _ _ _ c.loop-k.invariant.2 c.bytes_of-bytes.ensures.value c.valid_prefix-answer.ensures.value c.tally-in-loop-k.ensures,
 )

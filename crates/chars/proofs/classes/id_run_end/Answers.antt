@@ -1,11 +1,10 @@
--- Each turn passes an id character of ASCII, a Russian letter, or another character that is decoded.
+-- Each turn passes an id character of ASCII, or another character that is decoded.
 use Rattle.std.proofs.Common.{sym, ap, ◌∙◌, arith}
 use Rattle.chars.specs.paper.Classes.{isIdChar}
 use Rattle.chars.specs.paper.Text.{from, idChar}
 use Rattle.chars.specs.computed.Runs.{afterRun}
 use Rattle.chars.proofs.text.Places.{step-text, next-on, runs-on, runs-out, runs-end}
-use Rattle.chars.proofs.classes.Cyrillic.{russian}
-use Rattle.chars.proofs.classes.IdRuns.{id-on, id-out, russian-on}
+use Rattle.chars.proofs.classes.IdRuns.{id-on, id-out}
 use Rattle.chars.proofs.classes.id_run_end.Goals as goal
 
 pub returns-then-not-is_id_byte : goal.returns-then-not-is_id_byte
@@ -16,17 +15,13 @@ pub loop-i-preserved-then-s-i-lt128 : goal.loop-i-preserved-then-s-i-lt128
 loop-i-preserved-then-s-i-lt128 c =
     id-on c.args.s.now c.loop-i.i _ c.loop-i-test.true c.is_id_byte.ensures c.if-not-is_id_byte.false c.loop-i.invariant
 
-pub loop-i-preserved-then-is_cyrillic_at : goal.loop-i-preserved-then-is_cyrillic_at
-loop-i-preserved-then-is_cyrillic_at c =
-    russian-on c.args.s.now c.loop-i.i _ (russian c.args.s.now c.loop-i.i (sym c.is_cyrillic_at.ensures ∙ c.if-is_cyrillic_at.true)) c.loop-i.invariant
-
 pub returns-then-not-is_id_char : goal.returns-then-not-is_id_char
 returns-then-not-is_id_char c =
     let t = step-text c.args.s.now c.loop-i.i _ _ c.in-Some.ensures.value in
     runs-out isIdChar c.args.s.now c.loop-i.i _ t.0 (ap isIdChar t.1 ∙ sym c.is_id_char.ensures ∙ c.if-not-is_id_char.true) c.loop-i.invariant
 
-pub overflow_add-i-else-is_cyrillic_at : goal.overflow_add-i-else-is_cyrillic_at
-overflow_add-i-else-is_cyrillic_at c =
+pub overflow_add-i-else-s-i-lt128 : goal.overflow_add-i-else-s-i-lt128
+overflow_add-i-else-s-i-lt128 c =
     let t = step-text c.args.s.now c.loop-i.i _ _ c.in-Some.ensures.value in
     let n = next-on c.args.s.now c.loop-i.i t.0 in
     omega (arith, t.2)

@@ -1,5 +1,7 @@
 -- The laws hold of whatever is decoded.
+use Rattle.std.proofs.Common.{drop, arith}
 use Rattle.chars.proofs.utf8.Stands.{stands}
+use Rattle.chars.proofs.utf8.Widths.{width-most, width-within}
 use Rattle.chars.proofs.theorems.Promises.{decoding}
 use Rattle.chars.proofs.theorems.Encodes.{encoding-laws}
 use Rattle.chars.proofs.utf8.decode.Goals as goal
@@ -11,7 +13,11 @@ pub returns-in_err-width-clause-encoding_laws : goal.returns-in_err-width-clause
 returns-in_err-width-clause-encoding_laws c = encoding-laws
 
 pub code_at-requires : goal.code_at-requires
-code_at-requires c = (stands _ _ _ c.in_ok-width.ensures).within
+code_at-requires c =
+    let t = stands c.args.s.now c.args.at _ c.in_ok-width.ensures in
+    let m = width-most (drop c.args.at c.args.s.now) in
+    let l = width-within c.args.s.now c.args.at (omega (arith, t.within)) in
+    record { some = omega (arith, t.is, t.least); most = omega (arith, t.is, m.0); within = omega (arith, t.is, l) }
 
 pub returns-clause-decoding : goal.returns-clause-decoding
 returns-clause-decoding c = decoding _ _

@@ -23,14 +23,11 @@ loop-i-preserved-then-pair_in c =
     let o = valid-row (later here) c.args.s.now c.loop-i.i c.pair_in.ensures c.if-pair_in.true in
     record { within = o.within; same = o.same ∙ c.loop-i.invariant.same }
 
-pub returns-in_default-clause-value : goal.returns-in_default-clause-value
-returns-in_default-clause-value c =
+pub returns-in_default : goal.returns-in_default
+returns-in_default c =
     let s = c.args.s.now in
     let e = sym (valid-stop s _ c.loop-i-test.true (nothing s _ c.in_default.ensures)) ∙ c.loop-i.invariant.same in
-    (e, rw e (valid s))
-
-pub returns-in_default-clause-valid_laws : goal.returns-in_default-clause-valid_laws
-returns-in_default-clause-valid_laws c = valid-laws
+    record { value = e; longest = rw e (valid s); valid_laws = valid-laws }
 
 pub loop-i-smaller-then-w-eq3 : goal.loop-i-smaller-then-w-eq3
 loop-i-smaller-then-w-eq3 c =
@@ -70,4 +67,4 @@ pub returns : goal.returns
 returns c =
     let s = c.args.s.now in
     let e = sym (valid-end s _ c.loop-i-test.false) ∙ c.loop-i.invariant.same in
-    record { value = (e, rw e (valid s)); valid_laws = valid-laws }
+    record { value = e; longest = rw e (valid s); valid_laws = valid-laws }

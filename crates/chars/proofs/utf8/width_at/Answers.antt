@@ -8,7 +8,7 @@ pub returns-then-s-at : goal.returns-then-s-at
 returns-then-s-at c = past_end _ _ c.if-s-at.true
 
 pub returns-in-224 : goal.returns-in-224
-returns-in-224 c = found-if _ _ _ c.if-s-at.false c.then_some.ensures c.pair_in.ensures (row-E0 _ _ c.in-224.is)
+returns-in-224 c = found-if _ _ _ c.if-s-at.false c.then_some-in-224.ensures c.pair_in.ensures (row-E0 _ _ c.in-224.is)
 
 pub returns-in-237 : goal.returns-in-237
 returns-in-237 c = found-if _ _ _ c.if-s-at.false c.then_some-in-237.ensures c.pair_in-in-237.ensures (row-ED _ _ c.in-237.is)
@@ -23,7 +23,7 @@ pub returns-in-0-to-127 : goal.returns-in-0-to-127
 returns-in-0-to-127 c = found _ _ _ c.if-s-at.false (row-00 _ _ (omega arith) (omega arith))
 
 pub returns-in-194-to-223 : goal.returns-in-194-to-223
-returns-in-194-to-223 c = found-if _ _ _ c.if-s-at.false c.then_some-in-194-to-223.ensures c.byte_in.ensures (row-C2 _ _ (omega arith) (omega arith))
+returns-in-194-to-223 c = found-if _ _ _ c.if-s-at.false c.then_some.ensures c.byte_in.ensures (row-C2 _ _ (omega arith) (omega arith))
 
 pub returns-in-225-to-236 : goal.returns-in-225-to-236
 returns-in-225-to-236 c = found-if _ _ _ c.if-s-at.false c.then_some-in-225-to-236.ensures c.pair_in-in-225-to-236.ensures (row-E1 _ _ (omega arith) (omega arith))
@@ -39,3 +39,6 @@ returns-in_default c = not-found _ _ c.if-s-at.false (none-low _ _ (omega arith)
 
 pub returns-in_default-2 : goal.returns-in_default-2
 returns-in_default-2 c = not-found _ _ c.if-s-at.false (none-high _ _ (omega arith))
+
+pub returns-in_default-s-2 : goal.returns-in_default-s-2
+returns-in_default-s-2 c = not-found _ _ c.if-s-at.false (none-high _ _ (omega arith))

@@ -1,46 +1,44 @@
--- Past the underscores, then past the id characters; where none stand, signs follow underscores.
-use Rattle.std.proofs.Common.{cond, false, ltb, le-ltb, lt-ltb, arith, sym, ap, ◌∙◌}
+-- Underscores are passed one by one, id characters by runs; where neither stands, signs follow underscores.
+use Rattle.std.proofs.Common.{cond, arith, sym, ap, ◌∙◌}
 use Rattle.chars.specs.paper.Text.{from}
 use Rattle.chars.specs.computed.Runs.{afterRun}
 use Rattle.token.specs.paper.Tests.{opSign}
-use Rattle.token.proofs.ident.Laws.{unders-to, pass-ids, pass-none}
+use Rattle.token.proofs.ident.Laws.{under-inside, pass-under, pass-ids, pass-none}
 use Rattle.token.proofs.ident.consume_id_rest.Goals as goal
 
-pub returns-then-behind-chunk : goal.returns-then-behind-chunk
-returns-then-behind-chunk c =
+pub loop-left-preserved : goal.loop-left-preserved
+loop-left-preserved c =
     let s = c.args.s.now in
-    let chunk = c.loop-chunk.chunk in
-    let behind = c.run_end-behind.result in
-    let w = c.loop-chunk.invariant in
-    let u = unders-to s chunk behind w.0 c.run_end-behind.ensures in
-    let q = pass-none s behind (ltb chunk behind) u.1 (sym c.if-end-behind.true ∙ c.id_run_end-end.ensures) u.3 in
-    let x = le-ltb chunk behind (omega (arith, c.if-behind-chunk.true)) in
-    (w.0, ap (from s) (sym c.if-behind-chunk.true) ∙ sym (q ∙ ap (λ b. cond b (afterRun opSign (from s behind)) (from s behind)) x) ∙ u.2 ∙ w.1)
+    let i = c.loop-left.i in
+    let e = sym c.byte_at.ensures ∙ c.if-byte_at-eq95.true in
+    (omega arith, omega (arith, under-inside s i e), pass-under s i c.loop-left.left e ∙ c.loop-left.invariant.2)
 
-pub consume_signs-requires : goal.consume_signs-requires
-consume_signs-requires c = (unders-to c.args.s.now c.loop-chunk.chunk _ c.loop-chunk.invariant.0 c.run_end-behind.ensures).1
+pub chunks-smaller : goal.chunks-smaller
+chunks-smaller c =
+    let p = pass-ids c.args.s.now c.loop-left.i c.loop-left.left _ c.loop-left.invariant.1 c.id_run_end-end.ensures c.if-end-i.false in
+    omega (arith, p.0, p.1)
 
-pub returns-then-end-behind : goal.returns-then-end-behind
-returns-then-end-behind c =
+pub chunks-preserved : goal.chunks-preserved
+chunks-preserved c =
+    let p = pass-ids c.args.s.now c.loop-left.i c.loop-left.left _ c.loop-left.invariant.1 c.id_run_end-end.ensures c.if-end-i.false in
+    (p.1, p.2 ∙ c.loop-left.invariant.2)
+
+pub returns-then-left : goal.returns-then-left
+returns-then-left c =
     let s = c.args.s.now in
-    let chunk = c.loop-chunk.chunk in
-    let behind = c.run_end-behind.result in
-    let w = c.loop-chunk.invariant in
-    let u = unders-to s chunk behind w.0 c.run_end-behind.ensures in
-    let q = pass-none s behind (ltb chunk behind) u.1 (sym c.if-end-behind.true ∙ c.id_run_end-end.ensures) u.3 in
-    let x = lt-ltb chunk behind (omega (arith, u.0, c.if-behind-chunk.false)) in
-    (c.consume_signs.ensures.within, c.consume_signs.ensures.rest ∙ sym (q ∙ ap (λ b. cond b (afterRun opSign (from s behind)) (from s behind)) x) ∙ u.2 ∙ w.1)
+    let i = c.loop-left.i in
+    let q = pass-none s i c.loop-left.left c.loop-left.invariant.1 (sym c.if-end-i.true ∙ c.id_run_end-end.ensures) (λ e. c.if-byte_at-eq95.false (c.byte_at.ensures ∙ e)) in
+    record {
+      within = c.consume_signs.ensures.within;
+      rest = c.consume_signs.ensures.rest ∙ sym (q ∙ ap (λ u. cond u (afterRun opSign (from s i)) (from s i)) c.if-left.true) ∙ c.loop-left.invariant.2;
+    }
 
-pub loop-chunk-preserved : goal.loop-chunk-preserved
-loop-chunk-preserved c =
+pub returns : goal.returns
+returns c =
     let s = c.args.s.now in
-    let w = c.loop-chunk.invariant in
-    let u = unders-to s c.loop-chunk.chunk c.run_end-behind.result w.0 c.run_end-behind.ensures in
-    let p = pass-ids s c.run_end-behind.result (ltb c.loop-chunk.chunk c.run_end-behind.result) _ u.1 c.id_run_end-end.ensures c.if-end-behind.false in
-    (p.1, p.2 ∙ u.2 ∙ w.1)
-
-pub loop-chunk-smaller : goal.loop-chunk-smaller
-loop-chunk-smaller c =
-    let u = unders-to c.args.s.now c.loop-chunk.chunk c.run_end-behind.result c.loop-chunk.invariant.0 c.run_end-behind.ensures in
-    let p = pass-ids c.args.s.now c.run_end-behind.result false _ u.1 c.id_run_end-end.ensures c.if-end-behind.false in
-    omega (arith, u.0, p.0, p.1)
+    let i = c.loop-left.i in
+    let q = pass-none s i c.loop-left.left c.loop-left.invariant.1 (sym c.if-end-i.true ∙ c.id_run_end-end.ensures) (λ e. c.if-byte_at-eq95.false (c.byte_at.ensures ∙ e)) in
+    record {
+      within = c.loop-left.invariant.1;
+      rest = sym (q ∙ ap (λ u. cond u (afterRun opSign (from s i)) (from s i)) c.if-left.false) ∙ c.loop-left.invariant.2;
+    }

@@ -1,14 +1,17 @@
--- What follows the rest from the chunk on is what follows it from the start on.
-use Prim.Native.Nat.{◌≤◌, ◌-◌}
-use mathlib.Core.Path.{◌≡◌}
-use mathlib.Core.Bool.{false}
-use lib.ListN.{length}
+-- Both loops keep what follows the rest from its place on, an underscore last before it or not.
+use Rattle.std.proofs.Common.{◌≡◌, ◌≤◌, ◌-◌, length}
 use Rattle.chars.specs.paper.Text.{from}
 use Rattle.token.specs.computed.Answer.{afterIdent}
 use Rattle.token.proofs.ident.consume_id_rest.Given as goal
 
-abbrev pub invariant-loop-chunk : goal.invariant-loop-chunk
-invariant-loop-chunk l = (l.chunk ≤ length l.s) × (afterIdent false (from l.s l.chunk) ≡ afterIdent false (from l.s l.initial.chunk))
+abbrev pub invariant-loop-left : goal.invariant-loop-left
+invariant-loop-left l = (l.initial.i ≤ l.i) × (l.i ≤ length l.s) × (afterIdent l.left (from l.s l.i) ≡ afterIdent l.low (from l.s l.fn.c.at))
 
-abbrev pub decreases-loop-chunk : goal.decreases-loop-chunk
-decreases-loop-chunk l = length l.s - l.chunk
+abbrev pub decreases-loop-left : goal.decreases-loop-left
+decreases-loop-left l = length l.s - l.i
+
+abbrev pub invariant-chunks : goal.invariant-chunks
+invariant-chunks l = (l.i ≤ length l.s) × (afterIdent l.left (from l.s l.i) ≡ afterIdent l.low (from l.s l.fn.c.at))
+
+abbrev pub decreases-chunks : goal.decreases-chunks
+decreases-chunks l = length l.s - l.i

@@ -7,8 +7,8 @@ use Rattle.chars.specs.computed.Runs.{afterRun}
 use Rattle.token.specs.paper.Tests.{freeSign}
 use Rattle.token.proofs.ident.consume_op_run.Given as goal
 
-abbrev pub invariant-loop-d : goal.invariant-loop-d
-invariant-loop-d l = (l.d.at ≤ length l.s) × (afterRun freeSign (from l.s l.d.at) ≡ afterRun freeSign (from l.s l.initial.d.at))
+abbrev pub invariant-loop-next : goal.invariant-loop-next
+invariant-loop-next l = (l.d.at ≤ length l.s) × (afterRun freeSign (from l.s l.d.at) ≡ afterRun freeSign (from l.s l.initial.d.at))
 
-abbrev pub decreases-loop-d : goal.decreases-loop-d
-decreases-loop-d l = length l.s - l.d.at
+abbrev pub decreases-loop-next : goal.decreases-loop-next
+decreases-loop-next l = length l.s - l.d.at

@@ -7,8 +7,8 @@ use Rattle.chars.specs.computed.Runs.{afterRun}
 use Rattle.token.specs.paper.Tests.{opSign}
 use Rattle.token.proofs.ident.consume_signs.Given as goal
 
-abbrev pub invariant-loop-i : goal.invariant-loop-i
-invariant-loop-i l = (l.i ≤ length l.s) × (afterRun opSign (from l.s l.i) ≡ afterRun opSign (from l.s l.initial.i))
+abbrev pub invariant-loop-next : goal.invariant-loop-next
+invariant-loop-next l = (l.i ≤ length l.s) × (afterRun opSign (from l.s l.i) ≡ afterRun opSign (from l.s l.initial.i))
 
-abbrev pub decreases-loop-i : goal.decreases-loop-i
-decreases-loop-i l = length l.s - l.i
+abbrev pub decreases-loop-next : goal.decreases-loop-next
+decreases-loop-next l = length l.s - l.i

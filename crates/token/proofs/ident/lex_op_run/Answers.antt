@@ -13,7 +13,7 @@ pub run_number-requires : goal.run_number-requires
 run_number-requires c =
     let s = c.args.s.now in
     let e = c.consume_op_run-end.ensures in
-    let l = left-to s c.args.c.at _ _ c.requires e.within e.rest (run-left freeSign (from s c.args.c.at)) in
+    let l = left-to s c.args.c.at _ _ c.requires.within e.within (e.rest ∙ c.requires.rest_same) (run-left freeSign (from s c.args.c.at)) in
     record { order = l.0; within = l.1; suffix = l.2 }
 
 pub returns-then-opens_comment : goal.returns-then-opens_comment
@@ -22,7 +22,7 @@ returns-then-opens_comment c =
     let e = c.consume_op_run-end.ensures in
     let r = from s c.consume_op_run-end.result.at in
     let key = key-is _ c.in-Some.k (told-by 2 by-op _ _ _ c.run_number.ensures c.in-Some.ensures) in
-    let q = scan-run (from s c.args.c.at) r (some c.in-Some.k) e.rest key in
+    let q = scan-run (from s c.args.c.at) r (some c.in-Some.k) (e.rest ∙ c.requires.rest_same) key in
     token-at s tk.OpId _ r e.within refl ∙ ap (pieceOf (length s)) (sym (q ∙ run-before r c.in-Some.k (sym c.if-opens_comment.ensures)))
 
 pub returns-else-opens_comment : goal.returns-else-opens_comment
@@ -31,7 +31,7 @@ returns-else-opens_comment c =
     let e = c.consume_op_run-end.ensures in
     let r = from s c.consume_op_run-end.result.at in
     let key = key-is _ c.in-Some.k (told-by 2 by-op _ _ _ c.run_number.ensures c.in-Some.ensures) in
-    let q = scan-run (from s c.args.c.at) r (some c.in-Some.k) e.rest key in
+    let q = scan-run (from s c.args.c.at) r (some c.in-Some.k) (e.rest ∙ c.requires.rest_same) key in
     token-at s (tk.Kw c.in-Some.k) _ r e.within refl ∙ ap (pieceOf (length s)) (sym (q ∙ run-alone r c.in-Some.k (sym c.if-opens_comment.ensures)))
 
 pub returns-in-None : goal.returns-in-None
@@ -40,4 +40,4 @@ returns-in-None c =
     let e = c.consume_op_run-end.ensures in
     let r = from s c.consume_op_run-end.result.at in
     let key = key-not _ (told-by 2 by-op _ _ _ c.run_number.ensures c.in-None.ensures) in
-    token-at s tk.OpId _ r e.within refl ∙ ap (pieceOf (length s)) (sym (scan-run (from s c.args.c.at) r none e.rest key))
+    token-at s tk.OpId _ r e.within refl ∙ ap (pieceOf (length s)) (sym (scan-run (from s c.args.c.at) r none (e.rest ∙ c.requires.rest_same) key))

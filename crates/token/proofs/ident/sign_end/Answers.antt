@@ -1,22 +1,27 @@
--- Below 0x80 the byte decides, from there on the character.
-use Rattle.std.proofs.Common.{◌+◌, arith, sym}
-use Rattle.chars.specs.paper.Classes.{isOpSign}
-use Rattle.chars.proofs.theorems.Promises.{text-laws}
-use Rattle.token.proofs.ident.Laws.{head-inside, sign-here, past-on, past-off}
+-- By the class of the byte, and past ASCII by three bytes.
+use Rattle.std.proofs.Common.{◌<◌, ◌&&◌, eqb, get_or, sym, ap, ◌∙◌, arith}
+use mathlib.Core.Bool.{and-false}
+use Rattle.chars.specs.code.Classes.{arrowAt}
+use Rattle.token.specs.code.ByteClass.{classAt, wideClass, isSign}
+use Rattle.token.proofs.ident.Laws.{sign-byte-end, arrow-end, no-sign-end}
 use Rattle.token.proofs.ident.sign_end.Goals as goal
-open text-laws use {ascii-next}
+use Rattle.token.proofs.ident.sign_end.Goals.{else-eq-via-then-eq+else-is_arrow_at, else-eq-via-else-eq}
 
-pub overflow_add-result : goal.overflow_add-result
-overflow_add-result c =
-    let l = head-inside isOpSign c.args.s.now c.args.at (sign-here _ _ _ _ c.byte_at-b.ensures (omega arith) c.if-is_op_byte.ensures) in
-    omega arith
+pub returns-then-is_op : goal.returns-then-is_op
+returns-then-is_op c = sign-byte-end c.args.s.now c.args.at (ap isSign (sym c.at-class.ensures) ∙ sym c.if-is_op.ensures)
 
-pub returns-then-is_op_byte : goal.returns-then-is_op_byte
-returns-then-is_op_byte c =
-    let s = c.args.s.now in
-    let i = c.args.at in
-    let e = sign-here s i _ _ c.byte_at-b.ensures (omega arith) c.if-is_op_byte.ensures in
-    past-on isOpSign s i (i + 1) e (sym (ascii-next s i (head-inside isOpSign s i e) (omega arith)))
+pub returns-then-is_arrow_at : goal.returns-then-is_arrow_at
+returns-then-is_arrow_at c = arrow-end c.args.s.now c.args.at (sym c.if-is_arrow_at.ensures)
 
 pub returns : goal.returns
-returns c = past-off isOpSign c.args.s.now c.args.at (sign-here _ _ _ _ c.byte_at-b.ensures (omega arith) c.if-is_op_byte.ensures)
+returns c =
+    let s = c.args.s.now in
+    let i = c.args.at in
+    let h = ap isSign (sym c.at-class.ensures) ∙ sym c.if-is_op.ensures in
+    let l : get_or s i 0 < 0x100 = omega (arith, c.type_inv.s i) in
+    elim c.else-eq.branch [
+      | else-eq-via-then-eq+else-is_arrow_at w ↦
+          no-sign-end s i h (ap (λ b. eqb (classAt s i) wideClass && b) (sym w.is_arrow_at.ensures ∙ w.if-is_arrow_at.false) ∙ and-false (eqb (classAt s i) wideClass)) l
+      | else-eq-via-else-eq w ↦
+          no-sign-end s i h (ap (λ b. b && arrowAt s i) (ap (λ k. eqb k wideClass) (sym c.at-class.ensures) ∙ sym c.eq.ensures ∙ w.if-eq.false)) l
+    ]

@@ -6,7 +6,7 @@ use Rattle.token.proofs.ident.skip_id_rest.Goals as goal
 pub returns-then-byte_at-eq95 : goal.returns-then-byte_at-eq95
 returns-then-byte_at-eq95 c =
     let p = pass-run c.args.s.now c.args.c.at _ c.requires c.id_run_end-end.ensures in
-    record { within = c.consume_id_rest.ensures.0; rest = c.consume_id_rest.ensures.1 ∙ p.1 }
+    record { within = c.consume_id_rest.ensures.within; rest = c.consume_id_rest.ensures.rest ∙ p.1 }
 
 pub returns : goal.returns
 returns c =

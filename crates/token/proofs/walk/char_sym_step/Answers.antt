@@ -1,22 +1,19 @@
--- A character or symbol that is recognised; else it is left.
-use Rattle.token.proofs.walk.Laws.{plain-room, stored-as}
-use Rattle.token.proofs.walk.Words.{tick-inside, tick-here, symbol-on, step-symbol}
+-- A character or symbol; one that is refused is left.
+use Rattle.std.proofs.Common.{sym, ap, ◌∙◌}
+use Rattle.token.specs.code.Piece.{tokenTo}
+use Rattle.token.proofs.walk.Words.{tick-opens, symbol-on, step-symbol}
 use Rattle.token.proofs.walk.char_sym_step.Goals as goal
 
-pub put_if-requires : goal.put_if-requires
-put_if-requires c = plain-room c.requires.good c.requires.short _ c.plain.ensures
+pub lex_char_sym-piece-requires-clause-opens : goal.lex_char_sym-piece-requires-clause-opens
+lex_char_sym-piece-requires-clause-opens c = tick-opens c.requires.good c.requires.tick
 
-pub char_sym_end-requires-clause-within : goal.char_sym_end-requires-clause-within
-char_sym_end-requires-clause-within c = tick-inside c.requires.good c.requires.tick
-
-pub char_sym_end-requires-clause-tick : goal.char_sym_end-requires-clause-tick
-char_sym_end-requires-clause-tick c = tick-here c.requires.good c.requires.tick
-
-pub returns-clause-on : goal.returns-clause-on
-returns-clause-on c =
+pub returns-in-CharSym-clause-on : goal.returns-in-CharSym-clause-on
+returns-in-CharSym-clause-on c =
+    let f = ap (λ k. tokenTo k c.in-Ok.end) (sym c.in-CharSym.is) ∙ c.in-Ok.ensures in
     rw (c.behind.ensures, c.here_at.ensures)
-    (step-symbol c.requires.good c.requires.tick _ c.in_ok-end.ensures _ _ (stored-as _ _ _ _ _ _ c.plain.ensures c.put_if.ensures))
+    (step-symbol c.requires.good c.requires.tick c.in-Ok.end f _ _ (rw c.plain-form.ensures.value at c.put_if.ensures))
 
-pub returns-clause-further : goal.returns-clause-further
-returns-clause-further c =
-    rw (c.behind.ensures, c.here_at.ensures) (symbol-on c.requires.good c.requires.tick _ c.in_ok-end.ensures)
+pub returns-in-CharSym-clause-further : goal.returns-in-CharSym-clause-further
+returns-in-CharSym-clause-further c =
+    let f = ap (λ k. tokenTo k c.in-Ok.end) (sym c.in-CharSym.is) ∙ c.in-Ok.ensures in
+    rw (c.behind.ensures, c.here_at.ensures) (symbol-on c.requires.good c.requires.tick c.in-Ok.end f)

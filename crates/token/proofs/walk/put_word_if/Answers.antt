@@ -1,14 +1,14 @@
--- Where it does not fit, the bytes stay.
-use Rattle.token.specs.code.Form.{Known, plainForm}
+-- Where it fits, the record of the kind that was found is stored; else the bytes stay.
+use Rattle.token.specs.code.Form.{plainForm}
 use Rattle.token.specs.paper.Records.{headLength}
-use Rattle.token.proofs.form.Laws.{length-form}
-use Rattle.token.proofs.form.Stores.{stored-out}
+use Rattle.token.proofs.form.Laws.{known-bare, length-form}
+use Rattle.token.proofs.form.Stores.{stored-in, stored-out}
 use Rattle.token.proofs.walk.put_word_if.Goals as goal
 
-pub put_if-requires : goal.put_if-requires
-put_if-requires c = rw c.plain.ensures (Known.bare, c.requires.room)
-
 pub returns-else-x-out : goal.returns-else-x-out
-returns-else-x-out c =
-    let x = c.args.x in
-    stored-out c.args.out.now x.bytes headLength _ (length-form (plainForm _) x.at _ x.cut Known.bare) c.if-x-out.false
+returns-else-x-out c = stored-out c.args.out.now c.args.x.bytes headLength _ (length-form (plainForm _) c.args.x.at _ c.args.x.cut known-bare) c.if-x-out.false
+
+pub returns-then-x-out : goal.returns-then-x-out
+returns-then-x-out c =
+    stored-in c.args.out.now c.args.x.bytes headLength _ (length-form (plainForm _) c.args.x.at _ c.args.x.cut known-bare) _ c.if-x-out.true
+    (rw (c.plain-form.ensures.value, c.name_number.ensures) at c.put_record.ensures)

@@ -1,4 +1,4 @@
-use Rattle.std.proofs.Common.{◌∙◌}
+use Rattle.std.proofs.Common.{◌∙◌, arith}
 use Rattle.token.proofs.walk.Prefixes.{string-inside, string-opens, string-no-gap, string-scan}
 use Rattle.token.proofs.walk.string_step.Goals as goal
 

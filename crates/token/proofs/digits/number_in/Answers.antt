@@ -1,0 +1,17 @@
+-- Where no digit more stands there, the digits that were read are all.
+use Rattle.std.proofs.Common.{length, arith, sym, ap, ◌∙◌}
+use Rattle.chars.specs.paper.Text.{from}
+use Rattle.token.specs.computed.Answer.{numberOf}
+use Rattle.token.specs.code.Digits.{digitIn}
+use Rattle.token.specs.code.Piece.{pieceOf}
+use Rattle.token.proofs.digits.Laws.{digits-ascii, read-stop, number-piece}
+use Rattle.token.proofs.digits.number_in.Goals as goal
+
+pub returns : goal.returns
+returns g c =
+    let s = c.args.s.now in
+    let run = c.digit_run-run.result in
+    let e = c.digit_run-run.ensures in
+    let f = sym c.if-is_digit.ensures in
+    let r = read-stop (digitIn g.row.BASE) (digits-ascii g.row.BASE) s run.end g.row.BASE run.value (rw e.next at f) ∙ e.value in
+    c.number_of.ensures ∙ number-piece s c.args.start run (omega arith) e.within e.next ∙ ap (λ r. pieceOf (length s) (numberOf (from s c.args.start) r)) r
