@@ -1,3 +1,4 @@
+pub mod Contents
 pub mod Escapes
 pub mod Laws
 pub mod Strips

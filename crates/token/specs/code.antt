@@ -14,6 +14,5 @@ pub mod Form
 pub mod Ascii
 pub mod ByteClass
 pub mod Names
-pub mod Quoted
 pub mod Records
 pub mod Walk

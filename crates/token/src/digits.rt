@@ -47,6 +47,7 @@ pub fn digit_of(b: u8) -> u64
 }
 
 // Past the digits of this base that stand there, at most so many.
+#[inline(always)]
 pub fn consume_digits(s: &[u8], c: Cursor, base: u64, most: usize) -> Cursor
     requires { c.at ≤ length s.now }
     ensures within { result.at ≤ length s.now }

@@ -8,6 +8,7 @@ ghost use Rattle.token.specs.computed.Answer.{afterIdent, orPrefixed, scanIdent,
 ghost use Rattle.token.specs.code.Ident.{signEnd};
 ghost use Rattle.token.specs.code.Names.{lowBefore};
 ghost use Rattle.token.specs.code.Piece.{pieceOf};
+ghost use Rattle.token.specs.code.String.{backtickOf};
 
 use crate::byte_class::Class;
 use crate::cursor::{Cursor, byte_at, two_at};
@@ -17,6 +18,7 @@ use crate::piece::Piece;
 use crate::refusal::{Refusal, Refused};
 use crate::string::lex_prefixed_string;
 use chars::classes::{id_run_end, is_arrow_at};
+use chars::runs::{NoneOf, run_end};
 
 // Where the operator sign ends that stands at a place, if one does. Past ASCII the one sign is U+21D2.
 fn sign_end(s: &[u8], at: usize) -> Option<usize>
@@ -116,6 +118,7 @@ pub fn opens_comment(s: &[u8], c: Cursor) -> bool
 }
 
 // An identifier or a backtick from `start` to c, or the string that it prefixes.
+#[inline(always)]
 fn or_prefixed(s: &[u8], kind: TokenKind, start: usize, c: Cursor) -> Piece
     requires order { start ≤ c.at }
     requires within { c.at ≤ length s.now }
@@ -174,28 +177,36 @@ pub fn lex_op_run(s: &[u8], c: Cursor, rest: Cursor) -> Piece
     }
 }
 
-/// A backtick or the string that it prefixes. A character past ASCII has no byte of a backtick, so bytes are enough.
-pub fn lex_backtick(s: &[u8], c: Cursor) -> Piece
+/// Past a backtick. A character past ASCII has no byte of a backtick, so bytes are enough.
+#[inline(always)]
+pub fn consume_backtick(s: &[u8], c: Cursor) -> Result<Cursor, Refused>
     requires within { c.at ≤ length s.now }
     requires opens { isAny "`" (from s.now c.at) ≡ true }
-    ensures { result ≡ pieceOf (length s.now) (scanBacktick (length s.now) (from s.now c.at)) }
+    ensures { result ≡ backtickOf (length s.now) (from s.now c.at) }
 {
     let start = c.at;
-    let mut i = start + 1;
-    if byte_at(s, i) == b'`' {
+    let end = run_end::<NoneOf<b'`', b'`', b'`', b'`'>>(s, start + 1);
+    if s.len() <= end {
+        return Err(Refused {
+            what: Refusal::OpenBacktick,
+            place: start,
+        });
+    }
+    if end == start + 1 {
         return Err(Refused {
             what: Refusal::EmptyBacktick,
             place: start,
         });
     }
-    while i < s.len() {
-        if s[i] == b'`' {
-            return or_prefixed(s, TokenKind::BacktickId, start, Cursor { at: i + 1 });
-        }
-        i += 1;
-    }
-    Err(Refused {
-        what: Refusal::OpenBacktick,
-        place: start,
-    })
+    Ok(Cursor { at: end + 1 })
+}
+
+/// A backtick or the string that it prefixes.
+pub fn lex_backtick(s: &[u8], c: Cursor) -> Piece
+    requires within { c.at ≤ length s.now }
+    requires opens { isAny "`" (from s.now c.at) ≡ true }
+    ensures { result ≡ pieceOf (length s.now) (scanBacktick (length s.now) (from s.now c.at)) }
+{
+    let end = consume_backtick(s, c)?;
+    or_prefixed(s, TokenKind::BacktickId, c.at, end)
 }

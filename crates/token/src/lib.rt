@@ -15,6 +15,5 @@ mod lexer; // one token, by its first byte
 pub mod form; // one record, stored and read back
 mod byte_class; // what a byte is, by a table
 mod names; // words and operators, recognised from their ASCII bytes
-mod quoted; // strings and backticks, recognised from their bytes
 mod walk; // the walk over what is recognised from its bytes
 pub mod records; // the records, counted, and stored where they fit

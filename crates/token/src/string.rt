@@ -1,5 +1,5 @@
 // Strings and escapes. Document 01, "String", "Escape" and string content.
-ghost use Rattle.std.specs.Prelude.{◌≡◌, true, false, ◌+◌, ◌≤◌, ◌<◌, length, drop};
+ghost use Rattle.std.specs.Prelude.{◌≡◌, true, false, ◌+◌, ◌≤◌, ◌<◌, length, drop, get_or};
 ghost use Rattle.chars.specs.paper.Text.{from, headIs};
 ghost use Rattle.chars.specs.computed.Runs.{afterRun};
 ghost use Rattle.token.specs.paper.Tests.{isAny, quote, threeQuotes};
@@ -8,7 +8,8 @@ ghost use Rattle.token.specs.code.Piece.{pieceOf};
 ghost use Rattle.token.specs.code.String.{endedOf, escapeOf, hexesOf, isOrdinary, dollarOf, closeSingle, singleItem, tripleItem, lastOff, spanKind, blocksOff, blocksTaken};
 ghost use Rattle.chars.specs.promises.Texts.{Suffix};
 
-use crate::cursor::{Cursor, byte_at, two_at};
+use crate::byte_class::Class;
+use crate::cursor::{Cursor, byte_at};
 use crate::digits::consume_digits;
 use crate::kinds::TokenKind;
 use crate::piece::Piece;
@@ -65,20 +66,6 @@ fn consume_hexes(s: &[u8], c: Cursor) -> Result<Cursor, Refused>
     Ok(end)
 }
 
-// Does the byte stand for itself in every string? A quote, an LF, a backslash and a `$` don't. Small letters lie past all four.
-#[tactic(auto, unfolding(crate::specs::code::String::isOrdinary))]
-fn is_ordinary(b: u8) -> bool
-    ensures { result ≡ isOrdinary b }
-{
-    if b'\\' < b {
-        return true;
-    }
-    match b {
-        b'\n' | b'"' | b'$' | b'\\' => false,
-        _ => true,
-    }
-}
-
 /// Past the ordinary characters that stand there. A byte of 0x80 or more is never one of the four others, so no character is decoded.
 #[tactic(auto, using(crate::proofs::string::Laws::skip_run))]
 #[inline(always)]
@@ -86,17 +73,17 @@ pub fn skip_ordinary(s: &[u8], c: Cursor) -> Cursor
     requires { c.at ≤ length s.now }
     ensures { (c.at ≤ result.at) × (result.at ≤ length s.now) × (from s.now result.at ≡ afterRun (headIs isOrdinary) (from s.now c.at)) }
 {
-    let at = c.at;
-    if !is_ordinary(byte_at(s, at)) {
+    if !Class::at(s, c.at).is_ordinary() {
         return c;
     }
     Cursor {
-        at: run_end::<NoneOf<b'\n', b'"', b'$', b'\\'>>(s, at),
+        at: run_end::<NoneOf<b'\n', b'"', b'$', b'\\'>>(s, c.at),
     }
 }
 
 // Past a `$` in a prefixed string, unless `{` follows.
 #[tactic(auto, using(crate::proofs::string::Laws::dollars))]
+#[inline(always)]
 fn consume_interp_dollar(s: &[u8], c: Cursor) -> Result<Cursor, Refused>
     requires within { c.at < length s.now }
     requires dollar { isAny "$" (from s.now c.at) ≡ true }
@@ -112,43 +99,77 @@ fn consume_interp_dollar(s: &[u8], c: Cursor) -> Result<Cursor, Refused>
     Ok(Cursor { at: next })
 }
 
-// One step in a single string, where no quote closes it.
-#[tactic(auto, using(crate::proofs::string::Laws::dollar_in), unfolding(crate::specs::code::String::singleItem))]
-fn single_item(s: &[u8], c: Cursor, prefixed: bool) -> Result<Cursor, Refused>
-    requires { c.at < length s.now }
+// Past the backslash that stands there, in a plain string with the escape that it opens.
+#[tactic(auto, unfolding(crate::specs::code::String::singleItem))]
+#[inline(always)]
+fn consume_backslash(s: &[u8], c: Cursor, prefixed: bool) -> Result<Cursor, Refused>
+    requires within { c.at < length s.now }
+    requires backslash { get_or s.now c.at 0 ≡ 0x5C }
     ensures { result ≡ singleItem prefixed s.now c.at }
 {
     let next = Cursor { at: c.at + 1 };
+    if prefixed {
+        return Ok(next);
+    }
+    consume_escape(s, next)
+}
+
+// One step in a single string, where no quote closes it and no backslash stands.
+#[tactic(auto, using(crate::proofs::string::Laws::dollar_in), unfolding(crate::specs::code::String::singleItem))]
+#[inline(always)]
+fn single_item(s: &[u8], c: Cursor, prefixed: bool) -> Result<Cursor, Refused>
+    requires within { c.at < length s.now }
+    requires no_backslash { get_or s.now c.at 0 ≡ 0x5C → ⊥ }
+    ensures { result ≡ singleItem prefixed s.now c.at }
+{
     match s[c.at] {
         b'\n' => Err(Refused {
             what: Refusal::LineFeed,
             place: c.at,
         }),
         b'$' if prefixed => consume_interp_dollar(s, c),
-        b'\\' if !prefixed => consume_escape(s, next),
-        _ => Ok(next),
+        _ => Ok(Cursor { at: c.at + 1 }),
     }
 }
 
-// A single string from its quote on, up to the next quote outside an escape.
+// A single string whose content goes on there, up to the next quote outside an escape.
 #[tactic(auto, using(crate::proofs::string::Laws::single_walk))]
-fn lex_single_string(s: &[u8], c: Cursor, prefixed: bool) -> Result<Cursor, Refused>
-    requires within { c.at ≤ length s.now }
-    requires opens { quote (from s.now c.at) ≡ true }
-    ensures { result ≡ endedOf (length s.now) (closeSingle prefixed (drop 1 (from s.now c.at))) }
+#[inline(always)]
+fn lex_items(s: &[u8], c: Cursor, prefixed: bool) -> Result<Cursor, Refused>
+    requires { c.at ≤ length s.now }
+    ensures { result ≡ endedOf (length s.now) (closeSingle prefixed (from s.now c.at)) }
 {
-    let mut d = skip_ordinary(s, Cursor { at: c.at + 1 });
+    let mut d = c;
     while d.at < s.len() {
-        if s[d.at] == b'"' {
+        let b = s[d.at];
+        if Class::of(b).is_ordinary() {
+            d = Cursor { at: d.at + 1 };
+        } else if b == b'\\' {
+            d = consume_backslash(s, d, prefixed)?;
+        } else if b == b'"' {
             return Ok(Cursor { at: d.at + 1 });
+        } else {
+            d = single_item(s, d, prefixed)?;
         }
-        let next = single_item(s, d, prefixed)?;
-        d = skip_ordinary(s, next);
     }
     Err(Refused {
         what: Refusal::OpenString,
         place: d.at,
     })
+}
+
+// A single string from its quote on. In most all is ordinary.
+#[inline(always)]
+fn lex_single_string(s: &[u8], c: Cursor, prefixed: bool) -> Result<Cursor, Refused>
+    requires within { c.at ≤ length s.now }
+    requires opens { quote (from s.now c.at) ≡ true }
+    ensures { result ≡ endedOf (length s.now) (closeSingle prefixed (drop 1 (from s.now c.at))) }
+{
+    let run = skip_ordinary(s, Cursor { at: c.at + 1 });
+    if byte_at(s, run.at) == b'"' {
+        return Ok(Cursor { at: run.at + 1 });
+    }
+    lex_items(s, run, prefixed)
 }
 
 /// Do three quotes stand at a place?
@@ -157,7 +178,7 @@ pub fn three_quotes(s: &[u8], at: usize) -> bool
     requires { at ≤ length s.now }
     ensures { result ≡ threeQuotes (from s.now at) }
 {
-    two_at(s, at, b'"', b'"') && byte_at(s, at + 2) == b'"'
+    byte_at(s, at + 1) == b'"' && byte_at(s, at) == b'"' && byte_at(s, at + 2) == b'"'
 }
 
 /// Past all quotes that stand there.
@@ -170,8 +191,23 @@ pub fn consume_quotes(s: &[u8], c: Cursor) -> Cursor
     }
 }
 
+// Past the three quotes that stand there, and those behind them. Behind most no fourth stands.
+#[inline(always)]
+fn close_triple(s: &[u8], c: Cursor) -> Cursor
+    requires within { c.at ≤ length s.now }
+    requires closes { threeQuotes (from s.now c.at) ≡ true }
+    ensures { (result.at ≤ length s.now) × (from s.now result.at ≡ afterRun quote (from s.now c.at)) }
+{
+    let next = Cursor { at: c.at + 3 };
+    if byte_at(s, next.at) != b'"' {
+        return next;
+    }
+    consume_quotes(s, next)
+}
+
 // One step in a triple string, where no three quotes close it.
 #[tactic(auto, using(crate::proofs::string::Laws::dollar_in), unfolding(crate::specs::code::String::tripleItem))]
+#[inline(always)]
 fn triple_item(s: &[u8], c: Cursor, prefixed: bool) -> Result<Cursor, Refused>
     requires { c.at < length s.now }
     ensures { result ≡ tripleItem prefixed s.now c.at }
@@ -189,6 +225,7 @@ fn triple_item(s: &[u8], c: Cursor, prefixed: bool) -> Result<Cursor, Refused>
 
 // A triple string from its three quotes on, with all quotes directly after the first three that close it.
 #[tactic(auto, using(crate::proofs::string::Laws::triple_walk))]
+#[inline(always)]
 fn lex_triple_string(s: &[u8], c: Cursor, prefixed: bool) -> Result<Cursor, Refused>
     requires within { c.at ≤ length s.now }
     requires opens { threeQuotes (from s.now c.at) ≡ true }
@@ -197,7 +234,7 @@ fn lex_triple_string(s: &[u8], c: Cursor, prefixed: bool) -> Result<Cursor, Refu
     let mut d = skip_ordinary(s, Cursor { at: c.at + 3 });
     while d.at < s.len() {
         if three_quotes(s, d.at) {
-            return Ok(consume_quotes(s, d));
+            return Ok(close_triple(s, d));
         }
         let next = triple_item(s, d, prefixed)?;
         d = skip_ordinary(s, next);
@@ -206,19 +243,6 @@ fn lex_triple_string(s: &[u8], c: Cursor, prefixed: bool) -> Result<Cursor, Refu
         what: Refusal::OpenTriple,
         place: d.at,
     })
-}
-
-// A string from its opening on.
-#[tactic(auto, unfolding(crate::specs::computed::Answer::closeString, crate::specs::code::String::closeSingle))]
-fn lex_string(s: &[u8], c: Cursor, prefixed: bool) -> Result<Cursor, Refused>
-    requires within { c.at ≤ length s.now }
-    requires opens { quote (from s.now c.at) ≡ true }
-    ensures { result ≡ endedOf (length s.now) (closeString prefixed (from s.now c.at)) }
-{
-    if three_quotes(s, c.at) {
-        return lex_triple_string(s, c, prefixed);
-    }
-    lex_single_string(s, c, prefixed)
 }
 
 // The end of the text from `start` to `end` without a last quote, if one is left.
@@ -285,32 +309,33 @@ fn strip_many(s: &[u8], start: usize, end: usize) -> Span
     Span { start: a, end: b }
 }
 
-// The content of the plain string that stands from `start` to `end`. Most begin with one quote only.
-fn strip_quotes(s: &[u8], start: usize, end: usize) -> Span
+// The content of the plain triple that stands from `start` to `end`. Behind most of its first three quotes no fourth stands.
+#[inline(always)]
+fn strip_triple(s: &[u8], start: usize, end: usize) -> Span
     requires order { start ≤ end }
     requires within { end ≤ length s.now }
-    requires opens { quote (from s.now start) ≡ true }
+    requires opens { threeQuotes (from s.now start) ≡ true }
     requires closes { closeString false (from s.now start) ≡ closed (from s.now end) }
     ensures { spanKind result ≡ plainContent (length s.now) (from s.now start) (from s.now end) }
 {
-    let next = start + 1;
-    if byte_at(s, next) != b'"' {
-        return Span {
-            start: next,
-            end: last_off(s, next, end),
-        };
+    if byte_at(s, start + 3) == b'"' {
+        return strip_many(s, start, end);
     }
-    strip_many(s, start, end)
+    Span {
+        start: start + 3,
+        end: end - 3,
+    }
 }
 
-/// A plain string.
-pub fn lex_plain_string(s: &[u8], c: Cursor) -> Piece
+// A plain triple.
+#[inline(always)]
+fn lex_plain_triple(s: &[u8], c: Cursor) -> Piece
     requires within { c.at ≤ length s.now }
-    requires opens { quote (from s.now c.at) ≡ true }
+    requires opens { threeQuotes (from s.now c.at) ≡ true }
     ensures { result ≡ pieceOf (length s.now) (scanString (length s.now) (from s.now c.at)) }
 {
-    let end = lex_string(s, c, false)?;
-    let content = strip_quotes(s, c.at, end.at);
+    let end = lex_triple_string(s, c, false)?;
+    let content = strip_triple(s, c.at, end.at);
     Ok((
         TokenKind::Str {
             from: content.start,
@@ -320,15 +345,50 @@ pub fn lex_plain_string(s: &[u8], c: Cursor) -> Piece
     ))
 }
 
+/// A plain string.
+#[inline(always)]
+pub fn lex_plain_string(s: &[u8], c: Cursor) -> Piece
+    requires within { c.at ≤ length s.now }
+    requires opens { quote (from s.now c.at) ≡ true }
+    ensures { result ≡ pieceOf (length s.now) (scanString (length s.now) (from s.now c.at)) }
+{
+    if three_quotes(s, c.at) {
+        return lex_plain_triple(s, c);
+    }
+    let end = lex_single_string(s, c, false)?;
+    Ok((
+        TokenKind::Str {
+            from: c.at + 1,
+            to: end.at - 1,
+        },
+        end,
+    ))
+}
+
+// A prefixed string from its opening on.
+#[tactic(auto, unfolding(crate::specs::computed::Answer::closeString, crate::specs::code::String::closeSingle))]
+#[inline(always)]
+fn lex_opened(s: &[u8], c: Cursor) -> Result<Cursor, Refused>
+    requires within { c.at ≤ length s.now }
+    requires opens { quote (from s.now c.at) ≡ true }
+    ensures { result ≡ endedOf (length s.now) (closeString true (from s.now c.at)) }
+{
+    if three_quotes(s, c.at) {
+        return lex_triple_string(s, c, true);
+    }
+    lex_single_string(s, c, true)
+}
+
 /// A string whose prefix stands from `start` to c.
 #[tactic(auto, using(crate::proofs::string::Laws::prefixed_string))]
+#[inline(always)]
 pub fn lex_prefixed_string(s: &[u8], start: usize, c: Cursor) -> Piece
     requires order { start ≤ c.at }
     requires within { c.at ≤ length s.now }
     requires opens { quote (from s.now c.at) ≡ true }
     ensures { result ≡ pieceOf (length s.now) (prefixedOf (length s.now) (from s.now start) (closeString true (from s.now c.at))) }
 {
-    let end = lex_string(s, c, true)?;
+    let end = lex_opened(s, c)?;
     Ok((
         TokenKind::Str {
             from: start,

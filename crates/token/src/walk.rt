@@ -6,23 +6,24 @@ ghost use Rattle.token.specs.paper.Records.{mostBytes, headLength, lineLength};
 ghost use Rattle.token.specs.computed.Answer.{scan};
 ghost use Rattle.token.specs.code.Records.{storedIf, measuredFrom, storedFrom};
 ghost use Rattle.token.specs.code.Form.{byForm, plainForm};
-ghost use Rattle.token.specs.code.ByteClass.{classAt, blankClass, digitClass, lfClass, crClass, tickClass, keywordClass, upToBlank, isSign, inWord};
+ghost use Rattle.token.specs.code.ByteClass.{classAt, blankClass, digitClass, lfClass, crClass, tickClass, backtickClass, quoteClass, keywordClass, upToBlank, isSign, inWord};
 ghost use Rattle.token.specs.code.Names.{hereOf};
 ghost use Rattle.token.specs.code.Piece.{pieceOf};
-ghost use Rattle.token.specs.code.Walk.{beginning, movedTo, plainBehind, valuesBehind, lineBehind, commentBehind, blockBehind, nameNumber, prefixEnd, operatorNumber, beginsName, stateAt, Good, LeftTo, Opens, Refuses, Steps};
+ghost use Rattle.token.specs.code.Walk.{beginning, movedTo, plainBehind, valuesBehind, lineBehind, commentBehind, blockBehind, nameNumber, operatorNumber, beginsName, stateAt, Good, LeftTo, Prefixes, Refuses, Steps};
 
 use crate::byte_class::Class;
 use crate::charsym::lex_char_sym;
 use crate::cursor::{Cursor, byte_at, skip_more};
 use crate::digits::{digit_value, lex_number};
 use crate::form::{put_head_if, put_if, put_record};
+use crate::ident::consume_backtick;
 use crate::keyword::{run_number, word_number};
 use crate::kinds::{Form, TokenKind};
 use crate::lexer::lex_token;
 use crate::names::{Here, here_at, name_end, opens_with, operator_end, run_end, word_end};
 use crate::piece::Piece;
-use crate::quoted::{backtick_end, string_at};
 use crate::refusal::{Refusal, Refused};
+use crate::string::{lex_plain_string, lex_prefixed_string};
 
 const HEAD: usize = TokenKind::HEAD_LENGTH as usize;
 
@@ -376,7 +377,7 @@ fn char_sym_step(out: &mut [u8], s: &[u8], x: Stand) -> Option<Stand>
     }
 }
 
-// The kind's number of the word or backtick from `at` to `end`, whose first byte has this class.
+// The kind's number of the word from `at` to `end`, whose first byte has this class.
 #[tactic(auto, unfolding(crate::specs::code::Walk::nameNumber))]
 fn name_number(s: &[u8], class: Class, at: usize, end: usize) -> u16
     requires { eqb class.number keywordClass ≡ true → LeftTo s.now at end }
@@ -384,9 +385,6 @@ fn name_number(s: &[u8], class: Class, at: usize, end: usize) -> u16
 {
     if class == Class::KEYWORD {
         return word_number(s, at, end);
-    }
-    if class == Class::BACKTICK {
-        return TokenKind::BACKTICK_ID;
     }
     TokenKind::IDENT
 }
@@ -403,72 +401,114 @@ fn put_word_if(out: &mut [u8], s: &[u8], x: Stand, end: usize)
     }
 }
 
-// Where the identifier or backtick ends that begins there with a byte of this class; of a quote, where it stands.
-#[tactic(auto, unfolding(crate::specs::code::Walk::prefixEnd))]
-fn prefix_end(s: &[u8], class: Class, at: usize) -> Option<Here>
-    requires within { at < length s.now }
-    requires short { length s.now ≤ mostBytes }
-    requires class_is { class.number ≡ classAt s.now at }
-    requires begins { beginsName class.number ≡ true }
-    ensures { result ≡ prefixEnd s.now class.number at }
-{
-    if class == Class::QUOTE {
-        return Some(Here { at, class });
-    }
-    if class == Class::BACKTICK {
-        let end = backtick_end(s, at)?;
-        return Some(here_at(s, end));
-    }
-    name_end(s, at, word_end(s, at + 1))
-}
-
-// How far the content of a string stands from its start and its end: a prefixed one's is all its text.
-fn content_off(prefixed: bool, quotes: usize) -> usize
-    ensures { result ≡ cond prefixed 0 quotes }
-{
-    if prefixed { 0 } else { quotes }
-}
-
-// A string whose opening stands at `mark`, plain or prefixed by what stands before it.
-fn string_step(out: &mut [u8], s: &[u8], x: Stand, mark: usize) -> Option<Stand>
+// A token that was read there: its record is stored, where it fits, or it is refused.
+#[inline(always)]
+fn put_piece(out: &mut [u8], s: &[u8], x: Stand, piece: Piece) -> Result<Stand, Refused>
     requires short { length s.now ≤ mostBytes }
     requires good { Good s.now x }
-    requires opened { Opens s.now x mark }
-    ensures on { IfSome result (λ y. Steps s.now x out.old y out.new) }
-    ensures further { IfSome result (λ y. x.at < y.at) }
-    ensures kept { IfNone result (out.new ≡ out.old) }
+    requires within { x.at < length s.now }
+    requires no_gap { isAny " \t\n\r" (from s.now x.at) ≡ false }
+    requires no_comment { opensComment (from s.now x.at) ≡ false }
+    requires piece_is { piece ≡ pieceOf (length s.now) (scan (length s.now) (from s.now x.at)) }
+    ensures on { IfOk result (λ y. Steps s.now x out.old y out.new) }
+    ensures further { IfOk result (λ y. x.at < y.at) }
+    ensures refused { IfErr result (λ e. Refuses s.now x out.old e) }
+    ensures kept { IfErr result (λ e. out.new ≡ out.old) }
 {
-    let prefixed = x.at < mark;
-    let string = string_at(s, mark, prefixed)?;
-    let off = content_off(prefixed, string.quotes);
-    let form = Form::span(x.at + off, string.end - off);
-    put_if(out, x.bytes, form, x.at, string.end, x.cut);
-    Some(behind_values(x, here_at(s, string.end), TEXT))
+    let Ok((kind, end)) = piece else {
+        return Err(piece.unwrap_err());
+    };
+    let form = kind.form();
+    put_if(out, x.bytes, form, x.at, end.at, x.cut);
+    Ok(behind_values(x, here_at(s, end.at), form.length as usize))
 }
 
-// An identifier, keyword or backtick, or a string, prefixed by one or plain.
+// A plain string.
+#[inline(always)]
+fn string_step(out: &mut [u8], s: &[u8], x: Stand) -> Result<Stand, Refused>
+    requires short { length s.now ≤ mostBytes }
+    requires good { Good s.now x }
+    requires quote { eqb x.class.number quoteClass ≡ true }
+    requires no_comment { opensComment (from s.now x.at) ≡ false }
+    ensures on { IfOk result (λ y. Steps s.now x out.old y out.new) }
+    ensures further { IfOk result (λ y. x.at < y.at) }
+    ensures refused { IfErr result (λ e. Refuses s.now x out.old e) }
+    ensures kept { IfErr result (λ e. out.new ≡ out.old) }
+{
+    let piece = lex_plain_string(s, Cursor { at: x.at });
+    put_piece(out, s, x, piece)
+}
+
+// A string that the name up to a place prefixes.
+#[inline(always)]
+fn prefixed_step(out: &mut [u8], s: &[u8], x: Stand, end: usize) -> Result<Stand, Refused>
+    requires short { length s.now ≤ mostBytes }
+    requires good { Good s.now x }
+    requires within { x.at < length s.now }
+    requires no_gap { isAny " \t\n\r" (from s.now x.at) ≡ false }
+    requires no_comment { opensComment (from s.now x.at) ≡ false }
+    requires prefixes { Prefixes s.now x.at end }
+    ensures on { IfOk result (λ y. Steps s.now x out.old y out.new) }
+    ensures further { IfOk result (λ y. x.at < y.at) }
+    ensures refused { IfErr result (λ e. Refuses s.now x out.old e) }
+    ensures kept { IfErr result (λ e. out.new ≡ out.old) }
+{
+    let piece = lex_prefixed_string(s, x.at, Cursor { at: end });
+    put_piece(out, s, x, piece)
+}
+
+// A backtick, or the string that it prefixes. Each is stored for itself: joined in one `Piece`, they are slower.
+#[inline(always)]
+fn backtick_step(out: &mut [u8], s: &[u8], x: Stand) -> Result<Stand, Refused>
+    requires short { length s.now ≤ mostBytes }
+    requires good { Good s.now x }
+    requires backtick { eqb x.class.number backtickClass ≡ true }
+    requires no_comment { opensComment (from s.now x.at) ≡ false }
+    ensures on { IfOk result (λ y. Steps s.now x out.old y out.new) }
+    ensures further { IfOk result (λ y. x.at < y.at) }
+    ensures refused { IfErr result (λ e. Refuses s.now x out.old e) }
+    ensures kept { IfErr result (λ e. out.new ≡ out.old) }
+{
+    let c = consume_backtick(s, Cursor { at: x.at })?;
+    let end = here_at(s, c.at);
+    if end.class == Class::QUOTE {
+        return prefixed_step(out, s, x, end.at);
+    }
+    put_if(
+        out,
+        x.bytes,
+        Form::plain(TokenKind::BACKTICK_ID),
+        x.at,
+        end.at,
+        x.cut,
+    );
+    Ok(behind(x, end))
+}
+
+// An identifier or a keyword, or the string that an identifier prefixes. One that is refused is left.
 fn name_step(out: &mut [u8], s: &[u8], x: Stand) -> Option<Stand>
     requires short { length s.now ≤ mostBytes }
     requires good { Good s.now x }
     requires begins { beginsName x.class.number ≡ true }
+    requires no_comment { opensComment (from s.now x.at) ≡ false }
     ensures on { IfSome result (λ y. Steps s.now x out.old y out.new) }
     ensures further { IfSome result (λ y. x.at < y.at) }
     ensures kept { IfNone result (out.new ≡ out.old) }
 {
-    let end = prefix_end(s, x.class, x.at)?;
+    let end = name_end(s, x.at, word_end(s, x.at + 1))?;
     let number = name_number(s, x.class, x.at, end.at);
-    if end.class == Class::QUOTE && number <= TokenKind::BACKTICK_ID {
-        return string_step(out, s, x, end.at);
+    if end.class == Class::QUOTE && number == TokenKind::IDENT {
+        return prefixed_step(out, s, x, end.at).ok();
     }
     put_if(out, x.bytes, Form::plain(number), x.at, end.at, x.cut);
     Some(behind(x, end))
 }
 
-// An id start, a backtick or a quote?
+// An id start?
 fn begins_name(class: Class) -> bool
     ensures { result ≡ beginsName class.number }
 {
-    class == Class::BACKTICK || class == Class::QUOTE || !class.is_sign() && class.starts_word()
+    !class.is_sign() && class.starts_word()
 }
 
 // A piece that is recognised from its bytes; None, where none is.
@@ -490,27 +530,6 @@ fn quick_step(out: &mut [u8], s: &[u8], x: Stand) -> Option<Stand>
         return name_step(out, s, x);
     }
     None
-}
-
-// A token that was read there: its record is stored, where it fits, or it is refused.
-fn put_piece(out: &mut [u8], s: &[u8], x: Stand, piece: Piece) -> Result<Stand, Refused>
-    requires short { length s.now ≤ mostBytes }
-    requires good { Good s.now x }
-    requires within { x.at < length s.now }
-    requires no_gap { isAny " \t\n\r" (from s.now x.at) ≡ false }
-    requires no_comment { opensComment (from s.now x.at) ≡ false }
-    requires piece_is { piece ≡ pieceOf (length s.now) (scan (length s.now) (from s.now x.at)) }
-    ensures on { IfOk result (λ y. Steps s.now x out.old y out.new) }
-    ensures further { IfOk result (λ y. x.at < y.at) }
-    ensures refused { IfErr result (λ e. Refuses s.now x out.old e) }
-    ensures kept { IfErr result (λ e. out.new ≡ out.old) }
-{
-    let Ok((kind, end)) = piece else {
-        return Err(piece.unwrap_err());
-    };
-    let form = kind.form();
-    put_if(out, x.bytes, form, x.at, end.at, x.cut);
-    Ok(behind_values(x, here_at(s, end.at), form.length as usize))
 }
 
 // As far as blanks, signs, words, LFs, runs of operator signs and numbers stand there of which no byte behind them makes more, as most pieces are.
@@ -569,6 +588,7 @@ fn token_step(out: &mut [u8], s: &[u8], x: Stand) -> Result<Stand, Refused>
 }
 
 /// To the end of script, or to what is refused. While no cut is set, as nearly always, words and all that is as short go in a loop of their own.
+#[inline(always)]
 pub fn walk(out: &mut [u8], s: &[u8], start: Stand) -> Result<Stand, Refused>
     requires short { length s.now ≤ mostBytes }
     requires good { Good s.now start }
@@ -586,6 +606,10 @@ pub fn walk(out: &mut [u8], s: &[u8], start: Stand) -> Result<Stand, Refused>
             comment_step(s, x)?
         } else if x.class == Class::CR {
             return_step(out, s, x)?
+        } else if x.class == Class::QUOTE {
+            string_step(out, s, x)?
+        } else if x.class == Class::BACKTICK {
+            backtick_step(out, s, x)?
         } else if let Some(y) = quick_step(out, s, x) {
             y
         } else if x.class == Class::BLANK {

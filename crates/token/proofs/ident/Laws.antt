@@ -314,26 +314,8 @@ module _ (n : ℕ) (s : List ℕ) (i : ℕ) (e : isAny "`" (from s i) ≡ true) 
   tick-byte : get_or s i 0 ≡ 0x60
   tick-byte = eqb-true (get_or s i 0) 0x60 (sym (or-false (eqb (get_or s i 0) 0x60)) ∙ sym (any-byte "`" refl s i) ∙ e)
 
-  tick-text : drop 1 (from s i) ≡ from s (i + 1)
+  pub tick-text : drop 1 (from s i) ≡ from s (i + 1)
   tick-text = let b = tick-byte in ap (drop 1) (at-ascii s i (inside s i (omega arith)) (omega arith))
-
-  pub tick-empty : get_or s (i + 1) 0 ≡ 0x60 → scanBacktick n (from s i) ≡ Found.stuck 5 (from s i)
-  unfolding scanBacktick
-  tick-empty h = rw (ap (isAny "`") tick-text ∙ any-byte "`" refl s (i + 1), h)
-
-  module _ (h : get_or s (i + 1) 0 ≡ 0x60 → ⊥) where
-    tick-name : scanBacktick n (from s i) ≡ backtickOr n (from s i) (afterRun notBacktick (from s (i + 1)))
-    unfolding scanBacktick
-    tick-name =
-        let q : isAny "`" (drop 1 (from s i)) ≡ false = ap (isAny "`") tick-text ∙ any-byte "`" refl s (i + 1) ∙ rw (ne_eqb (get_or s (i + 1) 0) 0x60 h) in
-        ap (λ z. cond z (Found.stuck 5 (from s i)) (backtickOr n (from s i) (afterRun notBacktick (drop 1 (from s i))))) q
-        ∙ ap (λ t. backtickOr n (from s i) (afterRun notBacktick t)) tick-text
-
-    pub tick-open : afterRun notBacktick (from s (i + 1)) ≡ [] → scanBacktick n (from s i) ≡ Found.stuck 4 (from s i)
-    tick-open q = tick-name ∙ ap (backtickOr n (from s i)) q
-
-    pub tick-closed : (c : Char) (r : Text) → afterRun notBacktick (from s (i + 1)) ≡ c ∷ r → scanBacktick n (from s i) ≡ orPrefixed n tk.BacktickId (from s i) r
-    tick-closed c r q = tick-name ∙ ap (backtickOr n (from s i)) q
 
 pub tick-inside : (s : List ℕ) (i : ℕ) → isAny "`" (from s i) ≡ true → i < length s
 tick-inside s i e = head-inside (oneOf "`") s i e

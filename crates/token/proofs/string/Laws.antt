@@ -21,6 +21,7 @@ use Rattle.token.specs.paper.Tests.{isAny, begins, quote, threeQuotes, backslash
 use Rattle.token.specs.paper.Kinds.{Kind, TokenType, isComment}
 use Rattle.token.specs.paper.Shapes.{singleChar, Single, tripleChar, Stands, HasShape, TokenShape}
 use Rattle.token.specs.computed.Answer.{unbroken, broken, afterSlash, Closing, closed, wrong, closePlain, closeTriple, closeString, plainContent, plainOf, scanString, prefixedOf}
+use Rattle.token.specs.code.ByteClass as bytes
 use Rattle.token.specs.code.Cursor.{cursorAt}
 use Rattle.token.specs.code.Piece.{pieceOf, tokenTo}
 use Rattle.token.specs.code.String.{endedOf, escEnd, escapeOf, closeSingle, isOrdinary, dollarOf, singleItem, tripleItem, EndAnswer, endAt}
@@ -28,6 +29,7 @@ use Rattle.token.specs.declared.cursor.Cursor.{Cursor}
 use Rattle.token.specs.declared.kinds.TokenKind.{TokenKind}
 use Rattle.token.specs.declared.kinds.TokenKind.TheVariants as tk
 use Rattle.token.proofs.Base.{zero-one}
+use Rattle.token.proofs.byte_class.Laws.{class-ordinary}
 use Rattle.token.proofs.cursor.Bytes.{inside, any-byte, past, starts-byte, two-bytes, one-byte}
 use Rattle.token.proofs.theorems.Runs.{after-next, after-stop}
 use Rattle.token.proofs.cursor.Runs.{run-to, run-out, twice, none-of}
@@ -253,6 +255,15 @@ ordinary-to s =
     run-to (headIs isOrdinary) s noMark (λ k h e. skip_next s k h (sym (mark-none (get_or s k 0)) ∙ e)) (λ k h e. skip-stop s k h (sym (mark-none (get_or s k 0)) ∙ e))
 
 pub ruleset skip_run = (skip_none, skip_next)
+
+-- a walk past an ordinary byte
+pub ordinary-on : {A : Type 0} (f : Text → A) (test : Text → Bool) → Walk f test → (s : List ℕ) (i : ℕ) → i < length s → isOrdinary (get_or s i 0) ≡ true → f (from s (i + 1)) ≡ f (from s i)
+ordinary-on f test w s i h e = sym (walk-run f test w (from s (i + 1))) ∙ ap f (skip_next s i h e) ∙ walk-run f test w (from s i)
+
+-- what the class of a byte says
+pub told-ordinary : (b : ℕ) {e : ℕ} {r : Bool} → e ≡ bytes.classOf b → r ≡ bytes.isOrdinary e → isOrdinary b ≡ r
+unfolding isOrdinary
+told-ordinary b q w = sym (class-ordinary b) ∙ ap bytes.isOrdinary (sym q) ∙ sym w
 
 -- ---- one step
 

@@ -1,70 +1,57 @@
 -- Identifiers, keywords, backticks and strings, by the class of the first byte: where they end, whether they prefix a string, and the step past them.
 use Prim.Native.Nat.{ℕ, ◌+◌, ◌≤◌, ◌<◌}
 use mathlib.Core.Path.{◌≡◌, refl, sym, ◌∙◌, ap}
-use mathlib.Core.Bool.{Bool, true, false, not, ◌&&◌, ◌||◌, and-false}
+use mathlib.Core.Bool.{Bool, true, false, not, ◌&&◌, and-false}
 use mathlib.Core.Logic.{◌⊎◌, inl, inr}
 use mathlib.Core.List.{List}
 use mathlib.Core.Option.{Option, none, some}
-use Rattle.std.specs.Prelude.{Some}
-use Rattle.std.proofs.lemmas.Option.{same_Some}
+use Rattle.std.specs.Prelude.{Some, Err}
 use lib.ListN.{length, get_or}
-use lib.Dec.{eqb, leb}
+use lib.Dec.{eqb}
 use native.Mathlib.Omega.{arith}
-use borrow.Author.Tests.{eqb-true, eqb-false, eq-eqb, leb-true, le-leb, lt-leb}
+use borrow.Author.Tests.{eqb-true, eq-eqb, ne_eqb}
+use Rattle.chars.specs.paper.Quoted as chars
 use Rattle.chars.specs.paper.Text.{from}
 use Rattle.chars.proofs.Bools.{clash, and-both}
-use Rattle.chars.proofs.theorems.Promises.{text-laws}
-use Rattle.token.specs.paper.Tests.{quote}
+use Rattle.token.specs.paper.Tests.{isAny, quote, opensComment}
 use Rattle.token.specs.paper.Kinds.{kwNumber, wordOf}
 use Rattle.token.specs.paper.Records.{values}
-use Rattle.token.specs.computed.Answer.{codesTo, afterIdent}
-use Rattle.token.specs.code.ByteClass.{classAt, quoteClass, backtickClass, keywordClass, upToBlank, startsWord}
+use Rattle.token.specs.computed.Answer.{codesTo, afterIdent, scan, scanString, scanBacktick, closeString, prefixedOf}
+use Rattle.token.specs.code.ByteClass.{classAt, quoteClass, backtickClass, keywordClass, crClass, blankClass, lfClass, upToBlank, startsWord}
 use Rattle.token.specs.code.Cursor.{cursorAt}
 use Rattle.token.specs.code.Form.{plainForm, byForm}
 use Rattle.token.specs.code.Keyword.{numberOr}
 use Rattle.token.specs.code.Names.{hereOf, nameTo, nameEnd}
 use Rattle.token.specs.code.Piece.{pieceOf}
-use Rattle.token.specs.code.Quoted.{backtickEnd}
 use Rattle.token.specs.code.Records.{storedIf}
-use Rattle.token.specs.code.Walk.{Good, plainBehind, Steps, beginsName, nameNumber, prefixEnd, LeftTo, Opens}
+use Rattle.token.specs.code.String.{endAt, backtickOf}
+use Rattle.token.specs.code.Walk.{Good, plainBehind, Steps, Refuses, beginsName, nameNumber, LeftTo, Prefixes}
+use Rattle.token.specs.declared.cursor.Cursor.{Cursor}
 use Rattle.token.specs.declared.kinds.Kw.{Kw}
 use Rattle.token.specs.declared.kinds.Kw.TheVariants as kw
 use Rattle.token.specs.declared.kinds.TokenKind.TheVariants as tk
 use Rattle.token.specs.declared.names.Here.{Here}
+use Rattle.token.specs.declared.refusal.Refused.{Refused}
 use Rattle.token.specs.declared.walk.Stand.{Stand}
 use Rattle.token.proofs.byte_class.Laws.{class-quote, class-backtick}
-use Rattle.token.proofs.ident.Laws.{token-at, not-prefixed}
+use Rattle.token.proofs.cursor.Bytes.{any-byte}
+use Rattle.token.proofs.ident.Laws.{quote-byte, token-at, is-prefixed, not-prefixed}
+use Rattle.token.proofs.ident.Ticks.{Ticked, tick-closed, tick-refused}
+use Rattle.token.proofs.lexer.Laws.{string-at, backtick-at}
 use Rattle.token.proofs.names.Bytes.{Stops, class-inside, name-stops}
 use Rattle.token.proofs.names.Laws.{name-rest, quote-class}
 use Rattle.token.proofs.names.Ascii.{word-scan}
-use Rattle.token.proofs.quoted.Found.{backtick-found}
-use Rattle.token.proofs.walk.Numbers.{prefix-quote, prefix-backtick, prefix-name, name-backtick, name-quote, found-some}
-use Rattle.token.proofs.walk.Pieces.{by-class, step-bare}
+use Rattle.token.proofs.walk.Pieces.{by-class, no-gap-here, step-bare, refuses-piece}
 use Rattle.token.proofs.walk.Words.{oneOf, behind-here, start-byte, word-inside, word-leaves, name-counts, step-name}
-open text-laws use {suffix-refl}
 
 and-first : (a b : Bool) → a && b ≡ false → b ≡ true → a ≡ false
 and-first true b e f = clash (sym e ∙ f)
 and-first false b e f = refl
 
--- a name is no string's opening: no quote stands behind it, or it is a keyword
-pub no-opening : (a : Bool) (j : ℕ) {r : Bool} → r ≡ a → ((r ≡ true) × (3 < j)) ⊎ (r ≡ false) → a && leb j 3 ≡ false
-no-opening a j e (inl x) = rw (lt-leb j 3 x.1) (and-false a)
+-- a name prefixes no string: no quote stands behind it, or it is a keyword
+pub no-opening : (a : Bool) (j : ℕ) {r : Bool} → r ≡ a → ((r ≡ true) × (j ≡ 1 → ⊥)) ⊎ (r ≡ false) → a && eqb j 1 ≡ false
+no-opening a j e (inl x) = rw (ne_eqb j 1 x.1) (and-false a)
 no-opening a j e (inr y) = rw (sym e ∙ y)
-
--- with which of the three it begins
-data Begins (k : ℕ) : Type 0 where
-  quoted : k ≡ quoteClass → Begins k
-  ticked : (k ≡ quoteClass → ⊥) → k ≡ backtickClass → Begins k
-  lettered : (k ≡ quoteClass → ⊥) → (k ≡ backtickClass → ⊥) → not (upToBlank k) && startsWord k ≡ true → Begins k
-
-begins : (k : ℕ) → beginsName k ≡ true → Begins k
-begins k e = go (eqb k backtickClass) (eqb k quoteClass) refl refl e
-  where
-    go : (a b : Bool) → eqb k backtickClass ≡ a → eqb k quoteClass ≡ b → a || b || (not (upToBlank k) && startsWord k) ≡ true → Begins k
-    go a true f h e = Begins.quoted (eqb-true k quoteClass h)
-    go true false f h e = Begins.ticked (eqb-false k quoteClass h) (eqb-true k backtickClass f)
-    go false false f h e = Begins.lettered (eqb-false k quoteClass h) (eqb-false k backtickClass f) e
 
 -- a keyword's number is above those of names
 keyword-above : (j : Kw) → 32 ≤ kwNumber j
@@ -83,124 +70,138 @@ keyword-above kw.Assign = omega arith
 keyword-above kw.Hash = omega arith
 keyword-above kw.At = omega arith
 
-few : (o : Option Kw) → numberOr 1 o ≤ 3 → o ≡ none
+few : (o : Option Kw) → numberOr 1 o ≡ 1 → o ≡ none
 unfolding numberOr
 few none l = refl
 few (some j) l = let a = keyword-above j in absurd (omega arith)
 
-at-of : {e h : Here} → e ≡ h → e.at ≡ h.at
-at-of q = ap (λ (z : Here). z.at) q
-
-class-of : {e h : Here} → e ≡ h → e.class.number ≡ h.class.number
-class-of q = ap (λ (z : Here). z.class.number) q
-
 quote-here : (s : List ℕ) (i : ℕ) → eqb (classAt s i) quoteClass ≡ true → get_or s i 0 ≡ 0x22
 quote-here s i e = oneOf 0x22 (sym (class-quote (get_or s i 0)) ∙ e)
 
+-- a class of which a test holds is none of those of which it doesn't
+no-class : (p : ℕ → Bool) (k c : ℕ) → p c ≡ false → p k ≡ true → eqb k c ≡ false
+no-class p k c e f = ne_eqb k c (λ z. absurd (clash (sym e ∙ ap p (sym z) ∙ f)))
+
+-- where a quote, a backtick or an id start stands no gap piece does
+module _ {s : List ℕ} {x : Stand} (g : Good s x) where
+  pub opens-no-gap : (p : ℕ → Bool) → p crClass ≡ false → p blankClass ≡ false → p lfClass ≡ false → p x.class.number ≡ true → isAny " \t\n\r" (from s x.at) ≡ false
+  opens-no-gap p a b c e = no-gap-here g (no-class p x.class.number crClass a e) (no-class p x.class.number blankClass b e) (no-class p x.class.number lfClass c e)
+
+-- ---- a plain string
+
+module _ {s : List ℕ} {x : Stand} (g : Good s x) (k : eqb x.class.number quoteClass ≡ true) where
+  pub string-inside : x.at < length s
+  string-inside = class-inside s x.at (λ z. eqb z quoteClass) refl (by-class g (λ z. eqb z quoteClass) k)
+
+  pub string-opens : quote (from s x.at) ≡ true
+  string-opens = quote-byte s x.at ∙ eq-eqb (get_or s x.at 0) 0x22 (quote-here s x.at (by-class g (λ z. eqb z quoteClass) k))
+
+  pub string-no-gap : isAny " \t\n\r" (from s x.at) ≡ false
+  string-no-gap = opens-no-gap g (λ z. eqb z quoteClass) refl refl refl k
+
+  pub string-scan : pieceOf (length s) (scanString (length s) (from s x.at)) ≡ pieceOf (length s) (scan (length s) (from s x.at))
+  string-scan = ap (pieceOf (length s)) (sym (string-at s x.at string-inside string-opens))
+
+-- ---- a string that is prefixed
+
+module _ {s : List ℕ} {i q : ℕ} (p : Prefixes s i q) where
+  pub prefixed-opens : quote (from s q) ≡ true
+  prefixed-opens = quote-byte s q ∙ eq-eqb (get_or s q 0) 0x22 p.byte
+
+  pub prefixed-scan : pieceOf (length s) (prefixedOf (length s) (from s i) (closeString true (from s q))) ≡ pieceOf (length s) (scan (length s) (from s i))
+  prefixed-scan = ap (pieceOf (length s)) (sym (p.is ∙ is-prefixed (length s) p.kind (from s i) (from s q) prefixed-opens))
+
+-- ---- a backtick
+
+module _ {s : List ℕ} {x : Stand} (g : Good s x) (k : eqb x.class.number backtickClass ≡ true) where
+  pub backtick-inside : x.at < length s
+  backtick-inside = class-inside s x.at (λ z. eqb z backtickClass) refl (by-class g (λ z. eqb z backtickClass) k)
+
+  pub backtick-opens : isAny "`" (from s x.at) ≡ true
+  backtick-opens =
+      let b = oneOf 0x60 (sym (class-backtick (get_or s x.at 0)) ∙ by-class g (λ y. eqb y backtickClass) k) in
+      any-byte "`" refl s x.at ∙ ap (chars.oneOf "`") b
+
+  pub backtick-no-gap : isAny " \t\n\r" (from s x.at) ≡ false
+  backtick-no-gap = opens-no-gap g (λ z. eqb z backtickClass) refl refl refl k
+
+  scans : scan (length s) (from s x.at) ≡ scanBacktick (length s) (from s x.at)
+  scans = backtick-at s x.at backtick-inside backtick-opens
+
+  pub refuses-backtick : (e : Refused) → opensComment (from s x.at) ≡ false → Err e ≡ backtickOf (length s) (from s x.at) → (out : List ℕ) → Refuses s x out e
+  refuses-backtick e a q out =
+      refuses-piece g backtick-inside e a backtick-no-gap (tick-refused (length s) (from s x.at) e q ∙ ap (pieceOf (length s)) (sym scans)) out
+
+  module _ (c : Cursor) (q : endAt c ≡ backtickOf (length s) (from s x.at)) where
+    ticked : Ticked s x.at c.at
+    ticked = tick-closed s x.at backtick-opens c q
+
+    pub backtick-on : x.at < c.at
+    backtick-on = ticked.on
+
+    pub backtick-prefixes : eqb (classAt s c.at) quoteClass ≡ true → Prefixes s x.at c.at
+    backtick-prefixes f =
+        let t = ticked in
+        record { kind = tk.BacktickId; on = t.on; within = t.within; byte = quote-here s c.at f; is = scans ∙ t.is }
+
+    pub step-backtick : eqb (classAt s c.at) quoteClass ≡ false → (out next : List ℕ)
+        → next ≡ storedIf out x.bytes (byForm (plainForm 3) x.at c.at x.cut) → Steps s x out (plainBehind x (hereOf s c.at)) next
+    unfolding values
+    step-backtick f out next v =
+        let t = ticked in
+        let u = quote-class s c.at ∙ f in
+        let p = token-at s tk.BacktickId (cursorAt c.at) (from s c.at) t.within refl
+        ∙ ap (pieceOf (length s)) (sym (scans ∙ t.is ∙ not-prefixed (length s) tk.BacktickId (from s x.at) (from s c.at) u)) in
+        step-bare g backtick-inside tk.BacktickId c.at p refl out next v
+
+-- ---- a word
+
 module _ {s : List ℕ} {x : Stand} (g : Good s x) (k : beginsName x.class.number ≡ true) where
   pub name-inside : x.at < length s
-  name-inside = class-inside s x.at beginsName refl (by-class g beginsName k)
+  name-inside = word-inside g k
 
-  tick : x.class.number ≡ backtickClass → get_or s x.at 0 ≡ 0x60
-  tick c = oneOf 0x60 (sym (class-backtick (get_or s x.at 0)) ∙ by-class g (λ y. eqb y backtickClass) (eq-eqb x.class.number backtickClass c))
+  pub name-no-gap : isAny " \t\n\r" (from s x.at) ≡ false
+  name-no-gap = opens-no-gap g beginsName refl refl refl k
 
-  module _ (e : Here) (q : Some e ≡ prefixEnd s x.class.number x.at) where
-    -- where it begins with a letter
-    module _ (n : x.class.number ≡ quoteClass → ⊥) (m : x.class.number ≡ backtickClass → ⊥) (w : not (upToBlank x.class.number) && startsWord x.class.number ≡ true) where
-      named : Some e ≡ nameEnd s x.at
-      named = q ∙ sym (prefix-name s x.class.number x.at n m)
+  module _ (e : Here) (q : Some e ≡ nameEnd s x.at) where
+    stops : Stops s (nameTo s x.at) e
+    stops = name-stops s e x.at q
 
-      rests : Stops s (nameTo s x.at) e → (x.at < e.at) × (e.at ≤ length s) × (from s e.at ≡ afterIdent false (from s (x.at + 1)))
-      rests st = name-rest s x.at (word-inside g w) e.at st.place st.narrow
+    rests : (x.at < e.at) × (e.at ≤ length s) × (from s e.at ≡ afterIdent false (from s (x.at + 1)))
+    rests = let st = stops in name-rest s x.at (word-inside g k) e.at st.place st.narrow
 
-      left : LeftTo s x.at e.at
-      left = let r = rests (name-stops s e x.at named) in word-leaves g w e.at r.1 r.2
+    pub name-left : LeftTo s x.at e.at
+    name-left = word-leaves g k e.at rests.1 rests.2
 
-    quote-is : x.class.number ≡ quoteClass → e ≡ record { at = x.at; class = record { number = x.class.number } }
-    quote-is c = same_Some e (record { at = x.at; class = record { number = x.class.number } }) (q ∙ sym (prefix-quote s x.class.number x.at c))
-
-    ticks : (x.class.number ≡ quoteClass → ⊥) → x.class.number ≡ backtickClass → (Some e.at ≡ backtickEnd s x.at) × (e ≡ hereOf s e.at)
-    ticks n c = found-some s (backtickEnd s x.at) e (q ∙ sym (prefix-backtick s x.class.number x.at n c))
-
-    pub name-left : eqb x.class.number keywordClass ≡ true → LeftTo s x.at e.at
-    name-left f = go (begins x.class.number k)
-      where
-        is : x.class.number ≡ keywordClass
-        is = eqb-true x.class.number keywordClass f
-
-        go : Begins x.class.number → LeftTo s x.at e.at
-        go (Begins.quoted c) = absurd (omega (arith, is, c))
-        go (Begins.ticked n c) = absurd (omega (arith, is, c))
-        go (Begins.lettered n m w) = left n m w
+    pub named-on : x.at < e.at
+    named-on = rests.0
 
     module _ (j : ℕ) (z : j ≡ nameNumber s x.class.number x.at e.at) where
-      -- a string's opening stands behind it, or it is one
-      pub name-opens : eqb e.class.number quoteClass && leb j 3 ≡ true → Opens s x e.at
-      name-opens f = go (begins x.class.number k)
-        where
-          both : (eqb e.class.number quoteClass ≡ true) × (leb j 3 ≡ true)
-          both = and-both (eqb e.class.number quoteClass) (leb j 3) f
+      -- an identifier prefixes the string whose quote stands behind it
+      pub name-prefixes : eqb e.class.number quoteClass && eqb j 1 ≡ true → Prefixes s x.at e.at
+      name-prefixes f =
+          let b = and-both (eqb e.class.number quoteClass) (eqb j 1) f in
+          let st = stops in
+          let r = rests in
+          let c = name-counts g k e.at r.1 r.2 in
+          let o = few (wordOf (codesTo (from s x.at) (from s e.at))) (sym c ∙ sym z ∙ eqb-true j 1 b.1) in
+          record {
+            kind = tk.Ident;
+            on = r.0;
+            within = r.1;
+            byte = quote-here s e.at (sym (ap (λ y. eqb y quoteClass) st.class-is) ∙ b.0);
+            is = word-scan s x.at e.at (word-inside g k) (start-byte g k) r.1 r.2 none o;
+          }
 
-          is-quote : e.class.number ≡ quoteClass
-          is-quote = eqb-true e.class.number quoteClass both.0
-
-          byte : e.class.number ≡ classAt s e.at → get_or s e.at 0 ≡ 0x22
-          byte c = quote-here s e.at (sym (ap (λ y. eqb y quoteClass) c) ∙ both.0)
-
-          go : Begins x.class.number → Opens s x e.at
-          go (Begins.quoted c) =
-              let h = quote-is c in
-              Opens.plain (at-of h) (byte (class-of h ∙ g.class ∙ ap (classAt s) (sym (at-of h))))
-          go (Begins.ticked n c) =
-              let h = ticks n c in
-              let d = class-of h.1 in
-              let b = backtick-found s x.at (tick c) e.at h.0 in
-              Opens.prefixed tk.BacktickId b.0 b.1 (byte d) (b.2 ∙ b.3)
-          go (Begins.lettered n m w) =
-              let st = name-stops s e x.at (named n m w) in
-              let r = rests n m w st in
-              let c = name-counts g w e.at r.1 r.2 in
-              let l = leb-true j 3 both.1 in
-              let o = few (wordOf (codesTo (from s x.at) (from s e.at))) (omega (arith, c, z)) in
-              Opens.prefixed tk.Ident r.0 r.1 (byte st.class-is) (word-scan s x.at e.at (word-inside g w) (start-byte g w) r.1 r.2 none o)
-
-      -- a quote alone is a string's opening
-      quoted-named : eqb e.class.number quoteClass && leb j 3 ≡ false → x.class.number ≡ quoteClass → ⊥
-      quoted-named f c =
-          let d : e.class.number ≡ quoteClass = class-of (quote-is c) ∙ c in
-          let y : j ≡ 1 = z ∙ sym (name-quote s x.class.number x.at e.at c) in
-          clash (sym (rw (eq-eqb e.class.number quoteClass d, y) at f) ∙ refl)
-
-      -- what is no string ends past where the walk stands
-      pub named-on : eqb e.class.number quoteClass && leb j 3 ≡ false → x.at < e.at
-      named-on f = go (begins x.class.number k)
-        where
-          go : Begins x.class.number → x.at < e.at
-          go (Begins.quoted c) = absurd (quoted-named f c)
-          go (Begins.ticked n c) = (backtick-found s x.at (tick c) e.at (ticks n c).0).0
-          go (Begins.lettered n m w) = (rests n m w (name-stops s e x.at (named n m w))).0
-
-      pub step-named : eqb e.class.number quoteClass && leb j 3 ≡ false → (out next : List ℕ)
+      pub step-named : eqb e.class.number quoteClass && eqb j 1 ≡ false → (out next : List ℕ)
           → next ≡ storedIf out x.bytes (byForm (plainForm j) x.at e.at x.cut) → Steps s x out (plainBehind x e) next
-      unfolding values
-      step-named f out next v = go (begins x.class.number k)
+      step-named f out next v =
+          let st = stops in
+          let r = rests in
+          behind-here e st.class-is (step-name g k e.at r.1 r.2 unquoted out next (v ∙ ap (λ i. storedIf out x.bytes (byForm (plainForm i) x.at e.at x.cut)) z))
         where
-          unquoted : e.class.number ≡ classAt s e.at → j ≤ 3 → quote (from s e.at) ≡ false
-          unquoted c l = quote-class s e.at ∙ sym (ap (λ y. eqb y quoteClass) c) ∙ and-first (eqb e.class.number quoteClass) (leb j 3) f (le-leb j 3 l)
-
-          go : Begins x.class.number → Steps s x out (plainBehind x e) next
-          go (Begins.quoted c) = absurd (quoted-named f c)
-          go (Begins.ticked n c) =
-              let h = ticks n c in
-              let d = class-of h.1 in
-              let b = backtick-found s x.at (tick c) e.at h.0 in
-              let y : j ≡ 3 = z ∙ sym (name-backtick s x.class.number x.at e.at c) in
-              let p = token-at s tk.BacktickId (cursorAt e.at) (from s e.at) b.1 refl
-              ∙ ap (pieceOf (length s)) (sym (b.2 ∙ b.3 ∙ not-prefixed (length s) tk.BacktickId (from s x.at) (from s e.at) (unquoted d (omega arith)))) in
-              behind-here e d (step-bare g name-inside tk.BacktickId e.at p refl out next (v ∙ ap (λ i. storedIf out x.bytes (byForm (plainForm i) x.at e.at x.cut)) y))
-          go (Begins.lettered n m w) =
-              let st = name-stops s e x.at (named n m w) in
-              let r = rests n m w st in
-              let c = name-counts g w e.at r.1 r.2 in
-              behind-here e st.class-is
-              (step-name g w e.at r.1 r.2 (λ l. unquoted st.class-is (omega (arith, c, z))) out next (v ∙ ap (λ i. storedIf out x.bytes (byForm (plainForm i) x.at e.at x.cut)) z))
+          unquoted : numberOr 1 (wordOf (codesTo (from s x.at) (from s e.at))) ≡ 1 → quote (from s e.at) ≡ false
+          unquoted l =
+              let st = stops in
+              let r = rests in
+              quote-class s e.at ∙ sym (ap (λ y. eqb y quoteClass) st.class-is) ∙ and-first (eqb e.class.number quoteClass) (eqb j 1) f (eq-eqb j 1 (z ∙ name-counts g k e.at r.1 r.2 ∙ l))

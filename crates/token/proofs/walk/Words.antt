@@ -27,14 +27,12 @@ use Rattle.token.specs.code.Form.{formOf, plainForm, byForm}
 use Rattle.token.specs.code.Keyword.{numberOr}
 use Rattle.token.specs.code.Names.{hereOf, runTo, nameTo, operatorTo}
 use Rattle.token.specs.code.Piece.{pieceOf, pieceNumber, tokenTo}
-use Rattle.token.specs.code.Quoted.{stringOf}
 use Rattle.token.specs.code.Records.{storedIf}
-use Rattle.token.specs.code.Walk.{Good, plainBehind, valuesBehind, Steps, nameNumber, operatorNumber, LeftTo, Opens}
+use Rattle.token.specs.code.Walk.{Good, plainBehind, valuesBehind, Steps, nameNumber, operatorNumber, LeftTo}
 use Rattle.token.specs.declared.cursor.Cursor.{Cursor}
 use Rattle.token.specs.declared.kinds.TokenKind.{TokenKind}
 use Rattle.token.specs.declared.kinds.TokenKind.TheVariants as tk
 use Rattle.token.specs.declared.names.Here.{Here}
-use Rattle.token.specs.declared.quoted.Quoted.{Quoted}
 use Rattle.token.specs.declared.walk.Stand.{Stand}
 use Rattle.token.proofs.byte_class.Laws.{class-start, class-sign, class-digit, class-tick, class-keyword}
 use Rattle.token.proofs.cursor.Bytes.{inside}
@@ -45,7 +43,6 @@ use Rattle.token.proofs.names.Ascii.{isStart, word-bare, word-left, word-scan, w
 use Rattle.token.proofs.names.Bytes.{Stops, class-inside}
 use Rattle.token.proofs.names.Laws.{name-rest, word-plain, operator-rest, operator-token, operator-cut, operator-comment, run-clear, run-plain}
 use Rattle.token.proofs.ident.Laws.{quote-byte, token-at}
-use Rattle.token.proofs.quoted.Found.{string-found, prefixed-closed, quotes-within, quotes-few}
 use Rattle.token.proofs.charsym.Laws.{tick-byte}
 use Rattle.token.proofs.lexer.Laws.{number_at, charsym-at}
 use Rattle.token.proofs.walk.Pieces.{or-first, by-class, found-here, step-valued, step-bare, step-ascii}
@@ -62,19 +59,6 @@ behind-here {s} {x} {out} {next} e q h = subst (λ z. Steps s x out (plainBehind
 
 pub oneOf : (b : ℕ) {c : ℕ} → eqb c b || false ≡ true → c ≡ b
 oneOf b {c} e = eqb-true c b (or-first (eqb c b) false e refl)
-
-or-prefixed : (n : ℕ) (k : TokenKind) (a r : Text) → quote r ≡ true → orPrefixed n k a r ≡ prefixedOf n a (closeString true r)
-unfolding orPrefixed
-or-prefixed n k a r z = rw z
-
--- a string that is prefixed from i to q, and closed at e
-prefixed-piece : (s : List ℕ) (i q e : ℕ) (k : TokenKind) → i < length s → quote (from s q) ≡ true → e ≤ length s → closeString true (from s q) ≡ closed (from s e)
-    → scan (length s) (from s i) ≡ orPrefixed (length s) k (from s i) (from s q) → tokenTo (tk.Str i e) (cursorAt e) ≡ pieceOf (length s) (scan (length s) (from s i))
-unfolding pieceOf
-prefixed-piece s i q e k h z l c f =
-    sym (ap (pieceOf (length s)) (f ∙ or-prefixed (length s) k (from s i) (from s q) z ∙ ap (prefixedOf (length s) (from s i)) c)
-    ∙ ap (λ y. tokenTo (tk.Str y (place (length s) (from s e))) (cursorAt (place (length s) (from s e)))) (place-from s i (omega arith))
-    ∙ ap (λ y. tokenTo (tk.Str i y) (cursorAt y)) (place-from s e l))
 
 -- ---- operators
 
@@ -234,17 +218,16 @@ module _ {s : List ℕ} {x : Stand} (g : Good s x) (k : not (upToBlank x.class.n
     name-counts = go (eqb x.class.number keywordClass) refl
       where
         go : (b : Bool) → eqb x.class.number keywordClass ≡ b
-            → cond b (numberOr 1 (wordOf (codesTo (from s x.at) (from s e)))) (cond (eqb x.class.number backtickClass) 3 1) ≡ numberOr 1 (wordOf (codesTo (from s x.at) (from s e)))
+            → cond b (numberOr 1 (wordOf (codesTo (from s x.at) (from s e)))) 1 ≡ numberOr 1 (wordOf (codesTo (from s x.at) (from s e)))
         go true q = refl
         go false q =
             let c = sym (class-keyword (get_or s x.at 0)) ∙ by-class g (λ z. eqb z keywordClass) q in
             let w = word-leaves in
             let n = word-at s x.at e w.0 w.1 w.2 ∙ first-none (codes "cefimrt") wordKeywords (e - x.at) s x.at refl c in
-            let b = ne_eqb x.class.number backtickClass (λ z. clash (sym (ap (λ y. not (upToBlank y) && startsWord y) z) ∙ k)) in
-            ap (λ y. cond y 3 1) b ∙ sym (ap (numberOr 1) n)
+            sym (ap (numberOr 1) n)
 
     -- a keyword, before a quote too; or an identifier that prefixes no string
-    pub step-name : (numberOr 1 (wordOf (codesTo (from s x.at) (from s e))) ≤ 3 → quote (from s e) ≡ false) → (out next : List ℕ)
+    pub step-name : (numberOr 1 (wordOf (codesTo (from s x.at) (from s e))) ≡ 1 → quote (from s e) ≡ false) → (out next : List ℕ)
         → next ≡ storedIf out x.bytes (byForm (plainForm (nameNumber s x.class.number x.at e)) x.at e x.cut) → Steps s x out (plainBehind x (hereOf s e)) next
     unfolding numberOr
     step-name z out next q = go (wordOf (codesTo (from s x.at) (from s e))) refl
@@ -254,7 +237,7 @@ module _ {s : List ℕ} {x : Stand} (g : Good s x) (k : not (upToBlank x.class.n
 
         go : (o : Option Kw) → wordOf (codesTo (from s x.at) (from s e)) ≡ o → Steps s x out (plainBehind x (hereOf s e)) next
         go none f =
-            let u = z (rw f (omega arith)) in
+            let u = z (ap (numberOr 1) f) in
             step-bare g word-inside tk.Ident e (word-found s x.at e word-inside start-byte l r u none f) (word-bare none) out next (stored 1 (name-counts ∙ ap (numberOr 1) f))
         go (some j) f =
             let u : tokenTo (tk.Kw j) (cursorAt e) ≡ pieceOf (length s) (scan (length s) (from s x.at)) =
@@ -280,51 +263,3 @@ module _ {s : List ℕ} {x : Stand} (g : Good s x) (k : not (upToBlank x.class.n
 
     pub step-word : (out next : List ℕ) → next ≡ storedIf out x.bytes (byForm (plainForm (nameNumber s x.class.number x.at e.at)) x.at e.at x.cut) → Steps s x out (plainBehind x e) next
     step-word out next z = behind-here e word-class (step-name e.at word-rests.1 word-rests.2 (λ w. word-is.2) out next z)
-
--- ---- strings
-
-module _ {s : List ℕ} {x : Stand} (g : Good s x) where
-  open-byte : {q : ℕ} → Opens s x q → get_or s q 0 ≡ 0x22
-  open-byte (Opens.plain e b) = b
-  open-byte (Opens.prefixed k o w b f) = b
-
-  pub open-within : {q : ℕ} → Opens s x q → (q ≤ length s) × (quote (from s q) ≡ true)
-  open-within {q} o = let b = open-byte o in let h = inside s q (omega arith) in (omega arith, quote-byte s q ∙ eq-eqb (get_or s q 0) 0x22 b)
-
-  -- what the content's places are made of
-  pub open-off : {q : ℕ} → Opens s x q → (r : Quoted) → Some r ≡ stringOf (ltb x.at q) s q → (o : ℕ) → o ≡ cond (ltb x.at q) 0 r.quotes → (o ≤ r.end) × (o ≤ 3)
-  open-off {q} h r z o e = go (ltb x.at q) refl (quotes-within (ltb x.at q) s q (open-byte h) r z) (quotes-few (ltb x.at q) s q (open-byte h) r z)
-    where
-      go : (b : Bool) → ltb x.at q ≡ b → r.quotes ≤ r.end → r.quotes ≤ 3 → (o ≤ r.end) × (o ≤ 3)
-      go true f l m = let y : o ≡ 0 = e ∙ ap (λ y. cond y 0 r.quotes) f in (omega arith, omega arith)
-      go false f l m = let y : o ≡ r.quotes = e ∙ ap (λ y. cond y 0 r.quotes) f in (omega arith, omega arith)
-
-  -- the string ends past where the walk stands
-  pub string-on : {q : ℕ} → Opens s x q → (r : Quoted) → Some r ≡ stringOf (ltb x.at q) s q → x.at < r.end
-  string-on {q} (Opens.plain e b) r z =
-      let t : ltb x.at q ≡ false = le-ltb x.at q (omega arith) in
-      let u = string-found s q b r (z ∙ ap (λ y. stringOf y s q) t) in
-      omega (arith, u.0)
-  string-on {q} (Opens.prefixed k l i b c) r z =
-      let u = prefixed-closed s q b r (z ∙ ap (λ y. stringOf y s q) (lt-ltb x.at q l)) in
-      omega (arith, u.0)
-
-  pub step-string : {q : ℕ} → Opens s x q → (r : Quoted) → Some r ≡ stringOf (ltb x.at q) s q → (o : ℕ) → o ≡ cond (ltb x.at q) 0 r.quotes → (out next : List ℕ)
-      → next ≡ storedIf out x.bytes (byForm (formOf (tk.Str (x.at + o) (r.end - o))) x.at r.end x.cut) → Steps s x out (valuesBehind x (hereOf s r.end) strLength) next
-  step-string {q} (Opens.plain e b) r z o f out next w =
-      let t : ltb x.at q ≡ false = le-ltb x.at q (omega arith) in
-      let u = string-found s q b r (z ∙ ap (λ y. stringOf y s q) t) in
-      let v : o ≡ r.quotes = f ∙ ap (λ y. cond y 0 r.quotes) t in
-      let h : x.at < length s = let i = inside s q (omega arith) in omega arith in
-      let p : tokenTo (tk.Str (x.at + o) (r.end - o)) (cursorAt r.end) ≡ pieceOf (length s) (scan (length s) (from s x.at)) =
-      ap (λ y. tokenTo (tk.Str (x.at + y) (r.end - y)) (cursorAt r.end)) v ∙ ap (λ y. tokenTo (tk.Str (y + r.quotes) (r.end - r.quotes)) (cursorAt r.end)) (sym e)
-      ∙ u.2 ∙ ap (λ y. pieceOf (length s) (scan (length s) (from s y))) e in
-      step-valued g h (tk.Str (x.at + o) (r.end - o)) r.end p strLength (str-size _ _) (str-size _ _) out next w
-  step-string {q} (Opens.prefixed k l i b c) r z o f out next w =
-      let t : ltb x.at q ≡ true = lt-ltb x.at q l in
-      let u = prefixed-closed s q b r (z ∙ ap (λ y. stringOf y s q) t) in
-      let v : o ≡ 0 = f ∙ ap (λ y. cond y 0 r.quotes) t in
-      let h : x.at < length s = omega arith in
-      let p = prefixed-piece s x.at q r.end k h (open-within {q = q} (Opens.prefixed k l i b c)).1 u.1 u.2 c in
-      step-valued g h (tk.Str x.at r.end) r.end p strLength (str-size _ _) (str-size _ _) out next
-      (w ∙ ap (λ y. storedIf out x.bytes (byForm (formOf y) x.at r.end x.cut)) (let a : x.at + o ≡ x.at = omega arith in let d : r.end - o ≡ r.end = omega arith in ap (λ y. tk.Str y (r.end - o)) a ∙ ap (tk.Str x.at) d))

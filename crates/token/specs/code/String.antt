@@ -1,9 +1,10 @@
 -- What `string` answers.
-use Rattle.std.specs.Prelude.{ℕ, ◌+◌, ◌-◌, Bool, cond, not, ◌&&◌, ◌||◌, List, length, drop, get_or, eqb, leb, ltb, Result, Ok}
+use Rattle.std.specs.Prelude.{ℕ, ◌+◌, ◌-◌, Bool, cond, not, ◌&&◌, ◌||◌, List, [], ◌∷◌, length, drop, get_or, eqb, leb, ltb, Result, Ok}
 use Rattle.std.specs.List.{prefix_len}
 use Rattle.chars.specs.paper.Quoted.{oneOf}
 use Rattle.chars.specs.paper.Text.{Text, from, place}
-use Rattle.token.specs.paper.Tests.{dollarBrace}
+use Rattle.chars.specs.computed.Runs.{afterRun}
+use Rattle.token.specs.paper.Tests.{isAny, dollarBrace, notBacktick}
 use Rattle.token.specs.computed.Answer.{Esc, unbroken, broken, exactHexes, afterSlash, Closing, closed, wrong, closePlain, closePrefixed}
 use Rattle.token.specs.declared.kinds.TokenKind.{TokenKind}
 use Rattle.token.specs.declared.kinds.TokenKind.TheVariants as tk
@@ -71,6 +72,15 @@ tripleItem p s i =
     let dollar = dollarOf (length s) (from s i) in
     let next = endAt (cursorAt (i + 1)) in
     cond (eqb byte 0x5C) (refusedFor refusal.BackslashInTriple i) (cond (p && eqb byte 0x24) dollar next)
+
+-- past the backtick with which the text r begins, of the name that s begins; refused, where none is left
+abbrev pub tickEnd : ℕ → Text → Text → EndAnswer
+tickEnd n s [] = refusedFor refusal.OpenBacktick (place n s)
+tickEnd n s (c ∷ r) = endAt (cursorAt (place n r))
+
+-- a backtick's end, from its opening on
+unfoldable pub backtickOf : ℕ → Text → EndAnswer
+backtickOf n s = cond (isAny "`" (drop 1 s)) (refusedFor refusal.EmptyBacktick (place n s)) (tickEnd n s (afterRun notBacktick (drop 1 s)))
 
 -- the end of the bytes from a to b without a last quote, if one is left
 unfoldable pub lastOff : List ℕ → ℕ → ℕ → ℕ

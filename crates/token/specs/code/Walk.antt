@@ -6,10 +6,9 @@ use Rattle.chars.specs.paper.Text.{from}
 use Rattle.chars.specs.promises.Texts.{Suffix}
 use Rattle.token.specs.paper.Kinds.{wordOf, runOf}
 use Rattle.token.specs.computed.Answer.{codesTo, orPrefixed, scan}
-use Rattle.token.specs.code.ByteClass.{classAt, backtickClass, quoteClass, keywordClass, slashClass, upToBlank, startsWord, inLineEnd}
+use Rattle.token.specs.code.ByteClass.{classAt, keywordClass, slashClass, upToBlank, startsWord, inLineEnd}
 use Rattle.token.specs.code.Keyword.{numberOr}
-use Rattle.token.specs.code.Names.{hereOf, nameEnd}
-use Rattle.token.specs.code.Quoted.{backtickEnd}
+use Rattle.token.specs.code.Names.{hereOf}
 use Rattle.token.specs.declared.kinds.TokenKind.{TokenKind}
 use Rattle.token.specs.code.Records.{State, Standing, Reaches, measuredFrom, storedFrom}
 use Rattle.token.specs.declared.names.Here.{Here}
@@ -87,29 +86,22 @@ pub record Refuses (s : List ℕ) (x : Stand) (out : List ℕ) (e : Refused) : T
 abbrev pub LeftTo : List ℕ → ℕ → ℕ → Type 0
 LeftTo s i e = (i ≤ e) × (e ≤ length s) × Suffix (from s e) (from s i)
 
--- an id start, a backtick or a quote, by its class
+-- an id start, by its class
 abbrev pub beginsName : ℕ → Bool
-beginsName e = eqb e backtickClass || eqb e quoteClass || (not (upToBlank e) && startsWord e)
+beginsName e = not (upToBlank e) && startsWord e
 
--- the kind's number of the word or backtick from i to e, whose first byte has the class k; of a quote that of an identifier
+-- the kind's number of the word from i to e, whose first byte has the class k
 unfoldable pub nameNumber : List ℕ → ℕ → ℕ → ℕ → ℕ
-nameNumber s k i e = cond (eqb k keywordClass) (numberOr 1 (wordOf (codesTo (from s i) (from s e)))) (cond (eqb k backtickClass) 3 1)
-
--- a place that was found, with its class
-abbrev pub foundAt : List ℕ → Option ℕ → Option Here
-foundAt s None = None
-foundAt s (Some e) = Some (hereOf s e)
-
--- where the identifier or backtick ends that begins at i with a byte of the class k; of a quote, where it stands
-unfoldable pub prefixEnd : List ℕ → ℕ → ℕ → Option Here
-prefixEnd s k i =
-    cond (eqb k quoteClass) (Some (record { at = i; class = record { number = k } })) (cond (eqb k backtickClass) (foundAt s (backtickEnd s i)) (nameEnd s i))
+nameNumber s k i e = cond (eqb k keywordClass) (numberOr 1 (wordOf (codesTo (from s i) (from s e)))) 1
 
 -- the kind's number of the operator from i to its end: before a comment it is no keyword
 unfoldable pub operatorNumber : List ℕ → ℕ → Here → ℕ
 operatorNumber s i end = cond (eqb end.class.number slashClass) 2 (numberOr 2 (runOf (codesTo (from s i) (from s end.at))))
 
--- a string's opening stands at q: a plain one's where the walk stands, or one that what stands before it prefixes
-pub data Opens (s : List ℕ) (x : Stand) (q : ℕ) : Type 0 where
-  plain : q ≡ x.at → get_or s q 0 ≡ 0x22 → Opens s x q
-  prefixed : (k : TokenKind) → x.at < q → q ≤ length s → get_or s q 0 ≡ 0x22 → scan (length s) (from s x.at) ≡ orPrefixed (length s) k (from s x.at) (from s q) → Opens s x q
+-- what stands from i to q prefixes the string whose opening stands at q
+pub record Prefixes (s : List ℕ) (i q : ℕ) : Type 0 where
+  pub kind : TokenKind
+  pub on : i < q
+  pub within : q ≤ length s
+  pub byte : get_or s q 0 ≡ 0x22
+  pub is : scan (length s) (from s i) ≡ orPrefixed (length s) kind (from s i) (from s q)

@@ -1,21 +1,22 @@
--- A step passes what the walk passes.
-use Rattle.std.proofs.Common.{◌∙◌, arith}
-use Rattle.token.proofs.string.Laws.{quote-in, single-skip, single-on}
+-- The walk from behind the ordinary bytes finds what it finds from behind the quote on.
+use Rattle.std.proofs.Common.{length, sym, ap, ◌∙◌, ◌≡◌, get_or, arith}
+use Rattle.token.specs.code.String.{endedOf}
+use Rattle.token.proofs.cursor.Bytes.{inside}
+use Rattle.token.proofs.string.Laws.{quote-in, single-begun, single-closes}
 use Rattle.token.proofs.string.lex_single_string.Goals as goal
 
-pub skip_ordinary-d-requires : goal.skip_ordinary-d-requires
-skip_ordinary-d-requires c = let q = quote-in _ _ c.requires.opens in omega arith
+pub skip_ordinary-run-requires : goal.skip_ordinary-run-requires
+skip_ordinary-run-requires c = let q = quote-in _ _ c.requires.opens in omega arith
 
-pub skip_ordinary-d-requires-in-loop-d : goal.skip_ordinary-d-requires-in-loop-d
-skip_ordinary-d-requires-in-loop-d c = (single-on c.args.prefixed c.args.s.now _ c.loop-d-test.true _ c.if-s-d-eq34.false c.in_ok-next.ensures).1
+pub returns-then-byte_at-eq34 : goal.returns-then-byte_at-eq34
+returns-then-byte_at-eq34 c =
+    let s = c.args.s.now in
+    let i = c.skip_ordinary-run.result.at in
+    let b : get_or s i 0 ≡ 0x22 = sym c.byte_at.ensures ∙ c.if-byte_at-eq34.true in
+    single-closes c.args.prefixed s i (inside s i (omega arith)) b
+    ∙ ap (endedOf (length s)) (single-begun c.args.prefixed s c.args.c.at i c.requires.opens c.skip_ordinary-run.ensures.2)
 
-pub loop-d-smaller : goal.loop-d-smaller
-loop-d-smaller c =
-    let w = single-on c.args.prefixed c.args.s.now _ c.loop-d-test.true _ c.if-s-d-eq34.false c.in_ok-next.ensures in
-    omega arith
-
-pub loop-d-preserved : goal.loop-d-preserved
-loop-d-preserved c =
-    let skip = c.skip_ordinary-d-in-loop-d.ensures in
-    let w = single-on c.args.prefixed c.args.s.now _ c.loop-d-test.true _ c.if-s-d-eq34.false c.in_ok-next.ensures in
-    (skip.1, single-skip _ _ _ _ skip.2 ∙ w.2 ∙ c.loop-d.invariant.1)
+pub returns : goal.returns
+returns c =
+    let s = c.args.s.now in
+    c.lex_items.ensures ∙ ap (endedOf (length s)) (single-begun c.args.prefixed s c.args.c.at _ c.requires.opens c.skip_ordinary-run.ensures.2)

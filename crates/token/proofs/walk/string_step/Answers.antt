@@ -1,27 +1,18 @@
--- A string that is recognised; else it is left.
-use Rattle.std.proofs.Common.{arith}
-use Rattle.token.proofs.walk.Words.{open-within, open-off, string-on, step-string}
+use Rattle.std.proofs.Common.{◌∙◌, arith}
+use Rattle.token.proofs.walk.Prefixes.{string-inside, string-opens, string-no-gap, string-scan}
 use Rattle.token.proofs.walk.string_step.Goals as goal
 
-pub string_at-requires-clause-within : goal.string_at-requires-clause-within
-string_at-requires-clause-within c = (open-within c.requires.good c.requires.opened).0
+pub lex_plain_string-piece-requires-clause-within : goal.lex_plain_string-piece-requires-clause-within
+lex_plain_string-piece-requires-clause-within c = let h = string-inside c.requires.good c.requires.quote in omega arith
 
-pub string_at-requires-clause-opened : goal.string_at-requires-clause-opened
-string_at-requires-clause-opened c = (open-within c.requires.good c.requires.opened).1
+pub lex_plain_string-piece-requires-clause-opens : goal.lex_plain_string-piece-requires-clause-opens
+lex_plain_string-piece-requires-clause-opens c = string-opens c.requires.good c.requires.quote
 
-pub overflow_add-x : goal.overflow_add-x
-overflow_add-x c =
-    let g = c.requires.good in
-    omega (arith, g.stands.within, (open-off g c.requires.opened _ c.in_ok-string.ensures _ c.content_off-off.ensures).1)
+pub put_piece-requires-clause-within : goal.put_piece-requires-clause-within
+put_piece-requires-clause-within c = string-inside c.requires.good c.requires.quote
 
-pub overflow_sub-string : goal.overflow_sub-string
-overflow_sub-string c = (open-off c.requires.good c.requires.opened _ c.in_ok-string.ensures _ c.content_off-off.ensures).0
+pub put_piece-requires-clause-no_gap : goal.put_piece-requires-clause-no_gap
+put_piece-requires-clause-no_gap c = string-no-gap c.requires.good c.requires.quote
 
-pub returns-clause-on : goal.returns-clause-on
-returns-clause-on c =
-    rw (c.behind_values.ensures, c.here_at.ensures)
-    (step-string c.requires.good c.requires.opened _ c.in_ok-string.ensures _ c.content_off-off.ensures _ _ (rw c.span-form.ensures.value at c.put_if.ensures))
-
-pub returns-clause-further : goal.returns-clause-further
-returns-clause-further c =
-    rw (c.behind_values.ensures, c.here_at.ensures) (string-on c.requires.good c.requires.opened _ c.in_ok-string.ensures)
+pub put_piece-requires-clause-piece_is : goal.put_piece-requires-clause-piece_is
+put_piece-requires-clause-piece_is c = c.lex_plain_string-piece.ensures ∙ string-scan c.requires.good c.requires.quote

@@ -1,2 +1,0 @@
-pub mod Laws
-pub mod Found
