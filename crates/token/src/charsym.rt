@@ -1,4 +1,4 @@
-// Characters and symbols. Document 01, "Character" and "Symbol".
+// Characters and symbols. RULES, "Character" and "Symbol".
 ghost use Rattle.std.specs.Prelude.{◌≡◌, true, not, ◌&&◌, ◌≤◌, eqb, length, get_or};
 ghost use Rattle.chars.specs.paper.Classes.{isPrintable};
 ghost use Rattle.chars.specs.paper.Quoted.{between};

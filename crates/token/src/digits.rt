@@ -1,4 +1,4 @@
-// Digits: one walk over a run and one value, for numbers and escapes alike. Document 01, "Number" and "Escape".
+// Digits: one walk over a run and one value, for numbers and escapes alike. RULES, "Number" and "Escape".
 ghost use Rattle.std.specs.Prelude.{◌≡◌, true, ℕ, ◌*◌, ◌^◌, ◌≤◌, ◌<◌, length, get_or};
 ghost use Rattle.chars.specs.paper.Text.{Text, from};
 ghost use Rattle.token.specs.paper.Tests.{isDigit, digitValue, hexAhead};

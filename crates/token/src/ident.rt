@@ -1,4 +1,4 @@
-// Identifiers, operators and backticks. Document 01, "Piece table".
+// Identifiers, operators and backticks. RULES, "Identifier", "Operator" and "Backtick".
 ghost use Rattle.std.specs.Prelude.{◌≡◌, true, false, ◌≤◌, length, drop};
 ghost use Rattle.chars.specs.paper.Classes.{isIdStart};
 ghost use Rattle.chars.specs.paper.Text.{from, headIs};

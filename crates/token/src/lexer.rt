@@ -1,4 +1,4 @@
-// One token at a place, by its first byte. Document 01, "Piece table".
+// One token at a place, by its first byte. RULES, "Pieces".
 ghost use Rattle.std.specs.Prelude.{◌≡◌, false, ◌<◌, length};
 ghost use Rattle.chars.specs.paper.Text.{from};
 ghost use Rattle.token.specs.paper.Tests.{isAny, opensComment};

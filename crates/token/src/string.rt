@@ -1,4 +1,4 @@
-// Strings and escapes. Document 01, "String", "Escape" and string content.
+// Strings and escapes. RULES, "String", "Escape" and "String content".
 ghost use Rattle.std.specs.Prelude.{◌≡◌, true, false, ◌+◌, ◌≤◌, ◌<◌, length, drop, get_or};
 ghost use Rattle.chars.specs.paper.Text.{from, headIs};
 ghost use Rattle.chars.specs.computed.Runs.{afterRun};
