@@ -29,8 +29,6 @@ const HEAD: usize = TokenKind::HEAD_LENGTH as usize;
 
 const LINE: usize = TokenKind::NEWLINE_LENGTH as usize;
 
-const TEXT: usize = TokenKind::STR_LENGTH as usize;
-
 const INT: usize = TokenKind::INT_LIT_LENGTH as usize;
 
 const LONG: usize = TokenKind::LONG_LIT_LENGTH as usize;
