@@ -1,4 +1,4 @@
--- Document 01's definitions, in its order: tests on codes, UTF-8 and texts, tables and classes.
+-- What RULES (docs/RULES.md), "Characters", says, in its order: tests on codes, UTF-8 and texts, tables and classes.
 pub mod Quoted
 pub mod Utf8
 pub mod Text

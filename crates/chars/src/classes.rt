@@ -1,4 +1,4 @@
-// The character classes of document 01, with the names of token.rs.
+// The character classes of RULES, "Characters", with the names of token.rs.
 ghost use Rattle.std.specs.Prelude.{◌≡◌, ◌&&◌, ltb, length};
 ghost use Rattle.chars.specs.code.Masks.{inMasks};
 ghost use Rattle.chars.specs.paper.Classes.{isIdStart, isIdChar, isOpSign, isPrintable};

@@ -1,4 +1,4 @@
-// Bytes into characters, and the classes of a character: document 01, "Bytes into characters" and "Character classes".
+// Bytes into characters, and the classes of a character: RULES (docs/RULES.md), "Characters".
 #![tactic(auto)]
 
 pub mod tables; // range tables of Unicode 16.0

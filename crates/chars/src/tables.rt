@@ -1,4 +1,4 @@
-// The range tables of document 01, "Character classes": the ranges up to U+FFFF, each with both ends.
+// The range tables of RULES, "Unicode tables": the ranges up to U+FFFF, each with both ends.
 
 // Alphabetic, Unicode 16.0: 420 ranges.
 #[rattlefmt::skip]

@@ -1,4 +1,4 @@
--- What is proved for every script: the computed answer is what document 01 declares. Proved: proofs/theorems.
+-- What is proved for every script: the computed answer is what is declared (`paper`). Proved: proofs/theorems.
 use Rattle.std.specs.Prelude.{ℕ, ◌≤◌, ◌≡◌, ◌⊎◌, ◌↔◌, List, [], length}
 use Rattle.chars.specs.paper.Utf8.{LongestValid}
 use Rattle.chars.specs.computed.Valid.{validPrefix}
@@ -12,14 +12,14 @@ use Rattle.token.specs.computed.Answer.{answer, tokenized, refused}
 pub record Theorems (script : List ℕ) : Type 0 where
   -- Refusal 18: the prefix that is measured is the longest valid one.
   pub longest-valid : LongestValid script (validPrefix script)
-  -- "A reading of a script": the script has one exactly when the computed answer has tokens.
+  -- RULES, "Reading": the script has one exactly when the computed answer has tokens.
   pub read-exactly : ((ps : List Piece) × Reading script ps) ↔ ((ts : List Token) × (answer script ≡ tokenized ts))
-  -- Two readings are the same, in every kind, start and end.
+  -- "A script has at most one reading.": two are the same, in every kind, start and end.
   pub one-reading : (ps qs : List Piece) → Reading script ps → Reading script qs → ps ≡ qs
-  -- "The records of a reading": the tokens of a reading, with their values, marks and cuts, are those of the answer, and it has one list of them.
+  -- RULES, "Records of a script": the tokens of a reading, with their values, marks and cuts, are those of the answer, and it has one list of them.
   pub tokens : (ps : List Piece) (ts : List Token) → Reading script ps → (Tokens script [] ps ts ↔ (answer script ≡ tokenized ts))
   pub one-tokens : (ps : List Piece) (ts us : List Token) → Tokens script [] ps ts → Tokens script [] ps us → ts ≡ us
-  -- The refusal table, 1 to 16: the answer refuses with this number and place exactly where the table does.
+  -- RULES, "Refusals of a piece": the answer refuses with this number and place exactly where the table does.
   pub refuses : (j a : ℕ) → (answer script ≡ refused j a) ↔ Refused script j a
   pub one-refusal : (i j a b : ℕ) → Refused script i a → Refused script j b → (i ≡ j) × (a ≡ b)
   -- No answer is left open: a reading, or a refusal; never both.
@@ -27,5 +27,5 @@ pub record Theorems (script : List ℕ) : Type 0 where
   pub never-both : (ps : List Piece) (j a : ℕ) → Reading script ps → Refused script j a → ⊥
   -- Its record bytes are the sum of the records' lengths.
   pub bytes : (ts : List Token) → length (records ts) ≡ recordBytes ts
-  -- A script of n bytes needs at most 17 times n plus 13 bytes.
+  -- RULES, "Record bound": "A script of n bytes that has a reading needs at most 17 times n plus 13 record bytes."
   pub need : (ts : List Token) → TokensOf script ts → recordBytes ts ≤ mostNeed (length script)

@@ -1,4 +1,4 @@
--- What the code's own functions answer, module by module. Nothing that states document 01 cites it.
+-- What the code's own functions answer, module by module. Nothing that states the rules cites it.
 pub mod Loops
 pub mod Refusal
 pub mod Cursor

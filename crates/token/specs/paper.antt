@@ -1,5 +1,5 @@
--- Document 01's definitions: tests of characters and the kinds first, since the rest cites them; then in its order the piece table, readings,
--- records, and the refusal table's first sixteen rows.
+-- What RULES (docs/RULES.md), "Pieces" to "Refusals", says: tests of characters and the kinds first, since the rest cites them; then shapes,
+-- readings, records, and refusals 1 to 16.
 pub mod Tests
 pub mod Kinds
 pub mod Shapes

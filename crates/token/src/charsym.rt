@@ -1,4 +1,4 @@
-// Characters and symbols. Document 01, "Character" and "Symbol".
+// Characters and symbols. RULES, "Character" and "Symbol".
 ghost use Rattle.std.specs.Prelude.{◌≡◌, true, not, ◌&&◌, ◌≤◌, eqb, length, get_or};
 ghost use Rattle.chars.specs.paper.Classes.{isPrintable};
 ghost use Rattle.chars.specs.paper.Quoted.{between};
@@ -15,7 +15,7 @@ use crate::ident::{consume_op_run, opens_comment, skip_id_rest};
 use crate::kinds::TokenKind;
 use crate::names::{run_end, word_end};
 use crate::piece::Piece;
-use crate::refusal::{Refusal, Refused};
+use crate::refusal::Refusal;
 use crate::string::consume_escape;
 
 /// A character or a symbol, from its `'` on.
@@ -32,10 +32,7 @@ pub fn lex_char_sym(s: &[u8], c: Cursor) -> Piece
     }
     let plain = plain_end(s, name, b);
     let Some(end) = plain else {
-        return Err(Refused {
-            what: Refusal::NoSymbol,
-            place: name.at,
-        });
+        return Err(Refusal::NoSymbol.at(name.at));
     };
     Ok((TokenKind::CharSym, end))
 }
@@ -58,10 +55,7 @@ fn close_char(s: &[u8], c: Cursor) -> Piece
     ensures { result ≡ pieceOf (length s.now) (tickNext (from s.now c.at)) }
 {
     if byte_at(s, c.at) != b'\'' {
-        return Err(Refused {
-            what: Refusal::NoTick,
-            place: c.at,
-        });
+        return Err(Refusal::NoTick.at(c.at));
     }
     Ok((TokenKind::CharSym, Cursor { at: c.at + 1 }))
 }

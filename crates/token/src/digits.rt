@@ -1,4 +1,4 @@
-// Digits: one walk over a run and one value, for numbers and escapes alike. Document 01, "Number" and "Escape".
+// Digits: one walk over a run and one value, for numbers and escapes alike. RULES, "Number" and "Escape".
 ghost use Rattle.std.specs.Prelude.{◌≡◌, true, ℕ, ◌*◌, ◌^◌, ◌≤◌, ◌<◌, length, get_or};
 ghost use Rattle.chars.specs.paper.Text.{Text, from};
 ghost use Rattle.token.specs.paper.Tests.{isDigit, digitValue, hexAhead};
@@ -9,7 +9,7 @@ ghost use Rattle.token.specs.code.Piece.{pieceOf};
 use crate::cursor::{Cursor, byte_at};
 use crate::kinds::TokenKind;
 use crate::piece::Piece;
-use crate::refusal::{Refusal, Refused};
+use crate::refusal::Refusal;
 
 /// The limits of numbers.
 pub struct Value;
@@ -160,10 +160,7 @@ fn int_literal(start: usize, v: u64, end: Cursor) -> Piece
     ensures { result ≡ intOr start v end }
 {
     if Value::INT_MOST < v {
-        return Err(Refused {
-            what: Refusal::LargeNumber,
-            place: start,
-        });
+        return Err(Refusal::LargeNumber.at(start));
     }
     Ok((TokenKind::IntLit(v as u32), end))
 }
@@ -175,10 +172,7 @@ fn long_literal(start: usize, v: u64, end: Cursor) -> Piece
     ensures { result ≡ longOr start v end }
 {
     if Value::LONG_MOST < v {
-        return Err(Refused {
-            what: Refusal::LargeNumber,
-            place: start,
-        });
+        return Err(Refusal::LargeNumber.at(start));
     }
     Ok((TokenKind::LongLit(v), end))
 }

@@ -1,4 +1,4 @@
-// One record, stored and read back. Document 01, "Records".
+// One record, stored and read back. RULES, "Record".
 ghost use Rattle.std.specs.Prelude.{◌≡◌, false, ◌+◌, ◌-◌, ◌≤◌, length, take};
 ghost use Rattle.std.proofs.lemmas.List.Edits.{sets};
 ghost use Rattle.token.specs.paper.Records.{headLength, lineLength, strLength, intLength, longLength};

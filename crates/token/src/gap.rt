@@ -1,4 +1,4 @@
-// Comments. Document 01, "Piece table".
+// Comments. RULES, "Pieces".
 ghost use Rattle.std.specs.Prelude.{◌≡◌, true, not, ◌+◌, ◌*◌, ◌≤◌, length, drop, get_or};
 ghost use Rattle.chars.specs.paper.Text.{from};
 ghost use Rattle.chars.specs.computed.Runs.{afterRun};

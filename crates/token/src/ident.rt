@@ -1,4 +1,4 @@
-// Identifiers, operators and backticks. Document 01, "Piece table".
+// Identifiers, operators and backticks. RULES, "Identifier", "Operator" and "Backtick".
 ghost use Rattle.std.specs.Prelude.{◌≡◌, true, false, ◌≤◌, length, drop};
 ghost use Rattle.chars.specs.paper.Classes.{isIdStart};
 ghost use Rattle.chars.specs.paper.Text.{from, headIs};
@@ -187,16 +187,10 @@ pub fn consume_backtick(s: &[u8], c: Cursor) -> Result<Cursor, Refused>
     let start = c.at;
     let end = run_end::<NoneOf<b'`', b'`', b'`', b'`'>>(s, start + 1);
     if s.len() <= end {
-        return Err(Refused {
-            what: Refusal::OpenBacktick,
-            place: start,
-        });
+        return Err(Refusal::OpenBacktick.at(start));
     }
     if end == start + 1 {
-        return Err(Refused {
-            what: Refusal::EmptyBacktick,
-            place: start,
-        });
+        return Err(Refusal::EmptyBacktick.at(start));
     }
     Ok(Cursor { at: end + 1 })
 }

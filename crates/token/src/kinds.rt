@@ -1,4 +1,4 @@
-// Keywords and token kinds, with the record kind numbers and record lengths of document 01, "Records".
+// Keywords and token kinds, with the numbers and lengths of their records: RULES, "Kinds" and "Record".
 ghost use Rattle.std.specs.Prelude.{◌≡◌};
 ghost use Rattle.token.specs.paper.Kinds.{kwNumber};
 ghost use Rattle.token.specs.paper.Records.{bit};

@@ -1,4 +1,4 @@
-// One token at a place, by its first byte. Document 01, "Piece table".
+// One token at a place, by its first byte. RULES, "Pieces".
 ghost use Rattle.std.specs.Prelude.{◌≡◌, false, ◌<◌, length};
 ghost use Rattle.chars.specs.paper.Text.{from};
 ghost use Rattle.token.specs.paper.Tests.{isAny, opensComment};
@@ -9,7 +9,7 @@ ghost use Rattle.token.specs.code.Piece.{pieceOf};
 use crate::cursor::Cursor;
 use crate::kinds::TokenKind;
 use crate::piece::Piece;
-use crate::refusal::{Refusal, Refused};
+use crate::refusal::Refusal;
 
 // A token that is no single sign, number, backtick, string, character or symbol: an identifier, an operator, or nothing. ASCII is
 // recognised from its byte.
@@ -30,10 +30,7 @@ fn lex_word(s: &[u8], c: Cursor) -> Piece
     if chars::classes::is_op_byte(b) {
         return crate::ident::lex_op_run(s, c, c);
     }
-    Err(Refused {
-        what: Refusal::NoPiece,
-        place: c.at,
-    })
+    Err(Refusal::NoPiece.at(c.at))
 }
 
 // The same by the character that stands there.
@@ -46,10 +43,7 @@ fn lex_wide_word(s: &[u8], c: Cursor) -> Piece
 {
     let here = c.peek(s);
     let Some((code, next)) = here else {
-        return Err(Refused {
-            what: Refusal::NoPiece,
-            place: c.at,
-        });
+        return Err(Refusal::NoPiece.at(c.at));
     };
     if chars::classes::is_op_char(code) {
         return crate::ident::lex_op_run(s, c, c);
@@ -57,10 +51,7 @@ fn lex_wide_word(s: &[u8], c: Cursor) -> Piece
     if chars::classes::is_id_start(code) {
         return crate::ident::lex_ident(s, c, next);
     }
-    Err(Refused {
-        what: Refusal::NoPiece,
-        place: c.at,
-    })
+    Err(Refusal::NoPiece.at(c.at))
 }
 
 /// One token, where no blank, line end or comment stands.

@@ -1,4 +1,4 @@
-// From script bytes to token records: document 01, "Piece table" to "Records".
+// From script bytes to token records: RULES (docs/RULES.md), "Pieces" to "Refusals".
 #![tactic(auto)]
 
 pub mod kinds; // keywords and token kinds, their record numbers and lengths

@@ -1,4 +1,4 @@
-// The records of a script: counted, and stored where they fit. Document 01, "Records".
+// The records of a script: counted, and stored where they fit. RULES, "Records of a script".
 ghost use Rattle.std.specs.Prelude.{◌≡◌, ◌≤◌, ◌+◌, ◌-◌, ◌/◌, length, IfOk, IfErr};
 ghost use Rattle.std.proofs.lemmas.List.Edits.{sets};
 ghost use Rattle.token.specs.computed.Answer.{answer, refused};

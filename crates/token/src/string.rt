@@ -1,4 +1,4 @@
-// Strings and escapes. Document 01, "String", "Escape" and string content.
+// Strings and escapes. RULES, "String", "Escape" and "String content".
 ghost use Rattle.std.specs.Prelude.{◌≡◌, true, false, ◌+◌, ◌≤◌, ◌<◌, length, drop, get_or};
 ghost use Rattle.chars.specs.paper.Text.{from, headIs};
 ghost use Rattle.chars.specs.computed.Runs.{afterRun};
@@ -31,10 +31,7 @@ pub fn consume_escape(s: &[u8], c: Cursor) -> Result<Cursor, Refused>
     ensures { result ≡ escapeOf (length s.now) (from s.now c.at) }
 {
     if s.len() <= c.at {
-        return Err(Refused {
-            what: Refusal::OpenEscape,
-            place: c.at,
-        });
+        return Err(Refusal::OpenEscape.at(c.at));
     }
     let code = s[c.at];
     let next = Cursor { at: c.at + 1 };
@@ -42,10 +39,7 @@ pub fn consume_escape(s: &[u8], c: Cursor) -> Result<Cursor, Refused>
         b'b' | b't' | b'n' | b'f' | b'r' | b'\'' | b'"' | b']' => Ok(next),
         b'0'..=b'9' => Ok(consume_digits(s, next, 10, 2)),
         b'u' => consume_hexes(s, next),
-        _ => Err(Refused {
-            what: Refusal::NoEscape,
-            place: c.at,
-        }),
+        _ => Err(Refusal::NoEscape.at(c.at)),
     }
 }
 
@@ -58,10 +52,7 @@ fn consume_hexes(s: &[u8], c: Cursor) -> Result<Cursor, Refused>
 {
     let end = consume_digits(s, c, 16, 4);
     if end.at - c.at < 4 {
-        return Err(Refused {
-            what: Refusal::NoHexDigit,
-            place: end.at,
-        });
+        return Err(Refusal::NoHexDigit.at(end.at));
     }
     Ok(end)
 }
@@ -91,10 +82,7 @@ fn consume_interp_dollar(s: &[u8], c: Cursor) -> Result<Cursor, Refused>
 {
     let next = c.at + 1;
     if byte_at(s, next) == b'{' {
-        return Err(Refused {
-            what: Refusal::DollarBrace,
-            place: c.at,
-        });
+        return Err(Refusal::DollarBrace.at(c.at));
     }
     Ok(Cursor { at: next })
 }
@@ -123,10 +111,7 @@ fn single_item(s: &[u8], c: Cursor, prefixed: bool) -> Result<Cursor, Refused>
     ensures { result ≡ singleItem prefixed s.now c.at }
 {
     match s[c.at] {
-        b'\n' => Err(Refused {
-            what: Refusal::LineFeed,
-            place: c.at,
-        }),
+        b'\n' => Err(Refusal::LineFeed.at(c.at)),
         b'$' if prefixed => consume_interp_dollar(s, c),
         _ => Ok(Cursor { at: c.at + 1 }),
     }
@@ -152,10 +137,7 @@ fn lex_items(s: &[u8], c: Cursor, prefixed: bool) -> Result<Cursor, Refused>
             d = single_item(s, d, prefixed)?;
         }
     }
-    Err(Refused {
-        what: Refusal::OpenString,
-        place: d.at,
-    })
+    Err(Refusal::OpenString.at(d.at))
 }
 
 // A single string from its quote on. In most all is ordinary.
@@ -215,10 +197,7 @@ fn triple_item(s: &[u8], c: Cursor, prefixed: bool) -> Result<Cursor, Refused>
     let next = Cursor { at: c.at + 1 };
     match s[c.at] {
         b'$' if prefixed => consume_interp_dollar(s, c),
-        b'\\' => Err(Refused {
-            what: Refusal::BackslashInTriple,
-            place: c.at,
-        }),
+        b'\\' => Err(Refusal::BackslashInTriple.at(c.at)),
         _ => Ok(next),
     }
 }
@@ -239,10 +218,7 @@ fn lex_triple_string(s: &[u8], c: Cursor, prefixed: bool) -> Result<Cursor, Refu
         let next = triple_item(s, d, prefixed)?;
         d = skip_ordinary(s, next);
     }
-    Err(Refused {
-        what: Refusal::OpenTriple,
-        place: d.at,
-    })
+    Err(Refusal::OpenTriple.at(d.at))
 }
 
 // The end of the text from `start` to `end` without a last quote, if one is left.

@@ -29,8 +29,6 @@ const HEAD: usize = TokenKind::HEAD_LENGTH as usize;
 
 const LINE: usize = TokenKind::NEWLINE_LENGTH as usize;
 
-const TEXT: usize = TokenKind::STR_LENGTH as usize;
-
 const INT: usize = TokenKind::INT_LIT_LENGTH as usize;
 
 const LONG: usize = TokenKind::LONG_LIT_LENGTH as usize;
@@ -198,10 +196,7 @@ fn return_step(out: &mut [u8], s: &[u8], x: Stand) -> Result<Stand, Refused>
     ensures kept { IfErr result (λ e. out.new ≡ out.old) }
 {
     if byte_at(s, x.at + 1) != b'\n' {
-        return Err(Refused {
-            what: Refusal::LoneCr,
-            place: x.at,
-        });
+        return Err(Refusal::LoneCr.at(x.at));
     }
     let form = Form::line(x.mark == x.bytes);
     put_if(out, x.bytes, form, x.at, x.at + 2, false);
@@ -230,10 +225,7 @@ fn block_step(s: &[u8], x: Stand) -> Result<Stand, Refused>
 {
     let closed = Cursor { at: x.at }.consume_block_comment(s);
     let Some(end) = closed else {
-        return Err(Refused {
-            what: Refusal::OpenComment,
-            place: x.at,
-        });
+        return Err(Refusal::OpenComment.at(x.at));
     };
     if x.line != x.bytes {
         return Ok(behind_comment(s, x, end.at));

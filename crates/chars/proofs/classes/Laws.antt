@@ -1,4 +1,4 @@
--- The character classes: what excludes what, each computed at the few characters that document 01 names.
+-- The character classes: what excludes what, each computed at the few characters that the rules name.
 use Prim.Native.Nat.{ℕ, ◌^◌, ◌≤◌, ◌<◌}
 use Prim.Native.String.{String}
 use mathlib.Core.Path.{◌≡◌, refl, sym, ap, ◌∙◌}
@@ -102,9 +102,9 @@ arrow-no-id = refl
 pub sign-no-id : (c : ℕ) → isOpSign c ≡ true → isIdChar c ≡ false
 sign-no-id c e = not-true (isIdChar c) (quoted-not isIdChar lowId low-id arrow-no-id opSigns refl c (sym (sign-is c) ∙ e))
 
--- ---- characters that document 01 names
+-- ---- characters that the rules name
 
--- A trap of document 01: the small Roman numeral one starts an identifier and never continues one.
+-- RULES, "Traps": the small Roman numeral one starts an identifier and never goes on in one.
 pub roman-start : isIdStart 0x2170 ≡ true
 unfolding isIdStart lowercase uppercase
 roman-start = refl

@@ -1,4 +1,4 @@
--- The laws of a table of ranges in ascending order: what the order test says, and what a binary search finds.
+-- Laws of a table of ranges in ascending order: what the order test says, and what a binary search finds.
 use Prim.Native.Nat.{ℕ, zero, suc, ◌≤◌, ◌<◌}
 use mathlib.Core.Path.{◌≡◌, refl, ap}
 use mathlib.Core.Bool.{Bool, true, false, ◌&&◌, ◌||◌, and-eq-true_iff, or-true}
@@ -108,6 +108,6 @@ disjoint-from f [] e k h = absurd (not-suc-le-zero h)
 disjoint-from f (◌to◌ a b ∷ t) e zero h = low-from (suc b) t (first-range f a b t e).rest zero (le_of_suc-le-suc h)
 disjoint-from f (◌to◌ a b ∷ t) e (suc k) h = disjoint-from (suc b) t (first-range f a b t e).rest k (le_of_suc-le-suc h)
 
--- a table that passes the test keeps document 01's rule
+-- a table that passes the test ascends
 pub ascending : (t : List Range) → ascendingFrom 0 t ≡ true → Ascending t
 ascending t e = record { ordered = ordered-from 0 t e; disjoint = disjoint-from 0 t e }

@@ -1,4 +1,4 @@
--- Tests on codes, and quoted texts as lists of codes, so that the definitions show document 01's own characters.
+-- Tests on codes, and quoted texts as lists of codes, so that the definitions show the characters as RULES does.
 use Rattle.std.specs.Prelude.{ℕ, Bool, false, ◌&&◌, ◌||◌, List, [], ◌∷◌, eqb, leb}
 use Prim.Native.Char.{code as scalar}
 use Prim.Native.String.{String, [] as ε, ◌∷◌ as ◌▸◌}

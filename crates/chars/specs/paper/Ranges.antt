@@ -24,7 +24,7 @@ rangeAt [] k = 0 to 0
 rangeAt (r ∷ t) zero = r
 rangeAt (r ∷ t) (suc k) = rangeAt t k
 
--- Document 01: no high is below its low, and every low above the high before it.
+-- RULES, "Unicode tables": "In each table no range ends before it starts, and each starts behind the end of the one before."
 pub record Ascending (t : List Range) : Type 0 where
   pub ordered : (k : ℕ) → k < length t → low (rangeAt t k) ≤ high (rangeAt t k)
   pub disjoint : (k : ℕ) → suc k < length t → high (rangeAt t k) < low (rangeAt t (suc k))

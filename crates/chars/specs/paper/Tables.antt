@@ -1,5 +1,5 @@
--- Document 01, "Character classes": the five tables, up to U+FFFF. Alphabetic, Lowercase and Uppercase are those properties in Unicode 16.0
--- DerivedCoreProperties; ND and ALPHA_NOT_LETTER are the tables of `token.rs`.
+-- RULES, "Unicode tables": "The classes use five tables of characters up to U+FFFF, all of Unicode 16.0." Alphabetic, Lowercase and Uppercase are
+-- the properties of these names in DerivedCoreProperties.txt; ND and ALPHA_NOT_LETTER are the tables of `token.rs`.
 use Rattle.std.specs.Prelude.{List, [], ◌∷◌}
 use Rattle.chars.specs.paper.Ranges.{Range, ◌to◌}
 

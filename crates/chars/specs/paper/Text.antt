@@ -1,5 +1,5 @@
--- A script as characters, each with its code and the place of its first byte. What follows a piece is such a text too, so that a piece never
--- ends inside a character.
+-- RULES, "Texts and places": "All that follows speaks of characters, each with its code and the place of its first byte. The text from a place
+-- on is the list of characters from there to the script's end; a piece stands between two such texts, so it never ends inside a character."
 use Rattle.std.specs.Prelude.{ℕ, zero, suc, ◌-◌, Bool, false, List, [], ◌∷◌, drop}
 use Rattle.chars.specs.paper.Utf8.{width, codeOf}
 use Rattle.chars.specs.paper.Classes.{isIdChar}
@@ -11,9 +11,9 @@ pub record Char : Type 0 where
 abbrev pub Text : Type 0
 Text = List Char
 
--- The characters of bytes that begin at the place i, after k bytes that belong to the character before. Total: a byte with which no
--- well-formed character begins counts as a character of its own value. A script with such a byte is refused by 18, and nothing else is said
--- of it.
+-- The characters of bytes that begin at the place i, after k bytes that belong to the character before. "For scripts that are not well-formed, a
+-- byte with which no well-formed character begins counts as a character of its own value; nothing follows from that, since such a script is
+-- refused by 18 before any piece is looked at."
 unfoldable pub charsAt : ℕ → ℕ → List ℕ → Text
 charsAt i k [] = []
 charsAt i (suc k) (a ∷ s) = charsAt (suc i) k s

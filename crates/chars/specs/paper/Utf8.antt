@@ -1,9 +1,9 @@
--- Document 01, "Bytes into characters": well-formed UTF-8 by the Unicode Standard, Table 3-7.
+-- RULES, "Bytes into characters": well-formed UTF-8 by the Unicode Standard, Table 3-7.
 use Rattle.std.specs.Prelude.{ℕ, ◌≤◌, ◌+◌, ◌*◌, ◌%◌, ◌≡◌, Bool, true, false, cond, ◌&&◌, List, [], ◌∷◌, length, take, drop, get_or, eqb, leb}
 use Rattle.chars.specs.paper.Quoted.{between}
 use Rattle.chars.specs.paper.Ranges.{Range, ◌to◌}
 
--- Table 3-7, "Well-Formed UTF-8 Byte Sequences": a row for each of its rows, a range for each byte
+-- Table 3-7 of the Standard: a row for each of its rows, a range for each byte
 abbrev pub table37 : List (List Range)
 table37 =
     (0x00 to 0x7F ∷ [])
@@ -30,12 +30,13 @@ pub data Row : List (List Range) → List Range → Type 0 where
   here : {row : List Range} {rows : List (List Range)} → Row (row ∷ rows) row
   later : {other row : List Range} {rows : List (List Range)} → Row rows row → Row (other ∷ rows) row
 
--- characters end to end, each a row of the table
+-- "A character is well-formed where its bytes lie in one row of this table, which is Table 3-7 of the Unicode Standard; a text is well-formed
+-- where it is such characters end to end."
 pub data WellFormed : List ℕ → Type 0 where
   empty : WellFormed []
   char : {row : List Range} {s : List ℕ} → Row table37 row → fits row s ≡ true → WellFormed (drop (length row) s) → WellFormed s
 
--- n is the length of the longest valid prefix
+-- n is its length: "The longest valid prefix of a script is the longest part from its start that is well-formed"
 pub record LongestValid (s : List ℕ) (n : ℕ) : Type 0 where
   pub within : n ≤ length s
   pub valid : WellFormed (take n s)
@@ -54,7 +55,8 @@ rowLength (row ∷ rows) s =
 unfoldable pub width : List ℕ → ℕ
 width s = rowLength table37 s
 
--- the code of a character of w bytes, by the Standard's Table 3-6, "UTF-8 Bit Distribution"
+-- the code of a character of w bytes: "A character's code is read off its bytes by Table 3-6 of the Standard: byte 1 gives its lower 7, 5, 4 or 3
+-- bits, where the character has one, two, three or four bytes, and each later byte six more behind them."
 unfoldable pub codeOf : ℕ → List ℕ → ℕ
 codeOf w s =
     let a = get_or s 0 0 in

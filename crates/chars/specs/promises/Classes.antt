@@ -15,7 +15,7 @@ use Rattle.chars.specs.declared.tables.TheConstants.{ALPHABETIC, LOWERCASE, UPPE
 use Rattle.chars.specs.declared.masks.TheConstants.{BLOCKS, ID_CHARS, ID_STARTS}
 use Rattle.chars.specs.promises.Texts.{AsciiClass}
 
--- the five tables of document 01
+-- the five tables
 unfoldable pub tables : List (List Range)
 tables = alphabeticTable ∷ lowercaseTable ∷ uppercaseTable ∷ ndTable ∷ alphaNotLetterTable ∷ []
 
@@ -27,9 +27,9 @@ abbrev pub lowId : ℕ → Bool
 lowId c = oneOf "$" c || (between 0x41 0x5A c || between 0x61 0x7A c || between 0x30 0x39 c)
 
 pub record ClassLaws : Type 0 where
-  -- each table keeps document 01's rule
+  -- each table ascends: RULES, "Unicode tables"
   pub tables-ascend : (t : List Range) → Memᴰ t tables → Ascending t
-  -- the operator signs are document 01's list; none of them starts an identifier or goes on in one
+  -- the operator signs are the list of RULES, "Operator sign"; none of them starts an identifier or goes on in one
   pub sign-is : (c : ℕ) → isOpSign c ≡ oneOf opSigns c
   pub sign-no-start : (c : ℕ) → isOpSign c ≡ true → isIdStart c ≡ false
   pub sign-no-id : (c : ℕ) → isOpSign c ≡ true → isIdChar c ≡ false

@@ -1,4 +1,4 @@
--- String content: stripping from the front and from the back is what document 01 says.
+-- String content: stripping from the front and from the back is what is declared.
 use Prim.Native.Nat.{ℕ, zero, suc, ◌≤◌, ◌+◌, ◌-◌}
 use mathlib.Core.Path.{◌≡◌, refl, sym, ◌∙◌, ap}
 use mathlib.Core.Bool.{Bool, true, false, cond, ◌&&◌}

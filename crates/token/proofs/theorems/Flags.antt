@@ -1,4 +1,4 @@
--- The gap's flags: what the walk keeps is what document 01 says of the gap's pieces.
+-- The gap's flags: what the walk keeps is what is declared of the gap's pieces.
 use Prim.Native.Nat.{ℕ, suc}
 use mathlib.Core.Path.{◌≡◌, refl, sym, ◌∙◌, ap}
 use mathlib.Core.Bool.{Bool, true, false, cond, not, ◌&&◌, ◌||◌}

@@ -1,4 +1,4 @@
--- Every shape of the piece table begins with a start.
+-- Every shape begins with a start.
 use Prim.Native.Nat.{ℕ}
 use Prim.Native.String.{String}
 use mathlib.Core.Path.{◌≡◌, refl, sym, ◌∙◌}

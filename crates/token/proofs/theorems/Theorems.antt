@@ -1,4 +1,4 @@
--- The computed answer is what document 01 declares, for every script: specs/Theorems.
+-- The computed answer is what is declared, for every script: specs/Theorems.
 use Prim.Native.Nat.{ℕ, suc, ◌≤◌}
 use mathlib.Core.Path.{◌≡◌, refl, sym, ◌∙◌, ap}
 use mathlib.Core.Bool.{Bool, true, false}

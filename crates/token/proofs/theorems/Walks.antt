@@ -1,4 +1,4 @@
--- The whole script: the computed answer is what document 01 declares.
+-- The whole script: the computed answer is what is declared.
 use Prim.Native.Nat.{ℕ, zero, suc, ◌≤◌, ◌<◌, ◌+◌, ◌*◌, ◌-◌}
 use mathlib.Core.Path.{◌≡◌, refl, sym, ◌∙◌, ap}
 use mathlib.Core.Bool.{Bool, true, false}

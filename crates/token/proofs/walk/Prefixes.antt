@@ -1,7 +1,7 @@
 -- Identifiers, keywords, backticks and strings, by the class of the first byte: where they end, whether they prefix a string, and the step past them.
 use Prim.Native.Nat.{ℕ, ◌+◌, ◌≤◌, ◌<◌}
 use mathlib.Core.Path.{◌≡◌, refl, sym, ◌∙◌, ap}
-use mathlib.Core.Bool.{Bool, true, false, not, ◌&&◌, and-false}
+use mathlib.Core.Bool.{Bool, true, false, ◌&&◌, and-false}
 use mathlib.Core.Logic.{◌⊎◌, inl, inr}
 use mathlib.Core.List.{List}
 use mathlib.Core.Option.{Option, none, some}
@@ -17,7 +17,7 @@ use Rattle.token.specs.paper.Tests.{isAny, quote, opensComment}
 use Rattle.token.specs.paper.Kinds.{kwNumber, wordOf}
 use Rattle.token.specs.paper.Records.{values}
 use Rattle.token.specs.computed.Answer.{codesTo, afterIdent, scan, scanString, scanBacktick, closeString, prefixedOf}
-use Rattle.token.specs.code.ByteClass.{classAt, quoteClass, backtickClass, keywordClass, crClass, blankClass, lfClass, upToBlank, startsWord}
+use Rattle.token.specs.code.ByteClass.{classAt, quoteClass, backtickClass, crClass, blankClass, lfClass}
 use Rattle.token.specs.code.Cursor.{cursorAt}
 use Rattle.token.specs.code.Form.{plainForm, byForm}
 use Rattle.token.specs.code.Keyword.{numberOr}

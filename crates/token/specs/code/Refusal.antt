@@ -1,5 +1,5 @@
 -- What `refusal` has: the numbers of refusals, and a refusal by its number.
--- `Refused` here is the code's struct (`src/refusal.rt`), not the paper's `Refused` (`paper/Refusals`).
+-- `Refused` here is the code's struct (`src/refusal.rt`), not the declared `Refused` (`paper/Refusals`).
 use Rattle.std.specs.Prelude.{ℕ, ◌≡◌, true, if◌then◌else◌, ◌==◌, List, Result, Err}
 use Rattle.chars.specs.paper.Text.{Text}
 use Rattle.token.specs.computed.Answer.{Found, scan, scanNumber, scanIdent, scanOperator, scanBacktick, scanString, scanCharSym, prefixedOf, closeString, broken, afterSlash, refused, answer}

@@ -238,7 +238,7 @@ scanCharSym s =
 pub data Start : Type 0 where
   line block blank lf cr sign number word operator backtick string charSym other : Start
 
--- A reading begins a comment wherever `//` or `/*` stands at a piece's start: these come first.
+-- Where `//` or `/*` stands at a piece's start, the piece is a comment: these come first.
 unfoldable pub startOf : Text → Start
 startOf s =
     cond (opensLine s) Start.line

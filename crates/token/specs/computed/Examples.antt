@@ -1,5 +1,5 @@
--- Document 01, "Twelve marked scripts", as one computed check over their list; the listing's example and the refusal table's
--- examples. `Examples` in `entry` asks for all of them; here they give a wrong definition its first error.
+-- RULES, "Marked scripts", as one computed check over their list; the examples of "Listing", "Refusals of a piece", "The first refusal" and
+-- "Traps". `Examples` in `entry` asks for all of them; here they give a wrong definition its first error.
 use Rattle.std.specs.Prelude.{◌≡◌, refl, true, List, [], ◌∷◌, ◌++◌}
 use Rattle.chars.specs.computed.Encoded.{script}
 use Rattle.token.specs.paper.Records.{mostNeed, values, recordLength, recordBytes}
@@ -51,7 +51,7 @@ marked-hold = refl
 abbrev pub listingExample : List Example
 listingExample = "x = 7 // n\n\"a\"" gives "1 0 1 0\n43 2 3 0\n4 4 5 0 7\n17 10 11 0 1\n6 11 14 0 12 13\n18 14 14 0\n" ∷ []
 
--- the refusal table's examples that are a text, 1 to 16
+-- RULES, "Refusals of a piece": the examples
 abbrev pub refusalExamples : List Example
 refusalExamples =
     "a\rb" gives "refused 1 at 1\n"
@@ -72,7 +72,7 @@ refusalExamples =
     ∷ "'(x" gives "refused 16 at 1\n"
     ∷ []
 
--- at one place, 12 to 14 go before 7 and 8; else the first from the left
+-- RULES, "The first refusal": where two are met at one place, 12 to 14 go before 7 and 8; else the first from the left
 abbrev pub tieExamples : List Example
 tieExamples =
     "\"\\\n" gives "refused 14 at 2\n"
@@ -82,7 +82,7 @@ tieExamples =
     ∷ "\"\n\\x" gives "refused 8 at 1\n"
     ∷ []
 
--- "Traps": U+2170 starts, never continues; octal escapes that stop at 8; clearing the cut at a later line end
+-- RULES, "Traps": U+2170 starts and never goes on; digit escapes that stop at an 8; a cut that a later line end clears
 abbrev pub traps : List Example
 traps =
     "ⅰ" gives "1 0 3 0\n18 3 3 0\n"

@@ -1,4 +1,4 @@
--- Document 01, the listing: kind, start, end, cut and values, or `refused N at P`.
+-- RULES, "Listing": kind, start, end, cut and values, or `refused N at P`.
 use Rattle.std.specs.Prelude.{ℕ, zero, suc, ◌+◌, ◌/◌, ◌%◌, Bool, true, false, cond, List, [], ◌∷◌, ◌++◌, ltb}
 use Prim.Native.String.{String}
 use Rattle.chars.specs.paper.Quoted.{codes}

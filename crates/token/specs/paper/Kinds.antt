@@ -1,10 +1,10 @@
--- Document 01, "Records": the kinds, their numbers, and the keywords' texts.
+-- RULES, "Kinds", "Reading" and "Keywords": the kinds, their numbers, and the keywords' texts.
 --
--- Five types go by kinds. Two are the paper's, both below:
+-- Five types go by kinds. Two are declared, both below:
 --   `Kind`       of a piece: blank, line end, line comment, block comment, or a token of a type
 --   `TokenType`  of a piece that is a token, without its values. Line ends are a `Kind` of their own, and Eof is no piece.
 -- One is the code's enum (`src/kinds.rt`), used on every side for what a token or record is:
---   `TokenKind`  with its values, Newline and Eof among them; `kindNumber` is its number under Records
+--   `TokenKind`  with its values, Newline and Eof among them; `kindNumber` is its number in RULES, "Kinds"
 -- Two are the computed side's own:
 --   `GapKind`    (`computed/Flags`) the four of `Kind` that are no token
 --   `Start`      (`computed/Answer`) what a piece's first characters are, so which pieces can stand there: no kind
@@ -18,7 +18,7 @@ use Rattle.token.specs.declared.kinds.Kw.TheVariants as kw
 use Rattle.token.specs.declared.kinds.TokenKind.{TokenKind}
 use Rattle.token.specs.declared.kinds.TokenKind.TheVariants as tk
 
--- keywords 32 to 40 as listed, 41 to 45 `: => = # @`
+-- RULES, "Kinds": 32 to 40 are the nine words, 41 to 45 `: => = # @`
 abbrev pub kwNumber : Kw → ℕ
 kwNumber kw.Case = 32
 kwNumber kw.Else = 33
@@ -35,7 +35,7 @@ kwNumber kw.Assign = 43
 kwNumber kw.Hash = 44
 kwNumber kw.At = 45
 
--- Kinds: 1 Ident, 2 OpId, 3 BacktickId, 4 IntLit, 5 LongLit, 6 Str, 7 CharSym, 8 to 16 `( ) [ ] { } , ; .`, 17 Newline, 18 Eof
+-- RULES, "Kinds": 1 Ident, 2 OpId, 3 BacktickId, 4 IntLit, 5 LongLit, 6 Str, 7 CharSym, 8 to 16 `( ) [ ] { } , ; .`, 17 Newline, 18 Eof
 abbrev pub kindNumber : TokenKind → ℕ
 kindNumber tk.Ident = 1
 kindNumber tk.OpId = 2
@@ -66,13 +66,13 @@ abbrev pub keyword : List Word → List ℕ → Option Kw
 keyword [] t = none
 keyword (word w k ∷ ws) t = cond (same (codes w) t) (some k) (keyword ws t)
 
--- The nine texts `case else false function if match return then true` are keywords.
+-- RULES, "Keywords": "Nine identifiers are keywords: `case else false function if match return then true`."
 abbrev pub wordKeywords : List Word
 wordKeywords =
     word "case" kw.Case ∷ word "else" kw.Else ∷ word "false" kw.False ∷ word "function" kw.Function ∷ word "if" kw.If ∷ word "match" kw.Match
     ∷ word "return" kw.Return ∷ word "then" kw.Then ∷ word "true" kw.True ∷ []
 
--- The runs `:` `=>` `=` `#` `@` are keywords unless `//` or `/*` follows directly.
+-- "Five runs of operator signs are: `:` `=>` `=` `#` `@`, unless `//` or `/*` follows directly; then they are an OpId."
 abbrev pub symbolKeywords : List Word
 symbolKeywords = word ":" kw.Colon ∷ word "=>" kw.FatArrow ∷ word "=" kw.Assign ∷ word "#" kw.Hash ∷ word "@" kw.At ∷ []
 
@@ -84,7 +84,7 @@ runOf t = keyword symbolKeywords t
 
 -- The kinds of pieces. A kind carries no value.
 
--- the token kinds under Records but Newline, which is the line end's, and Eof, which is no piece
+-- RULES, "Reading": a token's kinds. "Newline is the kind of a line end's record. Eof has a record and is no piece."
 pub data TokenType : Type 0 where
   ident opId backtickId intLit longLit str charSym : TokenType
   lParen rParen lBracket rBracket lBrace rBrace comma semi dot : TokenType
@@ -110,7 +110,7 @@ withoutValues TokenType.semi = some tk.Semi
 withoutValues TokenType.dot = some tk.Dot
 withoutValues (TokenType.key k) = some (tk.Kw k)
 
--- The kinds are blank, line end (Newline under Records, one kind), line comment, block comment and the other token kinds under Records.
+-- "Its kind is blank, line end, line comment, block comment, or a token's"
 pub data Kind : Type 0 where
   blank lineEnd lineComment blockComment : Kind
   token : TokenType → Kind

@@ -1,4 +1,4 @@
--- Document 01, "Piece table", declared: readings; string content; gaps, marks and cuts; the tokens of a reading.
+-- RULES, "Reading", "String content", "Gaps" and "Records of a script", declared: readings; string content; gaps, marks and cuts; tokens.
 use Rattle.std.specs.Prelude.{ℕ, ◌≡◌, Bool, true, false, ◌||◌, ◌⊎◌, ◌↔◌, List, [], ◌∷◌, ◌++◌, length}
 use Rattle.std.proofs.Math.Option.{some}
 use Rattle.chars.specs.paper.Text.{Char, Text, from, place}
@@ -8,7 +8,7 @@ use Rattle.token.specs.paper.Shapes.{Run, Longest, textOf, NumberText, Stands}
 use Rattle.token.specs.declared.kinds.TokenKind.{TokenKind}
 use Rattle.token.specs.declared.kinds.TokenKind.TheVariants as tk
 
--- A reading of a script is a list of pieces, each with a kind, a start and an end.
+-- RULES, "Reading": "A piece has a kind, a start and an end."
 pub record Piece : Type 0 where
   pub kind : Kind
   pub start : ℕ
@@ -20,7 +20,8 @@ pub data Pieces (n : ℕ) : Text → List Piece → Text → Type 0 where
   piece : {k : Kind} {s m r : Text} {ps : List Piece} → Stands k s m → Pieces n m ps r
       → Pieces n s (record { kind = k; start = place n s; end = place n m } ∷ ps) r
 
--- The first starts at 0, and the last ends at the script's length; the empty list is a reading of the empty script only.
+-- "A reading of a script is a list of pieces: the first starts at 0, each other one where the one before ends, and the last ends at the script's
+-- length." "The empty list is a reading of the empty script, and of no other."
 abbrev pub Reading : List ℕ → List Piece → Type 0
 Reading script ps = Pieces (length script) (from script 0) ps []
 
@@ -32,13 +33,13 @@ endsQuote [] = false
 endsQuote (c ∷ []) = quote (c ∷ [])
 endsQuote (c ∷ d ∷ s) = endsQuote (d ∷ s)
 
--- "a last one too, if one is left": from a text and the place where it ends to what is left of it, and the place where that ends
+-- "a last quote too, if one is left": from a text and the place where it ends to what is left of it, and the place where that ends
 pub data LastDropped (t : Text) (e : ℕ) : Text → ℕ → Type 0 where
   dropped : (m : Text) (d : Char) → t ≡ m ++ (d ∷ []) → quote (d ∷ []) ≡ true → LastDropped t e m d.at
   kept : endsQuote t ≡ false → LastDropped t e t e
 
--- For a plain one, while its text starts with a quote, drop that quote and each time a last one too, if one is left: from a text and the
--- place where it ends to the places where its content starts and ends. M8, both texts from 0 to 8:
+-- RULES, "String content": "Of a plain one: as long as the text begins with a quote, that quote is dropped, and each time a last quote too, if one is
+-- left." From a text and the place where it ends to the places where its content starts and ends. M8, both texts from 0 to 8:
 -- `"""a""""`: 0 and 7, 1 and 6, 2 and 5 are dropped; `a"`, from 3 to 5, starts with no quote: content 3 to 5.
 -- `""""a"""`: 0 and 7, 1 and 6, 2 and 5 are dropped; of `"a`, from 3 to 5, the first alone: content 4 to 5.
 pub data Content : Text → ℕ → ℕ → ℕ → Type 0 where
@@ -47,14 +48,16 @@ pub data Content : Text → ℕ → ℕ → ℕ → Type 0 where
 
 -- ---- gaps
 
--- A gap is all gap pieces since the last token that isn't a line end: a list of pieces, the latest last.
+-- RULES, "Gap": "The gap before a token is all blanks, line ends and comments since the last token that is no line end, or since the script's start."
+-- It is a list of pieces, the latest last.
 
 -- a piece of such a kind is in the list
 abbrev pub hasPiece : (Kind → Bool) → List Piece → Bool
 hasPiece p [] = false
 hasPiece p (q ∷ g) = p q.kind || hasPiece p g
 
--- A line end's after-comment mark is set exactly when a comment stands between it and the previous line end of its gap, or the gap's start.
+-- RULES, "After-comment": "It is set exactly where a comment, of either kind, stands between this line end and the one before it in its gap, or, where
+-- there is none before it, the gap's start."
 pub record AfterComment (gap : List Piece) : Type 0 where
   pub front : List Piece
   pub back : List Piece
@@ -62,22 +65,25 @@ pub record AfterComment (gap : List Piece) : Type 0 where
   pub comment : hasPiece isComment back ≡ true
   pub noEnd : hasPiece isLineEnd back ≡ false
 
--- past spaces and tabs no LF or CR LF follows
+-- "past spaces and tabs, no line end stands"
 abbrev pub NoEndAfter : Text → Type 0
 NoEndAfter s = (r : Text) × Longest (Run (isAny " \t")) s r × (endsLine r ≡ false)
 
--- The cut of the token after the gap, Eof included, is set exactly when some block comment that is itself a piece of it stands after a line
--- end of it, and past spaces and tabs no LF or CR LF follows that comment.
+-- RULES, "Cut": "Each token, Eof too, has a cut"; "It is set exactly where the gap before the token has a block comment"
 pub record Cut (script : List ℕ) (gap : List Piece) : Type 0 where
   pub front : List Piece
   pub back : List Piece
   pub start : ℕ
   pub end : ℕ
+  -- "that is a piece of the gap itself, so not one inside another comment,"
   pub split : gap ≡ front ++ (record { kind = Kind.blockComment; start = start; end = end } ∷ back)
+  -- "that stands behind a line end of the gap,"
   pub after : hasPiece isLineEnd front ≡ true
+  -- "and behind which, past spaces and tabs, no line end stands."
   pub unended : NoEndAfter (from script end)
 
--- ---- the tokens of a reading: one for each of its tokens and line ends, in order, then one Eof that starts and ends at the script's length
+-- ---- RULES, "Records of a script": "one for each token and each line end of its reading, in order, and then one Eof, which starts and ends at the
+-- script's length."
 
 -- the token kind with its values, of a token between two texts
 pub data Valued (n : ℕ) (s r : Text) : TokenType → TokenKind → Type 0 where
@@ -85,7 +91,7 @@ pub data Valued (n : ℕ) (s r : Text) : TokenType → TokenKind → Type 0 wher
   bare : {t : TokenType} {k : TokenKind} → withoutValues t ≡ some k → Valued n s r t k
   intLit : {v : ℕ} → NumberText false v s r → Valued n s r TokenType.intLit (tk.IntLit v)
   longLit : {v : ℕ} → NumberText true v s r → Valued n s r TokenType.longLit (tk.LongLit v)
-  -- for a prefixed one all its text
+  -- RULES, "String content": "Of a prefixed string that is all its text, with prefix and quotes."
   prefixed : quote s ≡ false → Valued n s r TokenType.str (tk.Str (place n s) (place n r))
   plain : {a b : ℕ} → quote s ≡ true → Content (textOf s r) (place n r) a b → Valued n s r TokenType.str (tk.Str a b)
 
@@ -97,7 +103,7 @@ pub data Tokens (script : List ℕ) : List Piece → List Piece → List Token �
   skip : {gap ps : List Piece} {ts : List Token} {p : Piece} → (p.kind ≡ Kind.blank) ⊎ (isComment p.kind ≡ true)
       → Tokens script (gap ++ (p ∷ [])) ps ts
       → Tokens script gap (p ∷ ps) ts
-  -- Line ends carry cut 0.
+  -- RULES, "Cut": "Line ends have the cut 0."
   lineEnd : {gap ps : List Piece} {ts : List Token} {p : Piece} {mark : Bool} → p.kind ≡ Kind.lineEnd → mark ≡ true ↔ AfterComment gap
       → Tokens script (gap ++ (p ∷ [])) ps ts
       → Tokens script gap (p ∷ ps) (record { kind = tk.Newline mark; start = p.start; end = p.end; cut = false } ∷ ts)
@@ -111,7 +117,7 @@ pub record TokensOf (script : List ℕ) (ts : List Token) : Type 0 where
   pub reading : Reading script pieces
   pub tokens : Tokens script [] pieces ts
 
--- "then one Eof": the last token is Eof, and no other is
+-- the last token is Eof, and no other is
 pub data OnlyLastEof : List Token → Type 0 where
   eof : {t : Token} → t.kind ≡ tk.Eof → OnlyLastEof (t ∷ [])
   other : {t : Token} {ts : List Token} → (t.kind ≡ tk.Eof → ⊥) → OnlyLastEof ts → OnlyLastEof (t ∷ ts)

@@ -1,4 +1,4 @@
--- Document 01, "Records": a token's record as bytes, its length, the records of a list of tokens, the token count and the record bytes, and how
+-- RULES, "Records": a token's record as bytes, its length, the records of a list of tokens, the token count and the record bytes, and how
 -- many bytes a script needs at most.
 use Rattle.std.specs.Prelude.{ℕ, ◌+◌, ◌*◌, Bool, true, false, List, [], ◌∷◌, ◌++◌, length}
 use Rattle.words.specs.Words.{le2, le4, le8}
@@ -10,7 +10,7 @@ abbrev pub bit : Bool → ℕ
 bit true = 1
 bit false = 0
 
--- length (2 bytes, whole record), kind (2), start (4), end (4), cut (1)
+-- RULES, "Record": length of the whole record (2 bytes), kind (2), start (4), end (4), cut (1)
 unfoldable pub fieldsOf : ℕ → ℕ → ℕ → ℕ → Bool → List ℕ
 fieldsOf size kind start end cut = le2 size ++ (le2 kind ++ (le4 start ++ (le4 end ++ (bit cut ∷ []))))
 
@@ -18,7 +18,7 @@ fieldsOf size kind start end cut = le2 size ++ (le2 kind ++ (le4 start ++ (le4 e
 pub data Value : Type 0 where
   one four eight : ℕ → Value
 
--- IntLit (+4: value), LongLit (+8: value), Str (+8: content start and end), Newline (+1: after-comment)
+-- RULES, "Values": IntLit 4 bytes, LongLit 8, Str 4 and 4, content start and content end, Newline 1, its after-comment mark
 abbrev pub valuesOf : TokenKind → List Value
 valuesOf tk.Ident = []
 valuesOf tk.OpId = []
@@ -49,11 +49,11 @@ valueBytes (eight v ∷ vs) = le8 v ++ valueBytes vs
 unfoldable pub values : TokenKind → List ℕ
 values k = valueBytes (valuesOf k)
 
--- 13 bytes without values
+-- "A kind without values has 13 bytes, an IntLit 17, a LongLit 21, a Str 21, a Newline 14."
 abbrev pub headLength : ℕ
 headLength = 13
 
--- with them: IntLit (+4), LongLit (+8), Str (+8), Newline (+1)
+-- with values
 abbrev pub intLength : ℕ
 intLength = headLength + 4
 
@@ -66,14 +66,14 @@ strLength = headLength + 8
 abbrev pub lineLength : ℕ
 lineLength = headLength + 1
 
--- length (2 bytes, whole record)
+-- "length of the whole record, values included"
 unfoldable pub recordLength : TokenKind → ℕ
 recordLength k = headLength + length (values k)
 
 unfoldable pub headOf : Token → List ℕ
 headOf t = fieldsOf (recordLength t.kind) (kindNumber t.kind) t.start t.end t.cut
 
--- then the values
+-- "the values of the kind" stand behind the head
 unfoldable pub recordOf : Token → List ℕ
 recordOf t = headOf t ++ values t.kind
 
@@ -81,7 +81,7 @@ unfoldable pub records : List Token → List ℕ
 records [] = []
 records (t ∷ ts) = recordOf t ++ records ts
 
--- Its token count is how many records these are, its record bytes the sum of their lengths.
+-- RULES, "Records of a script": "The token count is how many records these are, the record bytes are their lengths added up."
 abbrev pub tokenCount : List Token → ℕ
 tokenCount ts = length ts
 
@@ -89,11 +89,12 @@ unfoldable pub recordBytes : List Token → ℕ
 recordBytes [] = 0
 recordBytes (t ∷ ts) = recordLength t.kind + recordBytes ts
 
--- 17: over 16,777,216 bytes. The tokenizer is given none that is longer.
+-- RULES, "Limits": 17 is met by a longer script. The tokenizer is given none.
 abbrev pub mostBytes : ℕ
 mostBytes = 16777216
 
--- A script of n bytes needs at most 17 times n plus 13 bytes: no byte of it needs more than a digit's IntLit, and Eof is without values.
+-- RULES, "Record bound": "A script of n bytes that has a reading needs at most 17 times n plus 13 record bytes." No byte of it needs more than a digit's
+-- IntLit, and Eof is without values.
 -- The empty script and a script of one digit need all of it, 13 and 30 bytes.
 abbrev pub perByte : ℕ
 perByte = intLength

@@ -1,11 +1,11 @@
--- Tests of what a text begins with, in document 01's own characters.
+-- Tests of what a text begins with, in the characters that RULES has.
 use Rattle.std.specs.Prelude.{ℕ, ◌-◌, Bool, true, false, cond, not, ◌&&◌, ◌||◌, List, [], ◌∷◌, drop, eqb, leb}
 use Prim.Native.String.{String}
 use Rattle.chars.specs.paper.Quoted.{between, codes, oneOf}
 use Rattle.chars.specs.paper.Classes.{isOpSign, isPrintable}
 use Rattle.chars.specs.paper.Text.{Text, headIs}
 
--- ASCII digits, and hex digits
+-- digits from `0` to `9`; "Hexadecimal digits are `0` to `9`, `a` to `f` and `A` to `F`."
 unfoldable pub isDigit : ℕ → Bool
 isDigit c = between 0x30 0x39 c
 
@@ -65,16 +65,16 @@ hexDigit s = headIs isHexDigit s
 abbrev pub opSign : Text → Bool
 opSign s = headIs isOpSign s
 
--- an operator sign that begins neither `//` nor `/*`
+-- RULES, "Operator": an operator sign at which neither `//` nor `/*` begins
 abbrev pub freeSign : Text → Bool
 freeSign s = opSign s && not (opensComment s)
 
--- the end of script, LF or CR LF
+-- the script's end, LF or CR LF
 abbrev pub endOfLine : Text → Bool
 endOfLine [] = true
 endOfLine (c ∷ s) = endsLine (c ∷ s)
 
--- `0x` and one or more hex digits stand there
+-- RULES, "Number": `0x` and a hexadecimal digit stand there
 abbrev pub hexAhead : Text → Bool
 hexAhead s = begins "0x" s && hexDigit (drop 2 s)
 
@@ -92,7 +92,7 @@ notBacktick s = not (isAny "`" s)
 abbrev pub apostrophe : Text → Bool
 apostrophe s = isAny "'" s
 
--- a printable that isn't a backslash
+-- RULES, "Character": a printable that is no backslash
 abbrev pub plainChar : Text → Bool
 plainChar s = headIs isPrintable s && not (backslash s)
 

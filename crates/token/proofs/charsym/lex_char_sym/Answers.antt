@@ -26,7 +26,7 @@ returns-in_default c =
     let at = c.args.c.at in
     let t = past-tick s at (sym (tick-byte s at) ∙ c.requires.opens) in
     let n = λ (e : get_or s (at + 1) 0 ≡ 0x5C). c.if-b-eq92.false (c.byte_at-b.ensures ∙ e) in
-    plain-refused s (at + 1) t.0 c.in_default.ensures ∙ ap (pieceOf (length s)) (sym (plain-is s (at + 1) (from s at) t.1 n))
+    rw c.at.ensures (plain-refused s (at + 1) t.0 c.in_default.ensures ∙ ap (pieceOf (length s)) (sym (plain-is s (at + 1) (from s at) t.1 n)))
 
 pub returns : goal.returns
 returns c =

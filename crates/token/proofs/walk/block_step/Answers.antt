@@ -8,7 +8,7 @@ pub consume_block_comment-closed-requires-clause-within : goal.consume_block_com
 consume_block_comment-closed-requires-clause-within c = c.requires.good.stands.within
 
 pub returns-in_default-clause-refused : goal.returns-in_default-clause-refused
-returns-in_default-clause-refused c = refuses-open c.requires.good c.requires.opened c.in_default.ensures
+returns-in_default-clause-refused c = rw c.at.ensures (refuses-open c.requires.good c.requires.opened c.in_default.ensures)
 
 pub returns-then-x-clause-on : goal.returns-then-x-clause-on
 returns-then-x-clause-on c =

@@ -5,7 +5,7 @@ use Rattle.token.proofs.walk.return_step.Goals as goal
 
 pub returns-then-byte_at-ne10-clause-refused : goal.returns-then-byte_at-ne10-clause-refused
 returns-then-byte_at-ne10-clause-refused c =
-    refuses-lone c.requires.good c.requires.cr (λ e. c.if-byte_at-ne10.true (c.byte_at.ensures ∙ e)) _
+    rw c.at.ensures (refuses-lone c.requires.good c.requires.cr (λ e. c.if-byte_at-ne10.true (c.byte_at.ensures ∙ e)) _)
 
 pub returns-clause-on : goal.returns-clause-on
 returns-clause-on c =
