@@ -354,29 +354,6 @@ fn number_step(out: &mut [u8], s: &[u8], x: Stand) -> Option<Stand>
     }
 }
 
-// A character or a symbol.
-fn char_sym_step(out: &mut [u8], s: &[u8], x: Stand) -> Option<Stand>
-    requires short { length s.now ≤ mostBytes }
-    requires good { Good s.now x }
-    requires tick { eqb x.class.number tickClass ≡ true }
-    ensures on { IfSome result (λ y. Steps s.now x out.old y out.new) }
-    ensures further { IfSome result (λ y. x.at < y.at) }
-    ensures kept { IfNone result (out.new ≡ out.old) }
-{
-    let piece = lex_char_sym(s, Cursor { at: x.at });
-    let Ok((kind, end)) = piece else {
-        return None;
-    };
-    match kind {
-        TokenKind::CharSym => {
-            let form = Form::plain(TokenKind::CHAR_SYM);
-            put_if(out, x.bytes, form, x.at, end.at, x.cut);
-            Some(behind(x, here_at(s, end.at)))
-        }
-        _ => None,
-    }
-}
-
 // The kind's number of the word from `at` to `end`, whose first byte has this class.
 #[tactic(auto, unfolding(crate::specs::code::Walk::nameNumber))]
 fn name_number(s: &[u8], class: Class, at: usize, end: usize) -> u16
@@ -421,6 +398,22 @@ fn put_piece(out: &mut [u8], s: &[u8], x: Stand, piece: Piece) -> Result<Stand, 
     let form = kind.form();
     put_if(out, x.bytes, form, x.at, end.at, x.cut);
     Ok(behind_values(x, here_at(s, end.at), form.length as usize))
+}
+
+// A character or a symbol.
+#[inline(always)]
+fn char_sym_step(out: &mut [u8], s: &[u8], x: Stand) -> Result<Stand, Refused>
+    requires short { length s.now ≤ mostBytes }
+    requires good { Good s.now x }
+    requires tick { eqb x.class.number tickClass ≡ true }
+    requires no_comment { opensComment (from s.now x.at) ≡ false }
+    ensures on { IfOk result (λ y. Steps s.now x out.old y out.new) }
+    ensures further { IfOk result (λ y. x.at < y.at) }
+    ensures refused { IfErr result (λ e. Refuses s.now x out.old e) }
+    ensures kept { IfErr result (λ e. out.new ≡ out.old) }
+{
+    let piece = lex_char_sym(s, Cursor { at: x.at });
+    put_piece(out, s, x, piece)
 }
 
 // A plain string.
@@ -523,9 +516,6 @@ fn quick_step(out: &mut [u8], s: &[u8], x: Stand) -> Option<Stand>
     if x.class.is_op() {
         return run_step(out, s, x);
     }
-    if x.class == Class::TICK {
-        return char_sym_step(out, s, x);
-    }
     if begins_name(x.class) {
         return name_step(out, s, x);
     }
@@ -610,6 +600,8 @@ pub fn walk(out: &mut [u8], s: &[u8], start: Stand) -> Result<Stand, Refused>
             string_step(out, s, x)?
         } else if x.class == Class::BACKTICK {
             backtick_step(out, s, x)?
+        } else if x.class == Class::TICK {
+            char_sym_step(out, s, x)?
         } else if let Some(y) = quick_step(out, s, x) {
             y
         } else if x.class == Class::BLANK {

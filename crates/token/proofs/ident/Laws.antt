@@ -21,7 +21,7 @@ use Rattle.token.proofs.Classes.{under-no-id, nul-no-sign}
 use Rattle.token.proofs.cursor.Wide.{byte-by-byte}
 use Rattle.token.specs.paper.Tests.{isAny, begins, quote, opSign, freeSign, opensComment, notBacktick}
 use Rattle.token.specs.paper.Kinds.{wordOf, runOf}
-use Rattle.token.specs.computed.Answer.{Found, afterIdent, orPrefixed, prefixedOf, closeString, codesTo, wordOr, scanIdent, runOr, scanOperator, backtickOr, scanBacktick}
+use Rattle.token.specs.computed.Answer.{Found, afterIdent, orPrefixed, prefixedOf, closeString, codesTo, wordOr, scanIdent, runOr, scanOperator}
 use Rattle.token.specs.code.Cursor.{cursorAt}
 use Rattle.token.specs.code.Piece.{pieceOf, tokenTo}
 use Rattle.token.specs.declared.cursor.Cursor.{Cursor}

@@ -1,7 +1,7 @@
 -- Identifiers, keywords, backticks and strings, by the class of the first byte: where they end, whether they prefix a string, and the step past them.
 use Prim.Native.Nat.{ℕ, ◌+◌, ◌≤◌, ◌<◌}
 use mathlib.Core.Path.{◌≡◌, refl, sym, ◌∙◌, ap}
-use mathlib.Core.Bool.{Bool, true, false, not, ◌&&◌, and-false}
+use mathlib.Core.Bool.{Bool, true, false, ◌&&◌, and-false}
 use mathlib.Core.Logic.{◌⊎◌, inl, inr}
 use mathlib.Core.List.{List}
 use mathlib.Core.Option.{Option, none, some}
@@ -16,8 +16,8 @@ use Rattle.chars.proofs.Bools.{clash, and-both}
 use Rattle.token.specs.paper.Tests.{isAny, quote, opensComment}
 use Rattle.token.specs.paper.Kinds.{kwNumber, wordOf}
 use Rattle.token.specs.paper.Records.{values}
-use Rattle.token.specs.computed.Answer.{codesTo, afterIdent, scan, scanString, scanBacktick, closeString, prefixedOf}
-use Rattle.token.specs.code.ByteClass.{classAt, quoteClass, backtickClass, keywordClass, crClass, blankClass, lfClass, upToBlank, startsWord}
+use Rattle.token.specs.computed.Answer.{codesTo, afterIdent, scan, scanString, scanCharSym, scanBacktick, closeString, prefixedOf}
+use Rattle.token.specs.code.ByteClass.{classAt, quoteClass, backtickClass, tickClass, crClass, blankClass, lfClass}
 use Rattle.token.specs.code.Cursor.{cursorAt}
 use Rattle.token.specs.code.Form.{plainForm, byForm}
 use Rattle.token.specs.code.Keyword.{numberOr}
@@ -37,12 +37,12 @@ use Rattle.token.proofs.byte_class.Laws.{class-quote, class-backtick}
 use Rattle.token.proofs.cursor.Bytes.{any-byte}
 use Rattle.token.proofs.ident.Laws.{quote-byte, token-at, is-prefixed, not-prefixed}
 use Rattle.token.proofs.ident.Ticks.{Ticked, tick-closed, tick-refused}
-use Rattle.token.proofs.lexer.Laws.{string-at, backtick-at}
+use Rattle.token.proofs.lexer.Laws.{string-at, backtick-at, charsym-at}
 use Rattle.token.proofs.names.Bytes.{Stops, class-inside, name-stops}
 use Rattle.token.proofs.names.Laws.{name-rest, quote-class}
 use Rattle.token.proofs.names.Ascii.{word-scan}
 use Rattle.token.proofs.walk.Pieces.{by-class, no-gap-here, step-bare, refuses-piece}
-use Rattle.token.proofs.walk.Words.{oneOf, behind-here, start-byte, word-inside, word-leaves, name-counts, step-name}
+use Rattle.token.proofs.walk.Words.{oneOf, behind-here, start-byte, tick-inside, tick-opens, word-inside, word-leaves, name-counts, step-name}
 
 and-first : (a b : Bool) → a && b ≡ false → b ≡ true → a ≡ false
 and-first true b e f = clash (sym e ∙ f)
@@ -101,6 +101,15 @@ module _ {s : List ℕ} {x : Stand} (g : Good s x) (k : eqb x.class.number quote
 
   pub string-scan : pieceOf (length s) (scanString (length s) (from s x.at)) ≡ pieceOf (length s) (scan (length s) (from s x.at))
   string-scan = ap (pieceOf (length s)) (sym (string-at s x.at string-inside string-opens))
+
+-- ---- a character or a symbol
+
+module _ {s : List ℕ} {x : Stand} (g : Good s x) (k : eqb x.class.number tickClass ≡ true) where
+  pub tick-no-gap : isAny " \t\n\r" (from s x.at) ≡ false
+  tick-no-gap = opens-no-gap g (λ z. eqb z tickClass) refl refl refl k
+
+  pub tick-scan : pieceOf (length s) (scanCharSym (from s x.at)) ≡ pieceOf (length s) (scan (length s) (from s x.at))
+  tick-scan = ap (pieceOf (length s)) (sym (charsym-at s x.at (tick-inside g k) (tick-opens g k)))
 
 -- ---- a string that is prefixed
 

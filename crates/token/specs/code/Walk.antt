@@ -1,5 +1,5 @@
 -- Where a walk over a script stands, and what a step of it is.
-use Rattle.std.specs.Prelude.{ℕ, ◌+◌, ◌-◌, ◌*◌, ◌/◌, ◌≤◌, ◌<◌, ◌≡◌, Bool, false, cond, not, ◌&&◌, ◌||◌, List, Option, Some, None, Err, length, get_or, eqb}
+use Rattle.std.specs.Prelude.{ℕ, ◌+◌, ◌-◌, ◌*◌, ◌/◌, ◌≤◌, ◌<◌, ◌≡◌, Bool, false, cond, not, ◌&&◌, ◌||◌, List, Err, length, get_or, eqb}
 use Rattle.token.specs.computed.Flags.{Gap}
 use Rattle.token.specs.paper.Records.{headLength, lineLength}
 use Rattle.chars.specs.paper.Text.{from}
@@ -8,7 +8,6 @@ use Rattle.token.specs.paper.Kinds.{wordOf, runOf}
 use Rattle.token.specs.computed.Answer.{codesTo, orPrefixed, scan}
 use Rattle.token.specs.code.ByteClass.{classAt, keywordClass, slashClass, upToBlank, startsWord, inLineEnd}
 use Rattle.token.specs.code.Keyword.{numberOr}
-use Rattle.token.specs.code.Names.{hereOf}
 use Rattle.token.specs.declared.kinds.TokenKind.{TokenKind}
 use Rattle.token.specs.code.Records.{State, Standing, Reaches, measuredFrom, storedFrom}
 use Rattle.token.specs.declared.names.Here.{Here}

@@ -1,5 +1,5 @@
 -- A backtick that no quote follows, or the string that it prefixes.
-use Rattle.std.proofs.Common.{sym, ap, ◌∙◌, arith}
+use Rattle.std.proofs.Common.{sym, ap, ◌∙◌}
 use lib.Dec.{eqb}
 use Rattle.std.proofs.lemmas.Result.{err_from_is_err_and}
 use Rattle.token.specs.code.ByteClass.{quoteClass}
