@@ -36,9 +36,9 @@ fn lex_word(s: &[u8], c: Cursor) -> Piece
     })
 }
 
-// The same by the character that stands there.
+/// The same by the character that stands there.
 #[tactic(auto, using(crate::proofs::lexer::Starts::wide_words))]
-fn lex_wide_word(s: &[u8], c: Cursor) -> Piece
+pub fn lex_wide_word(s: &[u8], c: Cursor) -> Piece
     requires within { c.at < length s.now }
     requires no_other { isAny wordless (from s.now c.at) ≡ false }
     requires no_comment { opensComment (from s.now c.at) ≡ false }
