@@ -9,7 +9,7 @@ use Rattle.std.specs.Prelude.{Some, Err}
 use lib.ListN.{length, get_or}
 use lib.Dec.{eqb, leb}
 use native.Mathlib.Omega.{arith}
-use borrow.Author.Tests.{eqb-true, eq-eqb, ne_eqb}
+use borrow.Author.Tests.{eqb-true, eq-eqb, ne_eqb, leb-true}
 use Rattle.chars.specs.paper.Quoted as chars
 use Rattle.chars.specs.paper.Text.{from}
 use Rattle.chars.proofs.Bools.{clash, and-both}
@@ -122,6 +122,9 @@ module _ {s : List ℕ} {x : Stand} (g : Good s x) (k : eqb x.class.number wideC
 
   pub wide-inside : x.at < length s
   wide-inside = class-inside s x.at (λ z. eqb z wideClass) refl wide-here
+
+  pub wide-byte : 0x80 ≤ get_or s x.at 0
+  wide-byte = leb-true 0x80 (get_or s x.at 0) (sym (class-wide (get_or s x.at 0)) ∙ wide-here)
 
   pub wide-no-gap : isAny " \t\n\r" (from s x.at) ≡ false
   wide-no-gap = opens-no-gap g (λ z. eqb z wideClass) refl refl refl k
