@@ -3,3 +3,4 @@ pub mod Found
 pub mod Trails
 pub mod Turns
 pub mod Starts
+pub mod Wide

@@ -6,7 +6,7 @@ ghost use Rattle.token.specs.paper.Records.{mostBytes, headLength, lineLength};
 ghost use Rattle.token.specs.computed.Answer.{scan};
 ghost use Rattle.token.specs.code.Records.{storedIf, measuredFrom, storedFrom};
 ghost use Rattle.token.specs.code.Form.{byForm, plainForm};
-ghost use Rattle.token.specs.code.ByteClass.{classAt, blankClass, digitClass, lfClass, crClass, tickClass, backtickClass, quoteClass, keywordClass, upToBlank, isSign, inWord};
+ghost use Rattle.token.specs.code.ByteClass.{classAt, blankClass, digitClass, lfClass, crClass, tickClass, backtickClass, quoteClass, keywordClass, wideClass, upToBlank, isSign, inWord};
 ghost use Rattle.token.specs.code.Names.{hereOf};
 ghost use Rattle.token.specs.code.Piece.{pieceOf};
 ghost use Rattle.token.specs.code.Walk.{beginning, movedTo, plainBehind, valuesBehind, lineBehind, commentBehind, blockBehind, nameNumber, operatorNumber, beginsName, stateAt, Good, LeftTo, Prefixes, Refuses, Steps};
@@ -19,7 +19,7 @@ use crate::form::{put_head_if, put_if, put_record};
 use crate::ident::consume_backtick;
 use crate::keyword::{run_number, word_number};
 use crate::kinds::{Form, TokenKind};
-use crate::lexer::lex_token;
+use crate::lexer::{lex_token, lex_wide_word};
 use crate::names::{Here, here_at, name_end, opens_with, operator_end, run_end, word_end};
 use crate::piece::Piece;
 use crate::refusal::{Refusal, Refused};
@@ -346,29 +346,6 @@ fn number_step(out: &mut [u8], s: &[u8], x: Stand) -> Option<Stand>
     }
 }
 
-// A character or a symbol.
-fn char_sym_step(out: &mut [u8], s: &[u8], x: Stand) -> Option<Stand>
-    requires short { length s.now ≤ mostBytes }
-    requires good { Good s.now x }
-    requires tick { eqb x.class.number tickClass ≡ true }
-    ensures on { IfSome result (λ y. Steps s.now x out.old y out.new) }
-    ensures further { IfSome result (λ y. x.at < y.at) }
-    ensures kept { IfNone result (out.new ≡ out.old) }
-{
-    let piece = lex_char_sym(s, Cursor { at: x.at });
-    let Ok((kind, end)) = piece else {
-        return None;
-    };
-    match kind {
-        TokenKind::CharSym => {
-            let form = Form::plain(TokenKind::CHAR_SYM);
-            put_if(out, x.bytes, form, x.at, end.at, x.cut);
-            Some(behind(x, here_at(s, end.at)))
-        }
-        _ => None,
-    }
-}
-
 // The kind's number of the word from `at` to `end`, whose first byte has this class.
 #[tactic(auto, unfolding(crate::specs::code::Walk::nameNumber))]
 fn name_number(s: &[u8], class: Class, at: usize, end: usize) -> u16
@@ -413,6 +390,38 @@ fn put_piece(out: &mut [u8], s: &[u8], x: Stand, piece: Piece) -> Result<Stand, 
     let form = kind.form();
     put_if(out, x.bytes, form, x.at, end.at, x.cut);
     Ok(behind_values(x, here_at(s, end.at), form.length as usize))
+}
+
+// A character or a symbol.
+#[inline(always)]
+fn char_sym_step(out: &mut [u8], s: &[u8], x: Stand) -> Result<Stand, Refused>
+    requires short { length s.now ≤ mostBytes }
+    requires good { Good s.now x }
+    requires tick { eqb x.class.number tickClass ≡ true }
+    requires no_comment { opensComment (from s.now x.at) ≡ false }
+    ensures on { IfOk result (λ y. Steps s.now x out.old y out.new) }
+    ensures further { IfOk result (λ y. x.at < y.at) }
+    ensures refused { IfErr result (λ e. Refuses s.now x out.old e) }
+    ensures kept { IfErr result (λ e. out.new ≡ out.old) }
+{
+    let piece = lex_char_sym(s, Cursor { at: x.at });
+    put_piece(out, s, x, piece)
+}
+
+// What begins with a character past ASCII.
+#[inline(always)]
+fn wide_step(out: &mut [u8], s: &[u8], x: Stand) -> Result<Stand, Refused>
+    requires short { length s.now ≤ mostBytes }
+    requires good { Good s.now x }
+    requires wide { eqb x.class.number wideClass ≡ true }
+    requires no_comment { opensComment (from s.now x.at) ≡ false }
+    ensures on { IfOk result (λ y. Steps s.now x out.old y out.new) }
+    ensures further { IfOk result (λ y. x.at < y.at) }
+    ensures refused { IfErr result (λ e. Refuses s.now x out.old e) }
+    ensures kept { IfErr result (λ e. out.new ≡ out.old) }
+{
+    let piece = lex_wide_word(s, Cursor { at: x.at });
+    put_piece(out, s, x, piece)
 }
 
 // A plain string.
@@ -515,9 +524,6 @@ fn quick_step(out: &mut [u8], s: &[u8], x: Stand) -> Option<Stand>
     if x.class.is_op() {
         return run_step(out, s, x);
     }
-    if x.class == Class::TICK {
-        return char_sym_step(out, s, x);
-    }
     if begins_name(x.class) {
         return name_step(out, s, x);
     }
@@ -602,6 +608,10 @@ pub fn walk(out: &mut [u8], s: &[u8], start: Stand) -> Result<Stand, Refused>
             string_step(out, s, x)?
         } else if x.class == Class::BACKTICK {
             backtick_step(out, s, x)?
+        } else if x.class == Class::TICK {
+            char_sym_step(out, s, x)?
+        } else if x.class == Class::WIDE {
+            wide_step(out, s, x)?
         } else if let Some(y) = quick_step(out, s, x) {
             y
         } else if x.class == Class::BLANK {

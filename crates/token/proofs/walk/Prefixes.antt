@@ -7,20 +7,22 @@ use mathlib.Core.List.{List}
 use mathlib.Core.Option.{Option, none, some}
 use Rattle.std.specs.Prelude.{Some, Err}
 use lib.ListN.{length, get_or}
-use lib.Dec.{eqb}
+use lib.Dec.{eqb, leb}
 use native.Mathlib.Omega.{arith}
-use borrow.Author.Tests.{eqb-true, eq-eqb, ne_eqb}
+use borrow.Author.Tests.{eqb-true, eq-eqb, ne_eqb, leb-true}
 use Rattle.chars.specs.paper.Quoted as chars
 use Rattle.chars.specs.paper.Text.{from}
 use Rattle.chars.proofs.Bools.{clash, and-both}
+use Rattle.chars.proofs.theorems.Promises.{code_laws}
 use Rattle.token.specs.paper.Tests.{isAny, quote, opensComment}
 use Rattle.token.specs.paper.Kinds.{kwNumber, wordOf}
 use Rattle.token.specs.paper.Records.{values}
-use Rattle.token.specs.computed.Answer.{codesTo, afterIdent, scan, scanString, scanBacktick, closeString, prefixedOf}
-use Rattle.token.specs.code.ByteClass.{classAt, quoteClass, backtickClass, crClass, blankClass, lfClass}
+use Rattle.token.specs.computed.Answer.{codesTo, afterIdent, scan, scanString, scanCharSym, scanBacktick, closeString, prefixedOf}
+use Rattle.token.specs.code.ByteClass.{classAt, quoteClass, backtickClass, tickClass, wideClass, crClass, blankClass, lfClass}
 use Rattle.token.specs.code.Cursor.{cursorAt}
 use Rattle.token.specs.code.Form.{plainForm, byForm}
 use Rattle.token.specs.code.Keyword.{numberOr}
+use Rattle.token.specs.code.Lexer.{wordless}
 use Rattle.token.specs.code.Names.{hereOf, nameTo, nameEnd}
 use Rattle.token.specs.code.Piece.{pieceOf}
 use Rattle.token.specs.code.Records.{storedIf}
@@ -33,16 +35,17 @@ use Rattle.token.specs.declared.kinds.TokenKind.TheVariants as tk
 use Rattle.token.specs.declared.names.Here.{Here}
 use Rattle.token.specs.declared.refusal.Refused.{Refused}
 use Rattle.token.specs.declared.walk.Stand.{Stand}
-use Rattle.token.proofs.byte_class.Laws.{class-quote, class-backtick}
+use Rattle.token.proofs.byte_class.Laws.{class-quote, class-backtick, class-wide}
 use Rattle.token.proofs.cursor.Bytes.{any-byte}
 use Rattle.token.proofs.ident.Laws.{quote-byte, token-at, is-prefixed, not-prefixed}
 use Rattle.token.proofs.ident.Ticks.{Ticked, tick-closed, tick-refused}
-use Rattle.token.proofs.lexer.Laws.{string-at, backtick-at}
+use Rattle.token.proofs.lexer.Laws.{string-at, backtick-at, charsym-at}
 use Rattle.token.proofs.names.Bytes.{Stops, class-inside, name-stops}
 use Rattle.token.proofs.names.Laws.{name-rest, quote-class}
 use Rattle.token.proofs.names.Ascii.{word-scan}
 use Rattle.token.proofs.walk.Pieces.{by-class, no-gap-here, step-bare, refuses-piece}
-use Rattle.token.proofs.walk.Words.{oneOf, behind-here, start-byte, word-inside, word-leaves, name-counts, step-name}
+use Rattle.token.proofs.walk.Words.{oneOf, behind-here, start-byte, tick-inside, tick-opens, word-inside, word-leaves, name-counts, step-name}
+open code_laws use {no-member}
 
 and-first : (a b : Bool) → a && b ≡ false → b ≡ true → a ≡ false
 and-first true b e f = clash (sym e ∙ f)
@@ -101,6 +104,33 @@ module _ {s : List ℕ} {x : Stand} (g : Good s x) (k : eqb x.class.number quote
 
   pub string-scan : pieceOf (length s) (scanString (length s) (from s x.at)) ≡ pieceOf (length s) (scan (length s) (from s x.at))
   string-scan = ap (pieceOf (length s)) (sym (string-at s x.at string-inside string-opens))
+
+-- ---- a character or a symbol
+
+module _ {s : List ℕ} {x : Stand} (g : Good s x) (k : eqb x.class.number tickClass ≡ true) where
+  pub tick-no-gap : isAny " \t\n\r" (from s x.at) ≡ false
+  tick-no-gap = opens-no-gap g (λ z. eqb z tickClass) refl refl refl k
+
+  pub tick-scan : pieceOf (length s) (scanCharSym (from s x.at)) ≡ pieceOf (length s) (scan (length s) (from s x.at))
+  tick-scan = ap (pieceOf (length s)) (sym (charsym-at s x.at (tick-inside g k) (tick-opens g k)))
+
+-- ---- a character past ASCII
+
+module _ {s : List ℕ} {x : Stand} (g : Good s x) (k : eqb x.class.number wideClass ≡ true) where
+  wide-here : eqb (classAt s x.at) wideClass ≡ true
+  wide-here = by-class g (λ z. eqb z wideClass) k
+
+  pub wide-inside : x.at < length s
+  wide-inside = class-inside s x.at (λ z. eqb z wideClass) refl wide-here
+
+  pub wide-byte : 0x80 ≤ get_or s x.at 0
+  wide-byte = leb-true 0x80 (get_or s x.at 0) (sym (class-wide (get_or s x.at 0)) ∙ wide-here)
+
+  pub wide-no-gap : isAny " \t\n\r" (from s x.at) ≡ false
+  wide-no-gap = opens-no-gap g (λ z. eqb z wideClass) refl refl refl k
+
+  pub wide-no-other : isAny wordless (from s x.at) ≡ false
+  wide-no-other = any-byte wordless refl s x.at ∙ no-member (leb 0x80) (chars.codes wordless) (get_or s x.at 0) refl (sym (class-wide (get_or s x.at 0)) ∙ wide-here)
 
 -- ---- a string that is prefixed
 

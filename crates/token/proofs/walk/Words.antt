@@ -18,7 +18,7 @@ use Rattle.token.specs.paper.Tests.{isDigit, digitValue, apostrophe, quote, free
 use Rattle.token.specs.declared.kinds.Kw.{Kw}
 use Rattle.token.specs.paper.Kinds.{kwNumber, wordOf, runOf, wordKeywords}
 use Rattle.token.specs.paper.Records.{values, recordLength, headLength, intLength}
-use Rattle.token.specs.computed.Answer.{scan, scanNumber, scanCharSym, codesTo, afterIdent}
+use Rattle.token.specs.computed.Answer.{scan, scanNumber, codesTo, afterIdent}
 use Rattle.token.specs.code.ByteClass.{classAt, digitClass, tickClass, keywordClass, wideClass, slashClass, upToBlank, startsWord, inWord, isSign, asksMore, inRun}
 use Rattle.token.specs.code.Cursor.{cursorAt}
 use Rattle.token.specs.code.Form.{formOf, plainForm, byForm}
@@ -41,7 +41,7 @@ use Rattle.token.proofs.names.Bytes.{Stops, class-inside}
 use Rattle.token.proofs.names.Laws.{name-rest, word-plain, operator-rest, operator-token, operator-cut, operator-comment, run-clear, run-plain}
 use Rattle.token.proofs.ident.Laws.{token-at}
 use Rattle.token.proofs.charsym.Laws.{tick-byte}
-use Rattle.token.proofs.lexer.Laws.{number_at, charsym-at}
+use Rattle.token.proofs.lexer.Laws.{number_at}
 use Rattle.token.proofs.walk.Pieces.{or-first, by-class, found-here, step-valued, step-bare, step-ascii}
 open code_laws use {carry}
 open text-laws use {place-from}
@@ -176,18 +176,6 @@ module _ {s : List ℕ} {x : Stand} (g : Good s x) (k : eqb x.class.number tickC
 
   pub tick-opens : apostrophe (from s x.at) ≡ true
   tick-opens = tick-byte s x.at ∙ eq-eqb (get_or s x.at 0) 0x27 tick-here
-
-  -- the character or symbol that stands there is what the scanner finds, and ends past where the walk stands
-  module _ (e : Cursor) (f : tokenTo tk.CharSym e ≡ pieceOf (length s) (scanCharSym (from s x.at))) where
-    symbol-found : tokenTo tk.CharSym (cursorAt e.at) ≡ pieceOf (length s) (scan (length s) (from s x.at))
-    symbol-found = f ∙ ap (pieceOf (length s)) (sym (charsym-at s x.at tick-inside tick-opens))
-
-    pub symbol-on : x.at < e.at
-    symbol-on = (found-here s x e.at tk.CharSym tick-inside symbol-found).on
-
-    pub step-symbol : (out next : List ℕ) → next ≡ storedIf out x.bytes (byForm (plainForm 7) x.at e.at x.cut) → Steps s x out (plainBehind x (hereOf s e.at)) next
-    unfolding values
-    step-symbol out next z = step-bare g tick-inside tk.CharSym e.at symbol-found refl out next z
 
 -- ---- words
 

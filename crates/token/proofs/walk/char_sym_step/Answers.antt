@@ -1,19 +1,16 @@
--- A character or symbol; one that is refused is left.
-use Rattle.std.proofs.Common.{sym, ap, ◌∙◌}
-use Rattle.token.specs.code.Piece.{tokenTo}
-use Rattle.token.proofs.walk.Words.{tick-opens, symbol-on, step-symbol}
+use Rattle.std.proofs.Common.{◌∙◌}
+use Rattle.token.proofs.walk.Prefixes.{tick-no-gap, tick-scan}
+use Rattle.token.proofs.walk.Words.{tick-inside, tick-opens}
 use Rattle.token.proofs.walk.char_sym_step.Goals as goal
 
 pub lex_char_sym-piece-requires-clause-opens : goal.lex_char_sym-piece-requires-clause-opens
 lex_char_sym-piece-requires-clause-opens c = tick-opens c.requires.good c.requires.tick
 
-pub returns-in-CharSym-clause-on : goal.returns-in-CharSym-clause-on
-returns-in-CharSym-clause-on c =
-    let f = ap (λ k. tokenTo k c.in-Ok.end) (sym c.in-CharSym.is) ∙ c.in-Ok.ensures in
-    rw (c.behind.ensures, c.here_at.ensures)
-    (step-symbol c.requires.good c.requires.tick c.in-Ok.end f _ _ (rw c.plain-form.ensures.value at c.put_if.ensures))
+pub put_piece-requires-clause-within : goal.put_piece-requires-clause-within
+put_piece-requires-clause-within c = tick-inside c.requires.good c.requires.tick
 
-pub returns-in-CharSym-clause-further : goal.returns-in-CharSym-clause-further
-returns-in-CharSym-clause-further c =
-    let f = ap (λ k. tokenTo k c.in-Ok.end) (sym c.in-CharSym.is) ∙ c.in-Ok.ensures in
-    rw (c.behind.ensures, c.here_at.ensures) (symbol-on c.requires.good c.requires.tick c.in-Ok.end f)
+pub put_piece-requires-clause-no_gap : goal.put_piece-requires-clause-no_gap
+put_piece-requires-clause-no_gap c = tick-no-gap c.requires.good c.requires.tick
+
+pub put_piece-requires-clause-piece_is : goal.put_piece-requires-clause-piece_is
+put_piece-requires-clause-piece_is c = c.lex_char_sym-piece.ensures ∙ tick-scan c.requires.good c.requires.tick

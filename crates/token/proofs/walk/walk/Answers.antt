@@ -11,4 +11,4 @@ token_step-requires-clause-no_gap c =
       | then-not-x w ↦ rw w.x-is w.walk_words-x.ensures.good
       | else-not-x w ↦ rw w.x-is c.loop-x.invariant.good
     ] in
-    no-gap-here g (sym c.if-eq.ensures) (sym c.if-eq-4.ensures) (sym c.if-eq-5.ensures)
+    no-gap-here g (sym c.if-eq.ensures) (sym c.if-eq-6.ensures) (sym c.if-eq-7.ensures)
