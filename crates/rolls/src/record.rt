@@ -24,7 +24,7 @@ pub struct Yielded {
     pub next: RollCursor,
 }
 
-// The length of a kind's record, by the kind's number.
+// The length of a kind's record, by the kind's number: the values are not read yet.
 #[tactic(auto, unfolding(crate::specs::code::Record::lengthIf, crate::specs::computed::Roll::lengthFor))]
 fn length_for(number: u16) -> Option<u16>
     ensures { result ≡ lengthIf number }

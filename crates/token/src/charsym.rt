@@ -161,7 +161,7 @@ fn is_semi(s: &[u8], code: u32, next: Cursor) -> bool
     code == 0x3B && !sign_at(s, next)
 }
 
-// Does an operator sign stand there? One of them is past ASCII, so a byte does not tell.
+// Does an operator sign stand there? One of them is past ASCII, so a byte does not tell. With `is_some_and` the contract stays unproved.
 fn sign_at(s: &[u8], c: Cursor) -> bool
     ensures { result ≡ opSign (from s.now c.at) }
 {

@@ -56,6 +56,7 @@ pub fn consume_digits(s: &[u8], c: Cursor, base: u64, most: usize) -> Cursor
 {
     let mut i = c.at;
     let mut left = most;
+    // The place goes up, and how many may follow goes down, so that `at + most` is never formed.
     while 0 < left {
         if !is_digit(byte_at(s, i), base) {
             return Cursor { at: i };
@@ -100,6 +101,7 @@ fn digit_run<const BASE: u64, const MOST: usize>(s: &[u8], at: usize) -> DigitRu
     let stop = s.len().min(at + MOST);
     let mut v: u64 = 0;
     let mut i = at;
+    // One walk gives the end, the value and the byte behind: an iterator's contract does not say where it stopped.
     while i < stop {
         let b = s[i];
         let d = digit_of(b);
@@ -128,6 +130,7 @@ fn skip_zeros(s: &[u8], at: usize) -> usize
     ensures value { (base : ℕ) → readDigits (digitIn base) base 0 (from s.now result) ≡ readDigits (digitIn base) base 0 (from s.now at) }
 {
     let mut i = at;
+    // Byte by byte: few numbers begin with more than one.
     while byte_at(s, i) == b'0' {
         i += 1;
     }
@@ -189,7 +192,7 @@ fn number_of(start: usize, run: DigitRun) -> Piece
     }
 }
 
-// A function of its own, since the answer of `long_run` goes through memory, which is made ready where its name stands.
+// A function of its own, so that the memory through which `long_run` answers is cleared only where a number is that long.
 #[inline(always)]
 fn long_number<const BASE: u64, const MOST: usize>(s: &[u8], start: usize, at: usize) -> Piece
     requires order { start ≤ at }

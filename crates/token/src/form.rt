@@ -11,7 +11,7 @@ use crate::kinds::{Form, TokenKind, bit_of};
 use words::read::{eight, four, one, two};
 use words::write::{put4, put8};
 
-// Length and kind as one number.
+// Length and kind as one number, which is stored at once.
 pub fn head_of(length: u16, number: u16) -> u32
     ensures { result ≡ headNumber length number }
 {
@@ -88,7 +88,7 @@ pub fn put_head_if(out: &mut [u8], w: usize, head: u32, start: usize, end: usize
     }
 }
 
-/// A record as it stands in bytes.
+/// A record as it stands in bytes: its numbers need not be those of a kind.
 #[derive(Clone, Copy, Debug, PartialEq, Eq)]
 pub struct Held {
     pub number: u64,

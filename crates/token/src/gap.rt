@@ -66,6 +66,7 @@ fn pass_openings(s: &[u8], at: usize) -> Nest
 {
     let mut i = at;
     let mut depth: usize = 0;
+    // A turn passes eight bytes and counts four.
     while four_open(s, i) {
         i += 8;
         depth += 4;
@@ -101,6 +102,7 @@ fn close_block(s: &[u8], at: usize, inner: usize) -> Option<Cursor>
     let mut i = at;
     let mut depth = inner;
     let last = s.len() - 1;
+    // A step is two bytes, or one.
     while i < last {
         let pair = pair_at(s, i);
         if pair == 0x2A2F {
@@ -127,13 +129,15 @@ impl Cursor {
         ensures { (result.at ≤ length s.now) × (from s.now result.at ≡ afterRun (λ t. not (endOfLine t)) (drop 2 (from s.now self.at))) }
     {
         let mut i = run_end::<InRange<0x0E, 0xFF>>(s, self.at + 2);
+        // Byte by byte from the first byte below 0x0E on: in most comments the line end stands there.
         while i < s.len() && !line_ends_at(s, i) {
             i += 1;
         }
         Cursor { at: i }
     }
 
-    /// Past the block comment that begins there; nothing, where it is open at the end of script. Nested ones are counted, so that any depth takes one pass and no stack.
+    /// Past the block comment that begins there; nothing, where it is open at the end of script. Nested ones are counted, so that any depth takes
+    /// one pass and no stack.
     #[inline(never)] // its loop has registers of its own then
     pub fn consume_block_comment(self, s: &[u8]) -> Option<Cursor>
         requires within { self.at ≤ length s.now }

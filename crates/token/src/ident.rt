@@ -42,6 +42,7 @@ fn consume_signs(s: &[u8], c: Cursor) -> Cursor
     ensures rest { from s.now result.at ≡ afterRun opSign (from s.now c.at) }
 {
     let mut i = c.at;
+    // A sign past ASCII has three bytes: no iterator takes such steps.
     while let Some(next) = sign_end(s, i) {
         i = next;
     }
@@ -62,7 +63,7 @@ pub fn skip_id_rest(s: &[u8], c: Cursor) -> Cursor
 }
 
 // The same by chunks, each of zero or more underscores and one or more id characters, then signs where underscores are left. `low`: an underscore
-// came last before c.
+// came last before c. The inner loop ends with a chunk, the outer one where none follows.
 fn consume_id_rest(s: &[u8], c: Cursor, low: bool) -> Cursor
     requires { c.at ≤ length s.now }
     ensures within { result.at ≤ length s.now }
@@ -99,6 +100,7 @@ pub fn consume_op_run(s: &[u8], c: Cursor) -> Cursor
     ensures rest { from s.now result.at ≡ afterRun freeSign (from s.now c.at) }
 {
     let mut d = c;
+    // The same steps, which a comment's opening ends too.
     while let Some(next) = sign_end(s, d.at) {
         if opens_comment(s, d) {
             return d;

@@ -1,4 +1,4 @@
-// Keywords, by their bytes: the kind's number of a word, and of a run of operator signs.
+// Keywords, by their bytes: the kind's number of a word, and of a run of operator signs. A record has the number, so no kind is made for it.
 ghost use Rattle.std.specs.Prelude.{◌≡◌, cond, [], ◌∷◌, ◌+◌, ◌≤◌, length};
 ghost use Rattle.words.specs.Words.{twoAt, fourAt};
 ghost use Rattle.chars.specs.paper.Text.{from};

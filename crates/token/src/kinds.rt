@@ -184,7 +184,7 @@ pub struct Form {
 }
 
 impl Form {
-    /// A kind without values.
+    /// A kind without values, by its number, which is all that its record has of it.
     #[tactic(auto, using(crate::proofs::form::Laws::known))]
     pub fn plain(number: u16) -> Form
         ensures value { result ≡ plainForm number }

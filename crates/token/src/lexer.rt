@@ -53,7 +53,7 @@ fn lex_wide_name(s: &[u8], c: Cursor, next: Cursor) -> Piece
     Ok((TokenKind::Ident, Cursor { at: end }))
 }
 
-/// The same by the character that stands there.
+/// A token that begins past ASCII, by the character that stands there.
 #[tactic(auto, using(crate::proofs::lexer::Starts::wide_words))]
 pub fn lex_wide_word(s: &[u8], c: Cursor) -> Piece
     requires within { c.at < length s.now }

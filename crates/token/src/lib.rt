@@ -5,7 +5,7 @@ pub mod kinds; // keywords and token kinds, their record numbers and lengths
 mod cursor; // a place in a script, and what stands there
 pub mod refusal; // what a script is refused for, and where
 mod piece; // what reading one piece answers
-mod gap; // blanks, comments and line ends
+mod gap; // comments
 mod digits; // digit runs and numbers
 mod string; // strings and escapes
 mod keyword; // keywords, by their bytes
@@ -15,5 +15,5 @@ mod lexer; // one token, by its first byte
 pub mod form; // one record, stored and read back
 mod byte_class; // what a byte is, by a table
 mod names; // words and operators, recognised from their ASCII bytes
-mod walk; // the walk over what is recognised from its bytes
+mod walk; // from piece to piece, to the end of script or to what is refused
 pub mod records; // the records, counted, and stored where they fit

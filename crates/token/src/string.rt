@@ -125,6 +125,7 @@ fn lex_items(s: &[u8], c: Cursor, prefixed: bool) -> Result<Cursor, Refused>
     ensures { result ≡ endedOf (length s.now) (closeSingle prefixed (from s.now c.at)) }
 {
     let mut d = c;
+    // A step is a byte or an escape.
     while d.at < s.len() {
         let b = s[d.at];
         if Class::of(b).is_ordinary() {
@@ -211,6 +212,7 @@ fn lex_triple_string(s: &[u8], c: Cursor, prefixed: bool) -> Result<Cursor, Refu
     ensures { result ≡ endedOf (length s.now) (closeTriple prefixed (drop 3 (from s.now c.at))) }
 {
     let mut d = skip_ordinary(s, Cursor { at: c.at + 3 });
+    // A step is what is not ordinary, and the run behind it.
     while d.at < s.len() {
         if three_quotes(s, d.at) {
             return Ok(close_triple(s, d));
@@ -257,6 +259,7 @@ fn strip_blocks(s: &[u8], start: usize, end: usize) -> Span
 {
     let mut a = start;
     let mut b = end;
+    // Both ends move.
     while blocks_off(s, a, b) {
         a += 16;
         b -= 16;
@@ -266,7 +269,7 @@ fn strip_blocks(s: &[u8], start: usize, end: usize) -> Span
 
 // The content of the text from `start` to `end`.
 #[tactic(auto, using(crate::proofs::string::Strips::strip_turns))]
-fn strip_many(s: &[u8], start: usize, end: usize) -> Span
+fn strip_quotes(s: &[u8], start: usize, end: usize) -> Span
     requires order { start ≤ end }
     requires within { end ≤ length s.now }
     requires suffix { Suffix (from s.now end) (from s.now start) }
@@ -275,6 +278,7 @@ fn strip_many(s: &[u8], start: usize, end: usize) -> Span
     let left = strip_blocks(s, start, end);
     let mut a = left.start;
     let mut b = left.end;
+    // Both ends move, the second only where a quote is left.
     while a < b {
         if s[a] != b'"' {
             return Span { start: a, end: b };
@@ -295,7 +299,7 @@ fn strip_triple(s: &[u8], start: usize, end: usize) -> Span
     ensures { spanKind result ≡ plainContent (length s.now) (from s.now start) (from s.now end) }
 {
     if byte_at(s, start + 3) == b'"' {
-        return strip_many(s, start, end);
+        return strip_quotes(s, start, end);
     }
     Span {
         start: start + 3,
@@ -344,7 +348,7 @@ pub fn lex_plain_string(s: &[u8], c: Cursor) -> Piece
 // A prefixed string from its opening on.
 #[tactic(auto, unfolding(crate::specs::computed::Answer::closeString, crate::specs::code::String::closeSingle))]
 #[inline(always)]
-fn lex_opened(s: &[u8], c: Cursor) -> Result<Cursor, Refused>
+fn lex_string(s: &[u8], c: Cursor) -> Result<Cursor, Refused>
     requires within { c.at ≤ length s.now }
     requires opens { quote (from s.now c.at) ≡ true }
     ensures { result ≡ endedOf (length s.now) (closeString true (from s.now c.at)) }
@@ -364,7 +368,7 @@ pub fn lex_prefixed_string(s: &[u8], start: usize, c: Cursor) -> Piece
     requires opens { quote (from s.now c.at) ≡ true }
     ensures { result ≡ pieceOf (length s.now) (prefixedOf (length s.now) (from s.now start) (closeString true (from s.now c.at))) }
 {
-    let end = lex_opened(s, c)?;
+    let end = lex_string(s, c)?;
     Ok((
         TokenKind::Str {
             from: start,

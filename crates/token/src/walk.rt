@@ -134,8 +134,8 @@ fn behind_comment(s: &[u8], x: Stand, end: usize) -> Stand
     }
 }
 
-// Each of the following is a step: past what stands there, with its record stored where it fits. One that can decline answers by None, and stores
-// nothing then.
+// Each of the following is a step: past what stands there, with its record stored where it fits. One that refuses answers by Err, one that leaves its
+// piece to another reader by None, and neither stores anything then.
 
 // Past the blank that stands there and those behind it. Most blanks stand alone.
 fn blank_step(s: &[u8], x: Stand) -> Stand
@@ -384,6 +384,7 @@ fn put_piece(out: &mut [u8], s: &[u8], x: Stand, piece: Piece) -> Result<Stand, 
     ensures refused { IfErr result (λ e. Refuses s.now x out.old e) }
     ensures kept { IfErr result (λ e. out.new ≡ out.old) }
 {
+    // Here alone the piece's answer is taken apart, and its refusal handed on as it is.
     let Ok((kind, end)) = piece else {
         return Err(piece.unwrap_err());
     };
@@ -537,6 +538,7 @@ fn walk_words(out: &mut [u8], s: &[u8], start: Stand) -> Stand
     ensures { Steps s.now start out.old result out.new }
 {
     let mut x = start;
+    // A step is a piece, and what it makes of the state.
     loop {
         if x.class == Class::BLANK {
             x = blank_step(s, x);
@@ -596,6 +598,7 @@ pub fn walk(out: &mut [u8], s: &[u8], start: Stand) -> Result<Stand, Refused>
     ensures out_after { IfErr result (λ e. out.new ≡ storedFrom s.now (stateAt start) out.old) }
 {
     let mut x = start;
+    // The same steps, of every piece.
     loop {
         if !x.cut {
             x = walk_words(out, s, x);

@@ -4,8 +4,8 @@ use Rattle.token.proofs.string.Contents.{three-quote, triple-content}
 use Rattle.token.proofs.string.Strips.{string-tail}
 use Rattle.token.proofs.string.strip_triple.Goals as goal
 
-pub strip_many-requires-clause-suffix : goal.strip_many-requires-clause-suffix
-strip_many-requires-clause-suffix c = let p = c.requires in string-tail _ _ _ (three-quote _ _ p.opens) p.closes
+pub strip_quotes-requires-clause-suffix : goal.strip_quotes-requires-clause-suffix
+strip_quotes-requires-clause-suffix c = let p = c.requires in string-tail _ _ _ (three-quote _ _ p.opens) p.closes
 
 pub overflow_sub-result : goal.overflow_sub-result
 overflow_sub-result c =

@@ -1,6 +1,6 @@
 -- The content of what is left is the content of all.
 use Rattle.token.proofs.string.Strips.{left-all, left-taken, left-stop, left-end}
-use Rattle.token.proofs.string.strip_many.Goals as goal
+use Rattle.token.proofs.string.strip_quotes.Goals as goal
 
 pub loop-a-init : goal.loop-a-init
 loop-a-init c =

@@ -1,7 +1,7 @@
 -- The content of what is left is the content of all.
 use Prim.Native.Nat.{◌-◌}
 use Rattle.token.proofs.string.Strips.{Left}
-use Rattle.token.proofs.string.strip_many.Given as goal
+use Rattle.token.proofs.string.strip_quotes.Given as goal
 
 abbrev pub invariant-loop-a : goal.invariant-loop-a
 invariant-loop-a l = Left l.s l.start l.end l.a l.b
