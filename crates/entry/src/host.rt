@@ -64,7 +64,9 @@ fn tokenize_by(scratch: &mut [u8], script: &[u8], records: &mut [u8], answer: &m
     }
 }
 
-// The same with a buffer of so many bytes on the stack, which is cleared in each call: a short script has a small one.
+// The same with a buffer of so many bytes on the stack, which is cleared in each call: a short script has a small one. Out of line, since the buffers
+// of all three sizes lie in one frame where these functions are compiled into their caller.
+#[inline(never)]
 fn tokenize_with<const BYTES: usize>(script: &[u8], records: &mut [u8], answer: &mut [u8]) -> u32
     requires sixteen { length answer.old ≡ 16 }
     requires on_stack { BYTES ≤ 8192 }
