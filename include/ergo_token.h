@@ -1,6 +1,6 @@
 /* ErgoScript tokens as records: the six functions of crates/ergo, for C and C++. `rt lib`, in that folder, makes the library,
  * crates/ergo/out/libergo.a, for Linux on x86-64 processors of level v2 (SSE4.2). Tokenizing takes at most some 9 kB of stack, reading stored
- * records less than 200 bytes, lines and columns some 200. The library allocates nothing, and calls nothing but memmove and memset, which the
+ * records some 200 bytes, lines and columns less. The library allocates nothing, and calls nothing but memmove and memset, which the
  * compiler puts in; a host without a C library must have these two. It keeps nothing between calls: calls from several threads at once are fine as
  * long as no two of them lend the same bytes for writing.
  *
