@@ -323,8 +323,8 @@ fn put_short(list: &mut List) {
     });
 }
 
-// Lengths about those by which the code counts and searches, eight and 224 bytes.
-const LENGTHS: [usize; 14] = [0, 1, 7, 8, 9, 15, 16, 17, 223, 224, 225, 447, 448, 449];
+// Lengths about those by which the code counts and searches: 224 bytes, and sixteen and sixty-four.
+const LENGTHS: [usize; 23] = [0, 1, 7, 8, 9, 15, 16, 17, 47, 48, 49, 63, 64, 65, 127, 128, 129, 223, 224, 225, 447, 448, 449];
 
 fn put_lengths(list: &mut List) {
     list.sort("a line of each length");
@@ -354,6 +354,15 @@ fn put_offsets(list: &mut List) {
             list.put(&script, lines(&script), every(&script));
         }
     }
+    list.sort("a line end at every offset of eighty bytes, places beside it, numbers for every byte lent or for every line");
+    for offset in 0..=80 {
+        for end in ["\n", "\r\n"] {
+            let script = joined(&[&vec![b'a'; offset], end.as_bytes(), &vec![b'b'; 80 - offset]]);
+            let beside = (offset as u32).saturating_sub(1)..=(offset + end.len()) as u32;
+            let lent = if offset % 2 == 0 { script.len() + 1 } else { lines(&script) };
+            list.put(&script, lent, beside.collect());
+        }
+    }
     list.sort("two LFs at every two offsets");
     for first in 0..17 {
         for second in 0..first {
@@ -372,7 +381,7 @@ fn put_many(list: &mut List) {
         let script = vec![b'\n'; count];
         list.put(&script, count + 1, (0..=count as u32).collect());
     }
-    for count in [223, 224, 225, 254, 255, 256, 257, 447, 448, 449, 511] {
+    for count in [47, 48, 49, 63, 64, 65, 80, 127, 128, 129, 223, 224, 225, 254, 255, 256, 257, 447, 448, 449, 511] {
         let script = vec![b'\n'; count];
         let places = [0, 1, 2, count / 3, count / 2, count / 2 + 1, count - 2, count - 1, count, count + 1].map(|at| at as u32);
         list.put(&script, count + 1, places.to_vec());

@@ -1,30 +1,24 @@
 -- A test that is computed at a few codes, carried to each code that is one of them.
-use Prim.Native.Nat.{ℕ, zero, suc, ◌+◌, ◌≤◌, ◌<◌}
-use mathlib.Core.Path.{◌≡◌, refl, sym, ◌∙◌}
-use mathlib.Core.Bool.{Bool, true, false, not, ◌||◌, and-eq-true_iff, or-true}
-use mathlib.Core.List.{List, [], ◌∷◌}
-use mathlib.Core.Logic.{inl, inr, ⊎_elim}
-use native.Mathlib.Omega.{arith}
-use borrow.Author.Tests.{eqb-true, eqb-false, eq-eqb, ne_eqb, not-true, ltb-true, ltb-false, le-ltb}
-use lib.Dec.{eqb, ltb}
+use Rattle.std.proofs.Common.{◌≡◌, ℕ, zero, suc, ◌+◌, ◌≤◌, ◌<◌, Bool, true, false, not, ◌&&◌, List, [], ◌∷◌, eqb, ltb, refl, sym, ◌∙◌, inl, inr, ⊎_elim, arith, eqb-true, eq-eqb, ne_eqb, le-ltb}
+use Rattle.std.proofs.lemmas.Bool.{cases_lt, cases_eq, or_cases, false_from_ne_true, not-true}
+use Rattle.std.proofs.Math.Bool.{or-true}
 use types.Run.{OneOf}
 use Rattle.chars.specs.paper.Quoted.{member}
 use Rattle.chars.specs.code.Classes.{bitIn}
+use Rattle.chars.specs.code.Masks.{inMasks}
 use Rattle.chars.specs.promises.Codes.{every, span, alike}
-use Rattle.chars.proofs.Bools.{clash}
+use Rattle.chars.proofs.Bools.{clash, and-both}
 
 pub carry : (f : ℕ → Bool) (l : List ℕ) (c : ℕ) → every f l ≡ true → member l c ≡ true → f c ≡ true
 carry f [] c h e = clash e
-carry f (x ∷ l) c h e = let k = (and-eq-true_iff (f x) (every f l)).0 h in go (eqb c x) refl e k.0 (carry f l c k.1)
-  where
-    go : (b : Bool) → eqb c x ≡ b → b || member l c ≡ true → f x ≡ true → (member l c ≡ true → f c ≡ true) → f c ≡ true
-    go true q e k r = rw (eqb-true c x q) k
-    go false q e k r = r e
+carry f (x ∷ l) c h e =
+    let k = and-both (f x) (every f l) h in
+    ⊎_elim (λ q. rw (eqb-true c x q) k.0) (λ r. carry f l c k.1 r) (or_cases (eqb c x) (member l c) e)
 
 -- a test that holds at every code of a list, and implies another
 pub every-sub : (f g : ℕ → Bool) (l : List ℕ) → every f l ≡ true → ((c : ℕ) → f c ≡ true → g c ≡ true) → every g l ≡ true
 every-sub f g [] h k = refl
-every-sub f g (x ∷ l) h k = let e = (and-eq-true_iff (f x) (every f l)).0 h in rw (k x e.0) (every-sub f g l e.1 k)
+every-sub f g (x ∷ l) h k = let e = and-both (f x) (every f l) h in rw (k x e.0) (every-sub f g l e.1 k)
 
 -- what holds at none of the codes does not hold at one of them
 pub carry-not : (f : ℕ → Bool) (l : List ℕ) (c : ℕ) → every (λ x. not (f x)) l ≡ true → member l c ≡ true → f c ≡ false
@@ -32,19 +26,11 @@ carry-not f l c h e = not-true (f c) (carry (λ x. not (f x)) l c h e)
 
 -- a code at which a test holds that none of the list passes is not in the list
 pub no-member : (f : ℕ → Bool) (l : List ℕ) (c : ℕ) → every (λ x. not (f x)) l ≡ true → f c ≡ true → member l c ≡ false
-no-member f l c h e = go (member l c) refl
-  where
-    go : (b : Bool) → member l c ≡ b → b ≡ false
-    go false q = refl
-    go true q = let z = carry-not f l c h q in clash (cc)
+no-member f l c h e = false_from_ne_true (member l c) (λ q. clash (sym (carry-not f l c h q) ∙ e))
 
 in-span : (a n c : ℕ) → a ≤ c → c < a + n → member (span a n) c ≡ true
 in-span a zero c h k = absurd (omega arith)
-in-span a (suc n) c h k = go (eqb c a) refl (λ z. in-span (suc a) n c z (omega arith))
-  where
-    go : (b : Bool) → eqb c a ≡ b → (a < c → member (span (suc a) n) c ≡ true) → b || member (span (suc a) n) c ≡ true
-    go true q r = refl
-    go false q r = r (let y = eqb-false c a q in omega (arith, y))
+in-span a (suc n) c h k = ⊎_elim (λ q. rw (eq-eqb c a q)) (λ q. rw (in-span (suc a) n c (omega arith) (omega arith)) (or-true (eqb c a))) (cases_eq c a)
 
 pub carry-span : (f : ℕ → Bool) (a n c : ℕ) → every f (span a n) ≡ true → a ≤ c → c < a + n → f c ≡ true
 carry-span f a n c h p q = carry f (span a n) c h (in-span a n c p q)
@@ -65,11 +51,13 @@ mask-none low high c l = rw (le-ltb c 0x40 (omega arith), le-ltb c 0x80 l)
 
 pub mask-set : (low high : ℕ) (p : ℕ → Bool) → every (λ x. alike (bitIn low high x) (p x)) (span 0 128) ≡ true → ((c : ℕ) → 0x80 ≤ c → p c ≡ false)
     → (c : ℕ) → bitIn low high c ≡ p c
-mask-set low high p h w c = go (ltb c 0x80) refl
-  where
-    go : (b : Bool) → ltb c 0x80 ≡ b → bitIn low high c ≡ p c
-    go true e = let l = ltb-true c 0x80 e in each-same (bitIn low high) p 0 128 c h (omega arith) (omega arith)
-    go false e = let l = ltb-false c 0x80 e in mask-none low high c l ∙ sym (w c l)
+mask-set low high p h w c =
+    ⊎_elim (λ l. each-same (bitIn low high) p 0 128 c h (omega arith) (omega arith)) (λ l. mask-none low high c l ∙ sym (w c l)) (cases_lt c 0x80)
+
+-- masks by blocks of 64 codes, where there are two blocks
+pub two-masks : (low high c : ℕ) → bitIn low high c ≡ ltb c 0x80 && inMasks (low ∷ high ∷ []) (0 ∷ 1 ∷ []) c
+unfolding bitIn inMasks
+two-masks low high c = grind arith
 
 -- ---- the keys of a match's arm
 

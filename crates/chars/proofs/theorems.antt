@@ -1,3 +1,4 @@
 pub mod Promises
 pub mod Encodes
 pub mod StdUtf8
+pub mod Runs

@@ -1,16 +1,16 @@
 // The character classes of RULES, "Characters", with the names of token.rs.
-ghost use Rattle.std.specs.Prelude.{◌≡◌, ◌&&◌, ltb, length};
+ghost use Rattle.std.specs.Prelude.{ℕ, ◌≡◌, ◌≤◌, ◌<◌, Bool, IsTrue, IsFalse, ◌&&◌, IfSome, IfNone, nat_lt, length, drop};
 ghost use Rattle.chars.specs.code.Masks.{inMasks};
 ghost use Rattle.chars.specs.paper.Classes.{isIdStart, isIdChar, isOpSign, isPrintable};
-ghost use Rattle.chars.specs.paper.Text.{from, place, idChar};
+ghost use Rattle.chars.specs.paper.Text.{from, place, headIs, idChar};
 ghost use Rattle.chars.specs.computed.Runs.{afterRun};
-ghost use Rattle.chars.specs.code.Classes.{bitIn, arrowAt};
+ghost use Rattle.chars.specs.code.Classes.{arrowAt};
 ghost use Rattle.chars.specs.promises.Codes.{CodeLaws};
 ghost use Rattle.chars.specs.promises.Classes.{ClassLaws};
 
 use crate::masks::{BLOCKS, ID_CHARS, ID_STARTS};
 use crate::text::char_at;
-use crate::utf8::{byte_in, pair_in};
+use crate::utf8::{byte_in, code_at, pair_in};
 
 // The last code that the masks speak of.
 const LAST: u32 = 0xFFFF;
@@ -41,10 +41,10 @@ pub fn is_arrow_at(s: &[u8], at: usize) -> bool
     pair_in(s, at, 0xE2, 0xE2, 0x87, 0x87) && byte_in(s, at + 2, 0x92, 0x92)
 }
 
-/// Whether the byte is an ASCII operator sign.
+// Whether the byte is an ASCII operator sign.
 #[tactic(auto, unfolding(crate::specs::paper::Classes::isOpSign))]
-pub fn is_op_byte(b: u8) -> bool
-    ensures { result ≡ ltb b 0x80 && isOpSign b }
+fn is_op_byte(b: u8) -> bool
+    ensures { result ≡ nat_lt b 0x80 && isOpSign b }
 {
     matches!(
         b,
@@ -68,25 +68,12 @@ pub fn is_op_byte(b: u8) -> bool
     )
 }
 
-/// Whether the byte's bit is set in one of two masks, for the codes up to 0x3F and from 0x40 to 0x7F: two tests where a `match` takes a dozen.
-// Two masks and not one of 128 bits, whose shift takes several instructions. `code_laws`: what is computed at a few codes is carried to a code that
-// is one of them.
-#[tactic(auto, using(crate::proofs::theorems::Promises::code_laws), unfolding(crate::specs::code::Classes::bitIn))]
-pub fn has_bit(b: u8, low: u64, high: u64) -> bool
-    ensures value { result ≡ bitIn low high b }
-    ensures code_laws { CodeLaws }
-{
-    match b {
-        0x00..=0x3F => (low >> b as u64) % 2 == 1,
-        0x40..=0x7F => (high >> (b as u64 - 0x40)) % 2 == 1,
-        _ => false,
-    }
-}
-
 /// Whether c is printable.
-#[tactic(auto, unfolding(crate::specs::paper::Classes::isPrintable))]
+// `code_laws`: what is computed at a few codes is carried to a code that is one of them.
+#[tactic(auto, using(crate::proofs::theorems::Promises::code_laws), unfolding(crate::specs::paper::Classes::isPrintable))]
 pub fn is_printable_char(c: u32) -> bool
-    ensures { result ≡ isPrintable c }
+    ensures value { result ≡ isPrintable c }
+    ensures code_laws { CodeLaws }
 {
     c >= 0x20 && !(0x7F..=0x9F).contains(&c) && c < 0xFFF0
 }
@@ -109,24 +96,67 @@ pub fn is_id_char(c: u32) -> bool
     c <= LAST && has_code(&ID_CHARS, c as u16)
 }
 
-/// Whether a byte is an ASCII character that starts an identifier: a letter, `$` or `_`.
-#[tactic(auto, using(crate::proofs::classes::Laws::ascii_bytes))]
-pub fn is_ascii_start(b: u8) -> bool
-    ensures { result ≡ ltb b 0x80 && isIdStart b }
-{
-    b.is_ascii_alphabetic() || b == b'_' || b == b'$'
-}
-
 // Whether a byte is an ASCII id character: a letter, a digit or `$`.
 #[tactic(auto, using(crate::proofs::classes::Laws::ascii_bytes))]
 fn is_id_byte(b: u8) -> bool
-    ensures { result ≡ ltb b 0x80 && isIdChar b }
+    ensures { result ≡ nat_lt b 0x80 && isIdChar b }
 {
     b.is_ascii_alphanumeric() || b == b'$'
 }
 
+/// A class of characters.
+pub trait CodeClass {
+    ghost holds: { ℕ → Bool };
+
+    /// Whether the class has the character of this code.
+    fn has(c: u32) -> bool
+        ensures { result ≡ holds c };
+}
+
+/// What may start an identifier.
+pub struct IdStart;
+
+impl CodeClass for IdStart {
+    ghost holds = { isIdStart };
+
+    #[inline(always)]
+    fn has(c: u32) -> bool {
+        is_id_start(c)
+    }
+}
+
+/// What may continue one.
+pub struct IdChar;
+
+impl CodeClass for IdChar {
+    ghost holds = { isIdChar };
+
+    #[inline(always)]
+    fn has(c: u32) -> bool {
+        is_id_char(c)
+    }
+}
+
+/// Where the character ends that stands at a place, if the class has it. Characters of two bytes are told first: of most alphabets, and in a path of
+/// their own their code takes no join.
+#[inline(always)]
+pub fn class_end<C: CodeClass>(s: &[u8], at: usize) -> Option<usize>
+    ensures has { IfSome result (λ _. IsTrue (headIs C.holds (from s.now at))) }
+    ensures within { IfSome result (λ end. end ≤ length s.now) }
+    ensures further { IfSome result (λ end. at < end) }
+    ensures rest { IfSome result (λ end. from s.now end ≡ drop 1 (from s.now at)) }
+    ensures none { IfNone result (IsFalse (headIs C.holds (from s.now at))) }
+{
+    if pair_in(s, at, 0xC2, 0xDF, 0x80, 0xBF) {
+        return C::has(code_at(s, at, 2)).then_some(at + 2);
+    }
+    let here = char_at(s, at)?;
+    C::has(here.code).then_some(at + here.width)
+}
+
 /// Where the run of id characters from a place on ends.
 // ASCII is told by its byte. A step is one byte or a character's: no iterator takes such steps.
+#[inline(always)]
 pub fn id_run_end(s: &[u8], at: usize) -> usize
     ensures { result ≡ place (length s.now) (afterRun idChar (from s.now at)) }
 {
@@ -138,13 +168,10 @@ pub fn id_run_end(s: &[u8], at: usize) -> usize
             }
             i += 1;
         } else {
-            let Some(here) = char_at(s, i) else {
+            let Some(next) = class_end::<IdChar>(s, i) else {
                 return i;
             };
-            if !is_id_char(here.code) {
-                return i;
-            }
-            i += here.width;
+            i = next;
         }
     }
     s.len()

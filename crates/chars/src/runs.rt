@@ -2,6 +2,7 @@
 ghost use Rattle.std.specs.Prelude.{◌≡◌, ◌+◌, ℕ, Bool, not, ◌||◌, ◌&&◌, ◌==◌, nat_le, map, drop};
 ghost use Rattle.std.specs.List.{prefix_len};
 ghost use Rattle.std.specs.Simd.Lanes.{mask_l};
+ghost use Rattle.chars.specs.promises.Runs.{RunLaws};
 
 use std::simd::prelude::*;
 
@@ -27,13 +28,15 @@ pub fn run_end<C: ByteSet>(s: &[u8], at: usize) -> usize
     ensures { result ≡ at + prefix_len C.holds (drop at s.now) }
 {
     let mut end = at;
-    'by_block: while LANES <= s.len() && end <= s.len() - LANES {
+    // Beside an iterator over blocks the place, which is the answer, would be counted all the same.
+    while LANES <= s.len() && end <= s.len() - LANES {
         let outside = C::outside(u8x16::from_slice(&s[end..]));
         if outside != 0 {
             return end + outside.trailing_zeros() as usize;
         }
         end += LANES;
     }
+    // `position` would take a slice, whose start may be past the end, and a place for none: no plainer.
     while end < s.len() && C::has(s[end]) {
         end += 1;
     }
@@ -41,14 +44,14 @@ pub fn run_end<C: ByteSet>(s: &[u8], at: usize) -> usize
 }
 
 /// Whether sixteen bytes of the set stand from `at` on.
+// `run_laws`: what follows for each byte from this, and from where a run ends.
+#[tactic(auto, using(crate::proofs::theorems::Runs::run_laws))]
 #[inline(always)]
 pub fn block_at<C: ByteSet>(s: &[u8], at: usize) -> bool
-    ensures { result ≡ nat_le LANES (prefix_len C.holds (drop at s.now)) }
+    ensures value { result ≡ nat_le LANES (prefix_len C.holds (drop at s.now)) }
+    ensures run_laws { RunLaws }
 {
-    if s.len() < LANES || s.len() - LANES < at {
-        return false;
-    }
-    C::outside(u8x16::from_slice(&s[at..])) == 0
+    LANES <= s.len() && at <= s.len() - LANES && C::outside(u8x16::from_slice(&s[at..])) == 0
 }
 
 /// The bytes from LOW to HIGH, both included.

@@ -1,5 +1,5 @@
 // UTF-8 by the Unicode Standard, Table 3-7. One look at a character is compiled into whoever takes it: so a loop over characters keeps it in registers.
-ghost use Rattle.std.specs.Prelude.{◌≡◌, [], ◌∷◌, ◌+◌, ◌<◌, ◌≤◌, ◌%◌, drop, get_or, length};
+ghost use Rattle.std.specs.Prelude.{◌≡◌, [], ◌∷◌, ◌+◌, ◌<◌, ◌≤◌, ◌%◌, drop, slice_index, length};
 ghost use Rattle.chars.specs.paper.Ranges.{◌to◌};
 ghost use Rattle.chars.specs.paper.Utf8.{fits, codeOf, LongestValid};
 ghost use Rattle.chars.specs.code.Utf8.{widthAt, decodeAt, rowsOver};
@@ -72,15 +72,15 @@ fn width_at(s: &[u8], at: usize) -> Option<usize>
 #[inline(always)]
 fn six_bits(s: &[u8], at: usize) -> u32
     requires { at < length s.now }
-    ensures value { result ≡ get_or s.now at 0 % 64 }
+    ensures value { result ≡ slice_index s.now at % 64 }
     ensures upper_bound { result < 64 }
 {
     (s[at] % 64) as u32
 }
 
-// The code of the character of w bytes at `at`, by the Unicode Standard, Table 3-6.
+/// The code of the character of w bytes at `at`, by the Unicode Standard, Table 3-6.
 #[inline(always)]
-fn code_at(s: &[u8], at: usize, w: usize) -> u32
+pub fn code_at(s: &[u8], at: usize, w: usize) -> u32
     requires some { 1 ≤ w }
     requires most { w ≤ 4 }
     requires within { at + w ≤ length s.now }

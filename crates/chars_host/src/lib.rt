@@ -2,7 +2,7 @@
 // crate's folder, makes the library, out/libchars_host.a. A slice is passed as a pointer and a length.
 #![tactic(auto)]
 
-ghost use Rattle.std.specs.Prelude.{◌≡◌, if◌then◌else◌, ◌≤◌};
+ghost use Rattle.std.specs.Prelude.{◌≡◌};
 ghost use Rattle.chars.specs.computed.Valid.{validPrefix};
 ghost use Rattle.chars.specs.code.Utf8.{decodeAt};
 ghost use Rattle.chars_host.specs.Packing.{bits, packed};
@@ -24,28 +24,18 @@ pub extern "C" fn chars_decode(s: &[u8], at: usize) -> u64
     ensures { result ≡ packed (decodeAt s.now at) }
 {
     match chars::utf8::decode(s, at) {
-        Some(Decoded { code, width }) => width as u64 * 0x1_0000_0000 + code as u64,
+        Some(Decoded { code, width }) => (width as u64) << 32 | u64::from(code),
         None => 0,
     }
 }
 
-// The weight where the bit is set, else 0.
-fn bit(set: bool, weight: u32) -> u32
-    ensures value { result ≡ (if set then weight else 0) }
-    ensures upper_bound { result ≤ weight }
-{
-    if set { weight } else { 0 }
-}
-
 // The classes of a character: bit 0 id start, 1 id character, 2 operator sign, 3 printable.
-#[tactic(auto, unfolding(crate::specs::Packing::bits))]
 #[unsafe(no_mangle)]
 pub extern "C" fn chars_classes(c: u32) -> u32
     ensures { result ≡ bits c }
 {
-    let start = bit(is_id_start(c), 1);
-    let inside = bit(is_id_char(c), 2);
-    let sign = bit(is_op_char(c), 4);
-    let shown = bit(is_printable_char(c), 8);
-    start + inside + sign + shown
+    u32::from(is_id_start(c))
+        | u32::from(is_id_char(c)) << 1
+        | u32::from(is_op_char(c)) << 2
+        | u32::from(is_printable_char(c)) << 3
 }

@@ -1,5 +1,6 @@
 -- What the lines of the program hold.
 use Rattle.std.specs.Prelude.{ℕ, zero, suc, ◌+◌, ◌-◌, ◌%◌, ◌/◌, Bool, if◌then◌else◌, nat_lt, List, [], ◌∷◌, ◌++◌, codes}
+use Rattle.puts.specs.Digits.{glyph}
 use Rattle.chars.specs.paper.Classes.{isIdStart, isIdChar, isOpSign, isPrintable}
 use Rattle.class_runs.specs.declared.Class.{Class}
 use Rattle.class_runs.specs.declared.Class.TheVariants.{IdStart, IdChar, OpChar, Printable}
@@ -16,13 +17,13 @@ inClass IdChar c = isIdChar c
 inClass OpChar c = isOpSign c
 inClass Printable c = isPrintable c
 
--- the last hexadecimal digit of n, in ASCII and upper case
-unfoldable pub glyph : ℕ → ℕ
-glyph n = if nat_lt (n % 16) 10 then 48 + n % 16 else 55 + n % 16
+-- the last hexadecimal digit of n, in upper case
+abbrev pub lastDigit : ℕ → ℕ
+lastDigit n = glyph (n % 16) 0x41
 
 -- what follows the name of the class in the line of a run
 unfoldable pub runText : ℕ → ℕ → List ℕ
-runText first last = 32 ∷ glyph (first / 4096) ∷ glyph (first / 256) ∷ glyph (first / 16) ∷ glyph first ∷ 32 ∷ glyph (last / 4096) ∷ glyph (last / 256) ∷ glyph (last / 16) ∷ glyph last ∷ 10 ∷ []
+runText first last = 32 ∷ lastDigit (first / 4096) ∷ lastDigit (first / 256) ∷ lastDigit (first / 16) ∷ lastDigit first ∷ 32 ∷ lastDigit (last / 4096) ∷ lastDigit (last / 256) ∷ lastDigit (last / 16) ∷ lastDigit last ∷ 10 ∷ []
 
 -- the line of the run that begins at `start` and ends before `end`; none, where nothing lies between
 unfoldable pub runLine : Class → ℕ → ℕ → List ℕ

@@ -4,9 +4,10 @@
 
 ghost use Rattle.std.specs.Prelude.{◌≡◌, ◌-◌, ◌<◌, ◌≤◌, length, IfOk};
 ghost use Rattle.puts.specs.Puts.{Puts};
-ghost use Rattle.class_runs.specs.Lines.{nameOf, glyph, inClass, runText, runLine, runsFrom, classText};
+ghost use Rattle.class_runs.specs.Lines.{nameOf, lastDigit, inClass, runText, runLine, runsFrom, classText};
 
 use chars::classes::{is_id_char, is_id_start, is_op_char, is_printable_char};
+use puts::hex_digit;
 use std::alloc::AllocError;
 use std::io;
 
@@ -47,12 +48,10 @@ impl Class {
 }
 
 // The last hexadecimal digit of n, in upper case.
-#[tactic(auto, unfolding(crate::specs::Lines::glyph))]
-fn hex_digit(n: u32) -> u8
-    ensures { result ≡ glyph n }
+fn last_digit(n: u32) -> u8
+    ensures { result ≡ lastDigit n }
 {
-    let d = (n & 0xF) as u8;
-    if d < 10 { b'0' + d } else { b'A' - 10 + d }
+    hex_digit((n & 0xF) as u8, b'A')
 }
 
 // What follows the name of the class in the line of a run: the first character and the last.
@@ -62,15 +61,15 @@ fn run_text(first: u32, last: u32) -> [u8; 11]
 {
     [
         b' ',
-        hex_digit(first >> 12),
-        hex_digit(first >> 8),
-        hex_digit(first >> 4),
-        hex_digit(first),
+        last_digit(first >> 12),
+        last_digit(first >> 8),
+        last_digit(first >> 4),
+        last_digit(first),
         b' ',
-        hex_digit(last >> 12),
-        hex_digit(last >> 8),
-        hex_digit(last >> 4),
-        hex_digit(last),
+        last_digit(last >> 12),
+        last_digit(last >> 8),
+        last_digit(last >> 4),
+        last_digit(last),
         b'\n',
     ]
 }

@@ -1,5 +1,5 @@
 -- What is proved of what the host sees, for every script, buffer and block. Proved: proofs/theorems/Hosts.
-use Rattle.std.specs.Prelude.{ℕ, ◌≤◌, ◌≡◌, ◌↔◌, List, [], ◌++◌, length, drop}
+use Rattle.std.specs.Prelude.{ℕ, ◌≤◌, ◌≡◌, ◌≢◌, ◌↔◌, List, [], ◌++◌, length, drop}
 use Rattle.words.specs.Words.{blockOf}
 use Rattle.chars.specs.paper.Utf8.{WellFormed}
 use Rattle.token.specs.paper.Kinds.{Token}
@@ -31,7 +31,7 @@ pub record HostTheorems (script buffer block : List ℕ) : Type 0 where
   -- It is what the refusals and their order declare, and nothing else.
   pub sees : (x : Seen) → (hostOf script buffer block ≡ x) ↔ Sees script buffer block x
   -- "Every refusal leaves the records buffer as it was."; the number is 0 or one of 1 to 20.
-  pub unchanged : (numberSeen (hostOf script buffer block) ≡ 0 → ⊥) → bufferSeen (hostOf script buffer block) ≡ buffer
+  pub unchanged : numberSeen (hostOf script buffer block) ≢ 0 → bufferSeen (hostOf script buffer block) ≡ buffer
   pub numbers : numberSeen (hostOf script buffer block) ≤ 20
   -- Of the script alone: its readings, their tokens, and refusals 1 to 16.
   pub script-theorems : Theorems script

@@ -11,7 +11,7 @@ ghost use Rattle.entry.specs.Theorems.{HostTheorems};
 use crate::check::check_text;
 use crate::refusal::Refused;
 use token::records::{Need, measure, write};
-use words::write::put_block;
+use words::write::{put_block, put_refused};
 
 // Bytes on the stack for records that are stored before the script is known to be accepted, by the script's length: those of most scripts of at
 // most 128 and 512 bytes fit into the first two, some 600 tokens into the last.
@@ -47,11 +47,7 @@ fn tokenize_by(scratch: &mut [u8], script: &[u8], records: &mut [u8], answer: &m
     ensures scratch_after { scratch.new ≡ scratchOf script.now scratch.old }
 {
     match judge(scratch, script) {
-        Err(refused) => {
-            let number = refused.what.number();
-            put_block(answer, number as usize, refused.place, 0, 0);
-            number
-        }
+        Err(refused) => put_refused(answer, refused.what.number(), refused.place),
         Ok(need) if records.len() < need.bytes => {
             put_block(answer, 19, 0, need.tokens, need.bytes);
             19

@@ -34,6 +34,8 @@ impl Refusal {
     }
 }
 
+// Of each crate its own: one over any refusal would take the refusal's type as a parameter, for two fields and `at`.
+
 /// A refusal, and the place where it is met, in bytes of the script.
 #[derive(Clone, Copy, Debug, PartialEq, Eq)]
 pub struct Refused {

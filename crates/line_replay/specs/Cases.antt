@@ -1,5 +1,5 @@
 -- A list of cases, as src/main.rt describes it, and what it means that the case at a place agrees. A place of the list is a byte's offset in it.
-use Rattle.std.specs.Prelude.{ℕ, ◌+◌, ◌*◌, ◌≤◌, ◌<◌, ◌≡◌, List, length, take, drop, get_or, replicate}
+use Rattle.std.specs.Prelude.{ℕ, ◌+◌, ◌*◌, ◌≤◌, ◌<◌, ◌≡◌, List, length, take, drop, slice_index, replicate}
 use Rattle.words.specs.Words.{fourAt, Told, numberTold, blockTold}
 use Rattle.entry.specs.paper.Host.{Seen, seen, numberSeen, bufferSeen}
 use Rattle.lines.specs.computed.Host.{indexSeen, positionTold}
@@ -51,7 +51,7 @@ BlockAgrees list at x = Listed list at (numberSeen x) (blockSeen x)
 
 -- the first so many of these numbers are what the list has from a place on
 abbrev pub NumbersListed : List ℕ → ℕ → ℕ → List ℕ → Type 0
-NumbersListed list at count numbers = (k : ℕ) → k < count → get_or numbers k 0 ≡ fourAt list (at + 4 * k)
+NumbersListed list at count numbers = (k : ℕ) → k < count → slice_index numbers k ≡ fourAt list (at + 4 * k)
 
 -- what is told is what the list has at a place
 abbrev pub AsListed : List ℕ → ℕ → Told → Type 0

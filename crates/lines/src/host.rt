@@ -1,9 +1,10 @@
 // What hosts call: building the index, and asking for a place. REQUESTS, "Building an index" and "Asking for a place".
-ghost use Rattle.std.specs.Prelude.{◌≡◌, ◌≤◌, length, OnOk};
+ghost use Rattle.std.specs.Prelude.{◌≡◌, ◌≤◌, length, nat_lt, OnOk};
 ghost use Rattle.token.specs.paper.Records.{mostBytes};
 ghost use Rattle.words.specs.Words.{told};
 ghost use Rattle.entry.specs.paper.Host.{seen};
 ghost use Rattle.lines.specs.computed.Host.{checkedOf, indexSeen, positionTold};
+ghost use Rattle.lines.specs.computed.Lines.{lineCount};
 ghost use Rattle.lines.specs.Theorems.{LineTheorems};
 
 use crate::count::count_in;
@@ -12,16 +13,32 @@ use crate::index::{LF, put_starts};
 use entry::check::check_text;
 use entry::refusal::Refused;
 use entry::text::has_text;
-use words::write::put_block;
+use words::write::{put_block, put_refused};
+
+#[tactic(auto, using(crate::proofs::count::Laws::counting), unfolding(crate::specs::computed::Lines::lineCount))]
+fn count_lines(script: &[u8]) -> usize
+    ensures { result ≡ lineCount script.now }
+{
+    count_in(script, LF, LF) + 1
+}
 
 // How many lines a script has: 17, then 18 is met before it is counted.
-#[tactic(auto, using(crate::proofs::count::Laws::counting), unfolding(crate::specs::computed::Host::checkedOf, crate::specs::computed::Lines::lineCount))]
+#[tactic(auto, unfolding(crate::specs::computed::Host::checkedOf))]
 fn check_script(script: &[u8]) -> Result<usize, Refused>
     ensures value { result ≡ checkedOf script.now }
     ensures in_limit { OnOk result (length script.now ≤ mostBytes) }
 {
     check_text(script)?;
-    Ok(count_in(script, LF, LF) + 1)
+    Ok(count_lines(script))
+}
+
+// Whether an index of so many numbers has no room for all lines. A script has at most one line more than bytes, so it is counted only where there
+// are fewer numbers.
+#[tactic(auto, using(crate::proofs::count::Laws::lines_most))]
+fn is_short(numbers: usize, script: &[u8]) -> bool
+    ensures { result ≡ nat_lt numbers (lineCount script.now) }
+{
+    numbers <= script.len() && numbers < count_lines(script)
 }
 
 // 20, 25 and 26 are told where they are met, 20 without a block, the others each with its own: an enum would be taken apart again at once.
@@ -35,18 +52,14 @@ pub fn index_lines(script: &[u8], index: &mut [u32], answer: &mut [u8]) -> u32
     if answer.len() != 16 {
         return 20;
     }
-    match check_script(script) {
-        Err(refused) => {
-            let number = refused.what.number();
-            put_block(answer, number as usize, refused.place, 0, 0);
-            number
-        }
-        Ok(lines) if index.len() < lines => {
-            put_block(answer, 26, 0, lines, 0);
+    match check_text(script) {
+        Err(refused) => put_refused(answer, refused.what.number(), refused.place),
+        Ok(()) if is_short(index.len(), script) => {
+            put_block(answer, 26, 0, count_lines(script), 0);
             26
         }
-        Ok(lines) => {
-            put_starts(index, script);
+        Ok(()) => {
+            let lines = put_starts(index, script);
             put_block(answer, 0, 0, lines, 0);
             0
         }
@@ -64,19 +77,9 @@ pub fn line_column(script: &[u8], index: &[u32], place: u32, answer: &mut [u8]) 
     }
     let at = place as usize;
     match check_script(script) {
-        Err(refused) => {
-            let number = refused.what.number();
-            put_block(answer, number as usize, refused.place, 0, 0);
-            number
-        }
-        Ok(_) if !has_text(script, at, at) => {
-            put_block(answer, 25, 0, 0, 0);
-            25
-        }
-        Ok(lines) if index.len() < lines => {
-            put_block(answer, 26, 0, 0, 0);
-            26
-        }
+        Err(refused) => put_refused(answer, refused.what.number(), refused.place),
+        Ok(_) if !has_text(script, at, at) => put_refused(answer, 25, 0),
+        Ok(lines) if index.len() < lines => put_refused(answer, 26, 0),
         Ok(lines) => {
             let line = find_line(index, lines, at);
             let start = index[line] as usize;

@@ -1,5 +1,5 @@
 -- The cases on standard input: each is four decimal digits, the script's length, a line feed and the script.
-use Rattle.std.specs.Prelude.{ℕ, zero, suc, ◌+◌, ◌*◌, ◌-◌, min, cond, List, get_or, length, take, drop, leb}
+use Rattle.std.specs.Prelude.{ℕ, zero, suc, ◌+◌, ◌*◌, ◌-◌, min, if◌then◌else◌, List, slice_index, length, take, drop, nat_le}
 use Rattle.std.specs.List.{range_with_len, flat_map}
 use Rattle.listing_text.specs.Lines.{caseText}
 
@@ -9,7 +9,7 @@ digit code = code - 0x30
 
 unfoldable pub scriptLength : List ℕ → ℕ → ℕ
 scriptLength list at =
-    digit (get_or list at 0) * 1000 + digit (get_or list (at + 1) 0) * 100 + digit (get_or list (at + 2) 0) * 10 + digit (get_or list (at + 3) 0)
+    digit (slice_index list at) * 1000 + digit (slice_index list (at + 1)) * 100 + digit (slice_index list (at + 2)) * 10 + digit (slice_index list (at + 3))
 
 -- where the case's script ends: at the list's end where that cuts it short
 unfoldable pub caseEnd : List ℕ → ℕ → ℕ
@@ -34,7 +34,7 @@ unfoldable pub countFor : ℕ → List ℕ → ℕ → ℕ
 countFor zero list at = 0
 countFor (suc most) list at =
     let more = 1 + countFor most list (caseEnd list at) in
-    cond (leb (at + 5) (length list)) more 0
+    if nat_le (at + 5) (length list) then more else 0
 
 unfoldable pub caseCount : List ℕ → ℕ
 caseCount list = countFor (length list) list 0

@@ -1,5 +1,5 @@
 -- RULES, "Listing": the text that the listing program prints, as bytes.
-use Rattle.std.specs.Prelude.{ℕ, zero, suc, ◌/◌, ◌%◌, false, cond, List, [], ◌∷◌, ◌++◌, length, take, drop, replicate, eqb, leb}
+use Rattle.std.specs.Prelude.{ℕ, zero, suc, ◌/◌, ◌%◌, false, if◌then◌else◌, List, [], ◌∷◌, ◌++◌, length, take, drop, replicate, ◌==◌, nat_le}
 use Rattle.words.specs.Words.{twoAt, fourAt}
 use Rattle.chars.specs.paper.Quoted.{codes}
 use Rattle.token.specs.paper.Kinds.{kindNumber}
@@ -15,7 +15,7 @@ use Rattle.entry.specs.computed.Listing.{listingOf}
 unfoldable pub lengthHere : List ℕ → ℕ
 lengthHere bytes =
     let n = twoAt bytes 0 in
-    cond (leb headLength n) (cond (leb n (length bytes)) n 0) 0
+    if nat_le headLength n then (if nat_le n (length bytes) then n else 0) else 0
 
 -- the kinds that have values, whatever these are
 abbrev pub intLit : ℕ
@@ -33,10 +33,11 @@ newline = kindNumber (tk.Newline false)
 -- RULES, "Values": those of a kind, from all of them as one number, of which the first of two is in the lower four bytes
 unfoldable pub heldValues : ℕ → ℕ → List ℕ
 heldValues kind values =
-    cond (eqb kind intLit) (values ∷ [])
-    (cond (eqb kind longLit) (values ∷ [])
-    (cond (eqb kind newline) (values ∷ [])
-    (cond (eqb kind str) (values % 4294967296 ∷ values / 4294967296 ∷ []) [])))
+    if kind == intLit then values ∷ []
+    else if kind == longLit then values ∷ []
+    else if kind == newline then values ∷ []
+    else if kind == str then values % 4294967296 ∷ values / 4294967296 ∷ []
+    else []
 
 -- kind, start, end and cut, "in base ten, with single spaces"
 unfoldable pub headText : Held → List ℕ
@@ -55,7 +56,7 @@ linesFor zero bytes = []
 linesFor (suc most) bytes =
     let n = lengthHere bytes in
     let lines = lineText (heldAt bytes 0) ++ linesFor most (drop n bytes) in
-    cond (eqb n 0) [] lines
+    if n == 0 then [] else lines
 
 -- No record is empty, so there are no more of them than bytes.
 unfoldable pub recordLines : List ℕ → List ℕ
@@ -66,7 +67,7 @@ unfoldable pub answerText : Seen → List ℕ
 answerText (seen number records block) =
     let lines = recordLines (take (fourAt block 12) records) in
     let refused = refusedAt number (fourAt block 4) in
-    cond (eqb number 0) lines refused
+    if number == 0 then lines else refused
 
 -- all that is lent is 0
 unfoldable pub zeros : ℕ → List ℕ
@@ -85,7 +86,7 @@ recordsRoom = mostNeed mostScript
 unfoldable pub printed : List ℕ → List ℕ
 printed script =
     let lines = listingOf script in
-    cond (leb (length script) mostScript) lines (codes "long\n")
+    if nat_le (length script) mostScript then lines else codes "long\n"
 
 -- One case of several: a line `-- K`, and the script's listing.
 unfoldable pub caseText : ℕ → List ℕ → List ℕ

@@ -1,7 +1,8 @@
 // Text put together in memory: what the programs that print one share. A text is a `Vec` of bytes, and each part is put behind what it holds.
 #![tactic(auto)]
 
-ghost use Rattle.std.specs.Prelude.{◌∷◌, ◌≤◌, length, decimal};
+ghost use Rattle.std.specs.Prelude.{◌≡◌, ◌∷◌, ◌<◌, ◌≤◌, length, decimal};
+ghost use Rattle.puts.specs.Digits.{glyph};
 ghost use Rattle.puts.specs.Puts.{Puts};
 
 use std::alloc::AllocError;
@@ -21,4 +22,14 @@ pub fn put_spaced(text: &mut Vec<u8>, number: u64) -> Result<(), AllocError>
 {
     text.push(b' ')?;
     put_number(text, number)
+}
+
+/// A hexadecimal digit in ASCII; `ten` is the letter for ten, `A` or `a`.
+#[tactic(auto, unfolding(crate::specs::Digits::glyph))]
+pub fn hex_digit(d: u8, ten: u8) -> u8
+    requires digit { d < 16 }
+    requires letter { ten ≤ 0x61 }
+    ensures { result ≡ glyph d ten }
+{
+    if d < 10 { b'0' + d } else { ten + (d - 10) }
 }

@@ -1,5 +1,5 @@
 -- A list of cases, as src/main.rt describes it, and what it means that the case at a place agrees. A place is a byte's offset in the list.
-use Rattle.std.specs.Prelude.{ℕ, ◌+◌, ◌-◌, ◌≤◌, ◌≡◌, cond, List, ◌++◌, eqb, length, take, drop}
+use Rattle.std.specs.Prelude.{ℕ, ◌+◌, ◌-◌, ◌≤◌, ◌≡◌, if◌then◌else◌, List, ◌++◌, ◌==◌, length, take, drop}
 use Rattle.words.specs.Words.{fourAt}
 use Rattle.entry.specs.paper.Host.{Seen, seen}
 use Rattle.entry.specs.computed.Host.{hostOf}
@@ -28,7 +28,7 @@ roomAt list at = fourAt list (at + 4)
 
 -- how many record bytes it lists: where its number is 0, the fourth number of its block
 unfoldable pub listedBytes : List ℕ → ℕ → ℕ
-listedBytes list at = cond (eqb (fourAt list (at + 8)) 0) (fourAt list (at + 20)) 0
+listedBytes list at = if fourAt list (at + 8) == 0 then fourAt list (at + 20) else 0
 
 -- the records, and where the case ends
 unfoldable pub recordsAt : List ℕ → ℕ → List ℕ

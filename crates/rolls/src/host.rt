@@ -11,7 +11,7 @@ use crate::record::{RollCursor, Yielded, read_token};
 use crate::refusal::Refused;
 use crate::roll::read_roll;
 use token::kinds::bit_of;
-use words::write::{put_block, put_numbers, put8};
+use words::write::{put_block, put_numbers, put_refused, put8};
 
 // 20 is told where it is met, with no block: in an enum it would be taken apart again at once.
 
@@ -29,11 +29,7 @@ pub fn answer_roll(roll: &[u8], answer: &mut [u8]) -> u32
             put_block(answer, 0, 0, count, roll.len());
             0
         }
-        Err(refused) => {
-            let number = refused.what.number();
-            put_block(answer, number as usize, refused.place, 0, 0);
-            number
-        }
+        Err(refused) => put_refused(answer, refused.what.number(), refused.place),
     }
 }
 

@@ -33,6 +33,8 @@ impl Refusal {
     }
 }
 
+// Of each crate its own: one over any refusal would take the refusal's type as a parameter, for two fields and `at`.
+
 /// A refusal, and the offset in the roll where it is met.
 #[derive(Clone, Copy, Debug, PartialEq, Eq)]
 pub struct Refused {

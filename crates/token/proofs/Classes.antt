@@ -1,16 +1,12 @@
 -- Quoted characters and the classes of `chars`: which of them are in none, from what `chars` promises.
-use Prim.Native.Nat.{ℕ, ◌<◌}
+use Rattle.std.proofs.Common.{ℕ, ◌<◌, ◌≡◌, refl, sym, ◌∙◌, ap, true, false, not, ◌&&◌, ◌||◌, arith, ltb, lt-ltb, ltb-true}
 use Prim.Native.String.{String}
-use mathlib.Core.Path.{◌≡◌, refl, sym, ◌∙◌, ap}
-use mathlib.Core.Bool.{Bool, true, false, not, ◌&&◌, ◌||◌}
-use native.Mathlib.Omega.{arith}
-use lib.Dec.{ltb}
-use borrow.Author.Tests.{lt-ltb, ltb-true}
 use Rattle.chars.specs.paper.Quoted.{codes, oneOf}
 use Rattle.chars.specs.paper.Classes.{isIdStart, isIdChar, opSigns, isOpSign}
 use Rattle.chars.specs.promises.Codes.{every}
 use Rattle.chars.specs.promises.Classes.{lowStart, lowId}
 use Rattle.chars.proofs.Bools.{and-both}
+use Rattle.token.proofs.Base.{by-test}
 use Rattle.chars.proofs.theorems.Promises.{code_laws, class-laws}
 open code_laws use {carry, carry-not, every-sub}
 open class-laws use {sign-is, sign-no-start, byte-start, byte-id}
@@ -65,13 +61,11 @@ abbrev pub others : String
 others = " \t\n\r()[]{},;.`\"'0123456789!#%&*+-/:<=>?@\\^|~⇒"
 
 other-no-start : (c : ℕ) → oneOf others c ≡ true → not (isIdStart c) ≡ true
-other-no-start c e = go (oneOf opSigns c) refl (carry (λ x. oneOf opSigns x || (ltb x 0x80 && not (lowStart x))) (codes others) c refl e)
-  where
-    go : (b : Bool) → oneOf opSigns c ≡ b → b || (ltb c 0x80 && not (lowStart c)) ≡ true → not (isIdStart c) ≡ true
-    go true q h = ap not (sign-no-start c (sign-is c ∙ q))
-    go false q h =
-        let k = and-both (ltb c 0x80) (not (lowStart c)) h in
-        ap not (low-start c (ltb-true c 0x80 k.0)) ∙ k.1
+other-no-start c e =
+    by-test (oneOf opSigns c) (λ q. ap not (sign-no-start c (sign-is c ∙ q))) (λ q.
+    let h = carry (λ x. oneOf opSigns x || (ltb x 0x80 && not (lowStart x))) (codes others) c refl e in
+    let k = and-both (ltb c 0x80) (not (lowStart c)) (rw q at h) in
+    ap not (low-start c (ltb-true c 0x80 k.0)) ∙ k.1)
 
 -- none of the quoted characters is an id start, where each of them is quoted in `others`
 pub start-not : (t : String) → every (oneOf others) (codes t) ≡ true → every (λ x. not (isIdStart x)) (codes t) ≡ true

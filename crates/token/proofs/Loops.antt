@@ -1,8 +1,6 @@
 -- Loops that go on while a test holds.
-use Prim.Native.Nat.{ℕ, zero, suc, ◌≤◌, ◌<◌}
-use mathlib.Core.Path.{◌≡◌, refl, sym, ◌∙◌}
-use mathlib.Core.Bool.{Bool, true, false, cond}
-use native.Mathlib.Omega.{arith}
+use Rattle.std.proofs.Common.{ℕ, zero, suc, ◌≤◌, ◌<◌, ◌≡◌, refl, sym, ◌∙◌, Bool, true, false, arith}
+use Rattle.token.proofs.Base.{by-test}
 use Rattle.token.specs.code.Loops.{stepsWhile}
 
 -- x has been reached: from it the steps that are left give the same end, and there are enough of them for what is left to pass
@@ -36,8 +34,5 @@ module _ {A : Type 0} (test : A → Bool) (step : A → A) where
   pub steps-keep : (P : A → Type 0) → ((x : A) → test x ≡ true → P x → P (step x)) → (m : ℕ) (x : A) → P x → P (stepsWhile test step m x)
   unfolding stepsWhile
   steps-keep P keeps zero x p = p
-  steps-keep P keeps (suc m) x p = go (test x) refl (steps-keep P keeps m (step x))
-    where
-      go : (b : Bool) → test x ≡ b → (P (step x) → P (stepsWhile test step m (step x))) → P (cond b (stepsWhile test step m (step x)) x)
-      go true e below = below (keeps x e p)
-      go false e below = p
+  steps-keep P keeps (suc m) x p =
+      by-test (test x) (λ e. rw e (steps-keep P keeps m (step x) (keeps x e p))) (λ e. rw e p)

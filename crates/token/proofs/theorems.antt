@@ -1,3 +1,4 @@
+pub mod Words
 pub mod Runs
 pub mod Gaps
 pub mod Numbers
@@ -8,6 +9,7 @@ pub mod Strings
 pub mod Contents
 pub mod Prefixed
 pub mod Ticks
+pub mod Families
 pub mod Heads
 pub mod Dispatch
 pub mod Complete

@@ -9,7 +9,6 @@ pub mod String
 pub mod Keyword
 pub mod Ident
 pub mod Charsym
-pub mod Lexer
 pub mod Form
 pub mod Ascii
 pub mod ByteClass

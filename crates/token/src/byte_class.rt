@@ -6,21 +6,21 @@
 //     38         CR                                                   130  past ASCII
 //     40         `'`                                                  142  `/`
 //     42         a backtick                                           160  another operator sign; 161 a backslash
-//     45         LF
+//     45         LF                                                   162  `:`, `=`, `#` or `@`: the first sign of an operator that is a keyword
 //
 // Odd are the four that do not stand for themselves in every string. The bit of weight 64 is set for what goes on with a word. From 128 on is what
 // may make more of a word or a run that it follows directly.
 ghost use Rattle.std.specs.Prelude.{◌≡◌, ◌+◌, ◌*◌};
 ghost use Rattle.token.specs.paper.Records.{headLength};
-ghost use Rattle.token.specs.code.ByteClass.{classOf, classAt, upToBlank, startsWord, inWord, asksMore, isSign, inRun, isOrdinary, inLineEnd};
+ghost use Rattle.token.specs.code.ByteClass.{classOf, classAt, upToBlank, startsWord, inWord, asksMore, inOperator, isSign, inRun, isOrdinary, inLineEnd};
 
 use crate::cursor::byte_at;
 use crate::kinds::TokenKind;
 
 static CLASSES: [u8; 256] = [
     36, 36, 36, 36, 36, 36, 36, 36, 36, 34, 45, 36, 36, 38, 36, 36, 36, 36, 36, 36, 36, 36, 36, 36,
-    36, 36, 36, 36, 36, 36, 36, 36, 34, 160, 129, 160, 81, 160, 160, 40, 16, 18, 160, 160, 28, 160,
-    32, 142, 64, 64, 64, 64, 64, 64, 64, 64, 64, 64, 160, 30, 160, 160, 160, 160, 160, 80, 80, 80,
+    36, 36, 36, 36, 36, 36, 36, 36, 34, 160, 129, 162, 81, 160, 160, 40, 16, 18, 160, 160, 28, 160,
+    32, 142, 64, 64, 64, 64, 64, 64, 64, 64, 64, 64, 162, 30, 160, 162, 160, 160, 162, 80, 80, 80,
     80, 80, 80, 80, 80, 80, 80, 80, 80, 80, 80, 80, 80, 80, 80, 80, 80, 80, 80, 80, 80, 80, 80, 20,
     161, 22, 160, 80, 42, 80, 80, 82, 80, 82, 82, 80, 80, 82, 80, 80, 80, 82, 80, 80, 80, 80, 82,
     80, 82, 80, 80, 80, 80, 80, 80, 24, 160, 26, 160, 36, 130, 130, 130, 130, 130, 130, 130, 130,
@@ -52,6 +52,10 @@ impl Class {
 
     pub const DIGIT: Class = Class { number: 64 };
 
+    pub const START: Class = Class { number: 80 };
+
+    pub const DOLLAR: Class = Class { number: 81 };
+
     pub const KEYWORD: Class = Class { number: 82 };
 
     pub const QUOTE: Class = Class { number: 129 };
@@ -61,6 +65,10 @@ impl Class {
     pub const SLASH: Class = Class { number: 142 };
 
     pub const SIGN: Class = Class { number: 160 };
+
+    pub const BACKSLASH: Class = Class { number: 161 };
+
+    pub const SIGN_KEYWORD: Class = Class { number: 162 };
 
     /// The class of a byte.
     pub fn of(b: u8) -> Class
@@ -104,6 +112,13 @@ impl Class {
         ensures { result ≡ asksMore self.number }
     {
         128 <= self.number
+    }
+
+    /// Past ASCII or an operator sign: may it make more of the run that it follows directly?
+    pub fn in_operator(self) -> bool
+        ensures { result ≡ inOperator self.number }
+    {
+        Class::WIDE.number <= self.number
     }
 
     /// An ASCII operator sign?

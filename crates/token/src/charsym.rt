@@ -1,28 +1,30 @@
 // Characters and symbols. RULES, "Character" and "Symbol".
-ghost use Rattle.std.specs.Prelude.{◌≡◌, true, not, ◌&&◌, ◌≤◌, eqb, length, get_or};
+ghost use Rattle.std.specs.Prelude.{◌≡◌, ◌≢◌, IsTrue, IsFalse, not, ◌&&◌, ◌≤◌, ◌<◌, ◌==◌, length, slice_index};
 ghost use Rattle.chars.specs.paper.Classes.{isPrintable};
 ghost use Rattle.chars.specs.paper.Quoted.{between};
 ghost use Rattle.chars.specs.paper.Text.{from};
 ghost use Rattle.token.specs.paper.Tests.{apostrophe, opSign};
-ghost use Rattle.token.specs.computed.Answer.{tickNext, scanCharSym};
-ghost use Rattle.token.specs.code.ByteClass.{upToBlank, startsWord};
+ghost use Rattle.token.specs.computed.Answer.{afterIdent, tickNext, scanCharSym};
+ghost use Rattle.token.specs.code.ByteClass.{upToBlank, startsWord, inWord};
+ghost use Rattle.token.specs.code.Names.{hereOf, lowBefore};
 ghost use Rattle.token.specs.code.Piece.{pieceOf};
 ghost use Rattle.token.specs.code.Charsym.{escapedChar, plainOf, endOf, runSymbolEnd};
 
 use crate::byte_class::Class;
 use crate::cursor::{Cursor, byte_at};
-use crate::ident::{consume_op_run, opens_comment, skip_id_rest};
+use crate::ident::{consume_id_rest, consume_op_run, name_end, opens_comment};
 use crate::kinds::TokenKind;
-use crate::names::{run_end, word_end};
+use crate::names::{Here, run_end, word_end};
 use crate::piece::Piece;
 use crate::refusal::Refusal;
 use crate::string::consume_escape;
+use chars::classes::is_arrow_at;
 
 /// A character or a symbol, from its `'` on.
 #[inline(always)]
 pub fn lex_char_sym(s: &[u8], c: Cursor) -> Piece
     requires within { c.at ≤ length s.now }
-    requires opens { apostrophe (from s.now c.at) ≡ true }
+    requires opens { IsTrue (apostrophe (from s.now c.at)) }
     ensures { result ≡ pieceOf (length s.now) (scanCharSym (from s.now c.at)) }
 {
     let name = Cursor { at: c.at + 1 };
@@ -69,7 +71,7 @@ fn is_plain(b: u8) -> bool
 
 // Does the byte `b` stand for itself, with a `'` behind it?
 fn is_char(s: &[u8], next: Cursor, b: u8) -> bool
-    ensures { result ≡ eqb (get_or s.now next.at 0) 0x27 && between 0x20 0x7E b }
+    ensures { result ≡ slice_index s.now next.at == 0x27 && between 0x20 0x7E b }
 {
     byte_at(s, next.at) == b'\'' && is_plain(b)
 }
@@ -79,8 +81,8 @@ fn is_char(s: &[u8], next: Cursor, b: u8) -> bool
 #[inline(always)]
 fn plain_end(s: &[u8], c: Cursor, b: u8) -> Option<Cursor>
     requires within { c.at ≤ length s.now }
-    requires byte { b ≡ get_or s.now c.at 0 }
-    requires no_escape { b ≡ 0x5C → ⊥ }
+    requires byte { b ≡ slice_index s.now c.at }
+    requires no_escape { b ≢ 0x5C }
     ensures { result ≡ endOf (length s.now) (plainOf (from s.now c.at)) }
 {
     let next = Cursor { at: c.at + 1 };
@@ -90,17 +92,37 @@ fn plain_end(s: &[u8], c: Cursor, b: u8) -> Option<Cursor>
     let class = Class::of(b);
     if begins_word(class) {
         let end = word_end(s, next.at);
-        if !end.class.asks_more() {
-            return Some(Cursor { at: end.at });
+        if end.class.asks_more() {
+            return Some(more_name(s, c.at, end));
         }
+        return Some(Cursor { at: end.at });
     }
     if class.in_run() {
         let end = run_end(s, next.at);
-        if !end.class.asks_more() {
+        if !end.class.in_operator() {
             return Some(Cursor { at: end.at });
         }
     }
+    if class.is_op() {
+        return run_symbol_end(s, c);
+    }
+    if b == b';' && !Class::at(s, next.at).asks_more() {
+        return Some(next);
+    }
     full_end(s, c)
+}
+
+// Where the identifier from `start` on ends, whose ASCII id characters and underscores end at `end`.
+#[inline(never)] // as `full_end` and `run_symbol_end`: what is rare takes no registers of the walk's then
+fn more_name(s: &[u8], start: usize, end: Here) -> Cursor
+    requires some { start < end.at }
+    requires within { end.at ≤ length s.now }
+    requires here { end ≡ hereOf s.now end.at }
+    requires stops { IsFalse (inWord end.class.number) }
+    ensures within { result.at ≤ length s.now }
+    ensures rest { from s.now result.at ≡ afterIdent (lowBefore s.now start end.at) (from s.now end.at) }
+{
+    name_end(s, start, end)
 }
 
 // An id start of ASCII?
@@ -114,13 +136,10 @@ fn begins_word(class: Class) -> bool
 #[inline(never)]
 fn full_end(s: &[u8], c: Cursor) -> Option<Cursor>
     requires within { c.at ≤ length s.now }
-    requires no_escape { get_or s.now c.at 0 ≡ 0x5C → ⊥ }
+    requires no_escape { slice_index s.now c.at ≢ 0x5C }
     ensures { result ≡ endOf (length s.now) (plainOf (from s.now c.at)) }
 {
-    let here = c.peek(s);
-    let Some((code, next)) = here else {
-        return None;
-    };
+    let (code, next) = c.peek(s)?;
     if closes_char(s, code, next) {
         return Some(Cursor { at: next.at + 1 });
     }
@@ -128,7 +147,7 @@ fn full_end(s: &[u8], c: Cursor) -> Option<Cursor>
         return run_symbol_end(s, c);
     }
     if chars::classes::is_id_start(code) {
-        return Some(skip_id_rest(s, next));
+        return Some(consume_id_rest(s, next, false));
     }
     if is_semi(s, code, next) {
         return Some(next);
@@ -138,12 +157,13 @@ fn full_end(s: &[u8], c: Cursor) -> Option<Cursor>
 
 // Is the character printable, and a `'` next?
 fn closes_char(s: &[u8], code: u32, next: Cursor) -> bool
-    ensures { result ≡ isPrintable code && eqb (get_or s.now next.at 0) 0x27 }
+    ensures { result ≡ isPrintable code && slice_index s.now next.at == 0x27 }
 {
     byte_at(s, next.at) == b'\'' && chars::classes::is_printable_char(code)
 }
 
 // Where the run of operator signs ends that stands there; None, where a comment begins.
+#[inline(never)]
 fn run_symbol_end(s: &[u8], c: Cursor) -> Option<Cursor>
     requires { c.at ≤ length s.now }
     ensures { result ≡ runSymbolEnd (length s.now) (from s.now c.at) }
@@ -156,18 +176,14 @@ fn run_symbol_end(s: &[u8], c: Cursor) -> Option<Cursor>
 
 // Is the character a `;` that no operator sign follows?
 fn is_semi(s: &[u8], code: u32, next: Cursor) -> bool
-    ensures { result ≡ eqb code 0x3B && not (opSign (from s.now next.at)) }
+    ensures { result ≡ code == 0x3B && not (opSign (from s.now next.at)) }
 {
     code == 0x3B && !sign_at(s, next)
 }
 
-// Does an operator sign stand there? One of them is past ASCII, so a byte does not tell. With `is_some_and` the contract stays unproved.
+// Does an operator sign stand there? One of them is past ASCII, so a byte does not tell.
 fn sign_at(s: &[u8], c: Cursor) -> bool
     ensures { result ≡ opSign (from s.now c.at) }
 {
-    let here = c.peek(s);
-    let Some((code, _)) = here else {
-        return false;
-    };
-    chars::classes::is_op_char(code)
+    Class::at(s, c.at).is_op() || is_arrow_at(s, c.at)
 }

@@ -1,5 +1,5 @@
 // A place in a script, and what stands there.
-ghost use Rattle.std.specs.Prelude.{◌≡◌, ◌+◌, ◌≤◌, ◌&&◌, eqb, length, drop, get_or};
+ghost use Rattle.std.specs.Prelude.{◌≡◌, ◌+◌, ◌≤◌, ◌&&◌, ◌==◌, length, drop, slice_index};
 ghost use Rattle.chars.specs.paper.Quoted.{oneOf};
 ghost use Rattle.chars.specs.paper.Text.{from};
 ghost use Rattle.chars.specs.computed.Runs.{afterRun};
@@ -8,15 +8,17 @@ ghost use Rattle.token.specs.code.Cursor.{peekAt};
 
 use chars::runs::{OneOf, run_end};
 
-/// A byte offset in a script, which goes in by value and comes back advanced.
+/// A byte offset in a script, which goes in by value and comes back advanced. One word, for a register: it does not bring the script along, so each
+/// reader asks that it lies within.
 #[derive(Clone, Copy, Debug, PartialEq, Eq)]
 pub struct Cursor {
     pub at: usize,
 }
 
-/// The byte at a place; past the end 0, which belongs to no class that is tested on bytes.
+/// The byte at a place; past the end 0, which belongs to no class that is tested on bytes. That of `words` is for stored numbers alone, and told by
+/// its word for a byte.
 pub fn byte_at(s: &[u8], at: usize) -> u8
-    ensures { result ≡ get_or s.now at 0 }
+    ensures { result ≡ slice_index s.now at }
 {
     if at < s.len() {
         return s[at];
@@ -27,7 +29,7 @@ pub fn byte_at(s: &[u8], at: usize) -> u8
 /// Do these two bytes stand at a place?
 pub fn two_at(s: &[u8], at: usize, a: u8, b: u8) -> bool
     requires { at ≤ length s.now }
-    ensures { result ≡ eqb (get_or s.now at 0) a && eqb (get_or s.now (at + 1) 0) b }
+    ensures { result ≡ slice_index s.now at == a && slice_index s.now (at + 1) == b }
 {
     byte_at(s, at) == a && byte_at(s, at + 1) == b
 }
@@ -42,6 +44,7 @@ impl Cursor {
 
     /// The character at the cursor with the cursor after it; nothing at the end of script.
     #[tactic(auto, using(crate::proofs::cursor::Laws::peek_step, crate::proofs::cursor::Laws::step_within))]
+    #[inline(always)]
     pub fn peek(self, s: &[u8]) -> Option<(u32, Cursor)>
         ensures { result ≡ peekAt s.now self.at }
     {
@@ -55,7 +58,7 @@ impl Cursor {
     }
 
     /// Past one character, if one stands there.
-    #[tactic(auto, using(crate::proofs::cursor::Laws::step_within))]
+    #[tactic(auto, using(crate::proofs::cursor::Laws::step_within, crate::proofs::cursor::Laws::step_past))]
     pub fn step(self, s: &[u8]) -> Cursor
         requires { self.at ≤ length s.now }
         ensures within { result.at ≤ length s.now }
@@ -73,7 +76,9 @@ impl Cursor {
     #[tactic(auto, using(crate::proofs::cursor::Blanks::blanks))]
     pub fn skip_blanks(self, s: &[u8]) -> Cursor
         requires { self.at ≤ length s.now }
-        ensures { (result.at ≤ length s.now) × (self.at ≤ result.at) × (from s.now result.at ≡ afterRun (isAny " \t") (from s.now self.at)) }
+        ensures within { result.at ≤ length s.now }
+        ensures onward { self.at ≤ result.at }
+        ensures rest { from s.now result.at ≡ afterRun (isAny " \t") (from s.now self.at) }
     {
         let at = self.at;
         if !is_blank(byte_at(s, at)) {
@@ -89,7 +94,9 @@ impl Cursor {
 /// The same from a place on.
 pub fn skip_more(s: &[u8], at: usize) -> Cursor
     requires { at ≤ length s.now }
-    ensures { (result.at ≤ length s.now) × (at ≤ result.at) × (from s.now result.at ≡ afterRun (isAny " \t") (from s.now at)) }
+    ensures within { result.at ≤ length s.now }
+    ensures onward { at ≤ result.at }
+    ensures rest { from s.now result.at ≡ afterRun (isAny " \t") (from s.now at) }
 {
     Cursor {
         at: run_end::<OneOf<b' ', b'\t'>>(s, at),

@@ -1,5 +1,5 @@
 // Digits: one walk over a run and one value, for numbers and escapes alike. RULES, "Number" and "Escape".
-ghost use Rattle.std.specs.Prelude.{◌≡◌, true, ℕ, ◌*◌, ◌^◌, ◌≤◌, ◌<◌, length, get_or};
+ghost use Rattle.std.specs.Prelude.{◌≡◌, ◌≢◌, IsTrue, ℕ, ◌*◌, ◌^◌, ◌≤◌, ◌<◌, length, slice_index};
 ghost use Rattle.chars.specs.paper.Text.{Text, from};
 ghost use Rattle.token.specs.paper.Tests.{isDigit, digitValue, hexAhead};
 ghost use Rattle.token.specs.computed.Answer.{numeral, readDigits, numberOf, scanNumber};
@@ -10,6 +10,7 @@ use crate::cursor::{Cursor, byte_at};
 use crate::kinds::TokenKind;
 use crate::piece::Piece;
 use crate::refusal::Refusal;
+use chars::runs::{OneOf, run_end};
 
 /// The limits of numbers.
 pub struct Value;
@@ -48,6 +49,7 @@ pub fn digit_of(b: u8) -> u64
 
 // Past the digits of this base that stand there, at most so many.
 #[inline(always)]
+#[tactic(auto, using(crate::proofs::digits::Laws::digits_up))]
 pub fn consume_digits(s: &[u8], c: Cursor, base: u64, most: usize) -> Cursor
     requires { c.at ≤ length s.now }
     ensures within { result.at ≤ length s.now }
@@ -55,14 +57,12 @@ pub fn consume_digits(s: &[u8], c: Cursor, base: u64, most: usize) -> Cursor
     ensures rest { from s.now result.at ≡ afterUpTo (digitIn base) most (from s.now c.at) }
 {
     let mut i = c.at;
-    let mut left = most;
-    // The place goes up, and how many may follow goes down, so that `at + most` is never formed.
-    while 0 < left {
+    // The count goes beside the place: `c.at + most` might not fit.
+    for _ in 0..most {
         if !is_digit(byte_at(s, i), base) {
             return Cursor { at: i };
         }
         i += 1;
-        left -= 1;
     }
     Cursor { at: i }
 }
@@ -94,14 +94,14 @@ fn digit_run<const BASE: u64, const MOST: usize>(s: &[u8], at: usize) -> DigitRu
     requires within { at ≤ length s.now }
     requires untested { Untested BASE MOST }
     ensures within { result.end ≤ length s.now }
-    ensures next { result.next ≡ get_or s.now result.end 0 }
+    ensures next { result.next ≡ slice_index s.now result.end }
     ensures value { readDigits (digitIn BASE) BASE result.value (from s.now result.end) ≡ readDigits (digitIn BASE) BASE 0 (from s.now at) }
-    ensures lead { digitIn BASE result.next ≡ true → (get_or s.now at 0 ≡ 0x30 → ⊥) → BASE ^ MOST ≤ result.value * BASE }
+    ensures lead { IsTrue (digitIn BASE result.next) → slice_index s.now at ≢ 0x30 → BASE ^ MOST ≤ result.value * BASE }
 {
     let stop = s.len().min(at + MOST);
     let mut v: u64 = 0;
     let mut i = at;
-    // One walk gives the end, the value and the byte behind: an iterator's contract does not say where it stopped.
+    // One walk gives the end, the value and the byte behind. A `for` over the places was tried: hex numbers take three hundredths more.
     while i < stop {
         let b = s[i];
         let d = digit_of(b);
@@ -126,15 +126,10 @@ fn digit_run<const BASE: u64, const MOST: usize>(s: &[u8], at: usize) -> DigitRu
 fn skip_zeros(s: &[u8], at: usize) -> usize
     requires { at ≤ length s.now }
     ensures within { result ≤ length s.now }
-    ensures past { get_or s.now result 0 ≡ 0x30 → ⊥ }
+    ensures past { slice_index s.now result ≢ 0x30 }
     ensures value { (base : ℕ) → readDigits (digitIn base) base 0 (from s.now result) ≡ readDigits (digitIn base) base 0 (from s.now at) }
 {
-    let mut i = at;
-    // Byte by byte: few numbers begin with more than one.
-    while byte_at(s, i) == b'0' {
-        i += 1;
-    }
-    i
+    run_end::<OneOf<b'0', b'0'>>(s, at)
 }
 
 // The same where more digits stand there than are read at once: zeros lead them, or their value is above every most.
@@ -143,7 +138,7 @@ fn long_run<const BASE: u64, const MOST: usize>(s: &[u8], at: usize) -> DigitRun
     requires within { at ≤ length s.now }
     requires untested { Untested BASE MOST }
     ensures within { result.end ≤ length s.now }
-    ensures next { result.next ≡ get_or s.now result.end 0 }
+    ensures next { result.next ≡ slice_index s.now result.end }
     ensures same { (t : Text) → numberOf t (numeral result.value (from s.now result.end)) ≡ numberOf t (readDigits (digitIn BASE) BASE 0 (from s.now at)) }
 {
     let run = digit_run::<BASE, MOST>(s, skip_zeros(s, at));
@@ -156,7 +151,7 @@ fn long_run<const BASE: u64, const MOST: usize>(s: &[u8], at: usize) -> DigitRun
     run
 }
 
-// An IntLit, unless it is too large.
+// An IntLit, unless it is too large. With its limit and its variant as parameters, one function for both would be as long.
 #[tactic(auto, unfolding(crate::specs::code::Digits::intOr))]
 #[inline(always)]
 fn int_literal(start: usize, v: u64, end: Cursor) -> Piece
@@ -182,6 +177,7 @@ fn long_literal(start: usize, v: u64, end: Cursor) -> Piece
 
 // The number that begins at `start` and has these digits: `L` or `l` behind them makes it a LongLit.
 #[inline(always)]
+#[tactic(auto, unfolding(crate::specs::code::Digits::numberBy))]
 fn number_of(start: usize, run: DigitRun) -> Piece
     requires { run.end < 18446744073709551615 }
     ensures { result ≡ numberBy start run }
@@ -220,6 +216,7 @@ fn number_in<const BASE: u64, const MOST: usize>(s: &[u8], start: usize, at: usi
 
 /// The number that stands there.
 #[inline(always)]
+#[tactic(auto, using(crate::proofs::digits::Laws::scanned))]
 pub fn lex_number(s: &[u8], c: Cursor) -> Piece
     requires { c.at ≤ length s.now }
     ensures { result ≡ pieceOf (length s.now) (scanNumber (from s.now c.at)) }
@@ -231,10 +228,11 @@ pub fn lex_number(s: &[u8], c: Cursor) -> Piece
 }
 
 /// The value of the digit that stands there.
+#[tactic(auto, unfolding(crate::specs::paper::Tests::isDigit))]
 pub fn digit_value(s: &[u8], at: usize) -> u64
     requires within { at < length s.now }
-    requires digit { isDigit (get_or s.now at 0) ≡ true }
-    ensures { result ≡ digitValue (get_or s.now at 0) }
+    requires digit { IsTrue (isDigit (slice_index s.now at)) }
+    ensures { result ≡ digitValue (slice_index s.now at) }
 {
     s[at] as u64 % 16
 }

@@ -18,7 +18,8 @@ pub fn head_of(length: u16, number: u16) -> u32
     length as u32 + 65536 * (number as u32)
 }
 
-// Length and kind, start, end and cut. This and the three that follow are compiled into each caller, where most of a form is known.
+// Length and kind, start, end and cut. This and the three that follow are compiled into each caller, where most of a form is known. Where it is stored
+// and the token's places and cut go together in these four alone, and no fact is about all of them: a struct would be made for one call.
 #[inline(always)]
 #[tactic(auto, using(crate::proofs::form::Stores::put_head))]
 fn put_head(out: &mut [u8], w: usize, head: u32, start: usize, end: usize, cut: bool)

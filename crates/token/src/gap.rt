@@ -1,5 +1,5 @@
 // Comments. RULES, "Pieces".
-ghost use Rattle.std.specs.Prelude.{◌≡◌, true, not, ◌+◌, ◌*◌, ◌≤◌, length, drop, get_or};
+ghost use Rattle.std.specs.Prelude.{◌≡◌, IsTrue, not, ◌+◌, ◌*◌, ◌≤◌, length, drop, slice_index};
 ghost use Rattle.chars.specs.paper.Text.{from};
 ghost use Rattle.chars.specs.computed.Runs.{afterRun};
 ghost use Rattle.token.specs.paper.Tests.{endOfLine, endsLine, opensLine, opensBlock};
@@ -17,21 +17,15 @@ fn line_ends_at(s: &[u8], at: usize) -> bool
     ensures { result ≡ endsLine (from s.now at) }
 {
     let b = byte_at(s, at);
-    if b'\r' < b {
-        return false;
-    }
-    if b == b'\n' {
-        return true;
-    }
-    two_at(s, at, b'\r', b'\n')
+    b <= b'\r' && (b == b'\n' || two_at(s, at, b'\r', b'\n'))
 }
 
-// Two bytes as one number, so that both are compared at once: `/*` is 0x2A2F.
-fn pair_at(s: &[u8], at: usize) -> u32
+// Two bytes as one number, so that both are compared at once: `/*` is 0x2A2F. That of `keyword` is told as stored numbers are, this one by its bytes.
+fn pair_at(s: &[u8], at: usize) -> u16
     requires { at + 2 ≤ length s.now }
-    ensures { result ≡ get_or s.now at 0 + 256 * get_or s.now (at + 1) 0 }
+    ensures { result ≡ slice_index s.now at + 256 * slice_index s.now (at + 1) }
 {
-    s[at] as u32 + 256 * (s[at + 1] as u32)
+    u16::from_le_bytes([s[at], s[at + 1]])
 }
 
 /// A place inside nested comments, and how many are open there besides the outermost.
@@ -46,23 +40,22 @@ pub struct Nest {
 fn four_open(s: &[u8], at: usize) -> bool
     ensures { result ≡ fourOpen s.now at }
 {
-    if s.len() < 8 {
-        return false;
-    }
-    if s.len() - 8 < at {
-        return false;
-    }
-    if pair_at(s, at) != 0x2A2F {
-        return false;
-    }
-    (pair_at(s, at + 2) == 0x2A2F) & (pair_at(s, at + 4) == 0x2A2F) & (pair_at(s, at + 6) == 0x2A2F)
+    8 <= s.len()
+        && at <= s.len() - 8
+        && pair_at(s, at) == 0x2A2F
+        && pair_at(s, at + 2) == 0x2A2F
+        && pair_at(s, at + 4) == 0x2A2F
+        && pair_at(s, at + 6) == 0x2A2F
 }
 
 // Past the `/*` that stand there, four at a time.
 #[tactic(auto, using(crate::proofs::gap::Laws::open_turns))]
 fn pass_openings(s: &[u8], at: usize) -> Nest
     requires { at ≤ length s.now }
-    ensures { result ≡ openings s.now at }
+    ensures value { result ≡ openings s.now at }
+    ensures within { result.at ≤ length s.now }
+    ensures depth_in { result.depth ≤ result.at }
+    ensures same { close result.depth 0 (from s.now result.at) ≡ close 0 0 (from s.now at) }
 {
     let mut i = at;
     let mut depth: usize = 0;
@@ -125,11 +118,14 @@ impl Cursor {
     /// Past the line comment that begins there, up to the line end or the end of script. What is above both line-end bytes goes first.
     #[tactic(auto, using(crate::proofs::gap::Laws::line_runs))]
     pub fn consume_line_comment(self, s: &[u8]) -> Cursor
-        requires { (self.at ≤ length s.now) × (opensLine (from s.now self.at) ≡ true) }
-        ensures { (result.at ≤ length s.now) × (from s.now result.at ≡ afterRun (λ t. not (endOfLine t)) (drop 2 (from s.now self.at))) }
+        requires within { self.at ≤ length s.now }
+        requires opens { IsTrue (opensLine (from s.now self.at)) }
+        ensures within { result.at ≤ length s.now }
+        ensures rest { from s.now result.at ≡ afterRun (λ t. not (endOfLine t)) (drop 2 (from s.now self.at)) }
     {
         let mut i = run_end::<InRange<0x0E, 0xFF>>(s, self.at + 2);
-        // Byte by byte from the first byte below 0x0E on: in most comments the line end stands there.
+        // Byte by byte from the first byte below 0x0E on: in most comments the line end stands there. A CR is one with the byte behind it only, and an
+        // iterator gives one byte.
         while i < s.len() && !line_ends_at(s, i) {
             i += 1;
         }
@@ -141,7 +137,7 @@ impl Cursor {
     #[inline(never)] // its loop has registers of its own then
     pub fn consume_block_comment(self, s: &[u8]) -> Option<Cursor>
         requires within { self.at ≤ length s.now }
-        requires opens { opensBlock (from s.now self.at) ≡ true }
+        requires opens { IsTrue (opensBlock (from s.now self.at)) }
         ensures { result ≡ closedOf (length s.now) (close 0 0 (drop 2 (from s.now self.at))) }
     {
         let nest = first_mark(s, self.at + 2);

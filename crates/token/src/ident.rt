@@ -1,70 +1,70 @@
 // Identifiers, operators and backticks. RULES, "Identifier", "Operator" and "Backtick".
-ghost use Rattle.std.specs.Prelude.{◌≡◌, true, false, ◌≤◌, length, drop};
+ghost use Rattle.std.specs.Prelude.{◌≡◌, IsTrue, IsFalse, ◌≤◌, ◌<◌, length, drop};
 ghost use Rattle.chars.specs.paper.Classes.{isIdStart};
 ghost use Rattle.chars.specs.paper.Text.{from, headIs};
 ghost use Rattle.chars.specs.computed.Runs.{afterRun};
+ghost use Rattle.token.specs.paper.Kinds.{wordOf};
 ghost use Rattle.token.specs.paper.Tests.{isAny, opSign, freeSign, opensComment};
-ghost use Rattle.token.specs.computed.Answer.{afterIdent, orPrefixed, scanIdent, scanOperator, scanBacktick};
-ghost use Rattle.token.specs.code.Ident.{signEnd};
-ghost use Rattle.token.specs.code.Names.{lowBefore};
+ghost use Rattle.token.specs.computed.Answer.{afterIdent, codesTo, orPrefixed, scanIdent, scanOperator};
+ghost use Rattle.token.specs.code.ByteClass.{classAt, inWord};
+ghost use Rattle.token.specs.code.Ident.{asciiSign, signIn, runBefore};
+ghost use Rattle.token.specs.code.Keyword.{keywordOf};
+ghost use Rattle.token.specs.code.Names.{hereOf, lowBefore};
 ghost use Rattle.token.specs.code.Piece.{pieceOf};
 ghost use Rattle.token.specs.code.String.{backtickOf};
+ghost use Rattle.token.specs.code.Walk.{LeftTo};
+ghost use Rattle.token.specs.declared.kinds.TokenKind.TheVariants as tk;
 
 use crate::byte_class::Class;
-use crate::cursor::{Cursor, byte_at, two_at};
+use crate::cursor::{Cursor, byte_at};
 use crate::keyword::{run_number, word_number};
-use crate::kinds::{TokenKind, keyword_of};
+use crate::kinds::{Kw, TokenKind, keyword_of};
+use crate::names::{Here, ends_low, opens_with, word_end};
 use crate::piece::Piece;
 use crate::refusal::{Refusal, Refused};
 use crate::string::lex_prefixed_string;
 use chars::classes::{id_run_end, is_arrow_at};
 use chars::runs::{NoneOf, run_end};
 
-// Where the operator sign ends that stands at a place, if one does. Past ASCII the one sign is U+21D2.
-fn sign_end(s: &[u8], at: usize) -> Option<usize>
+// Does an operator sign of ASCII stand there? FREE: one that opens no comment.
+#[inline(always)]
+#[tactic(auto, using(crate::proofs::ident::Signs::sign_tests))]
+fn is_op_sign<const FREE: bool>(s: &[u8], at: usize) -> bool
     requires { at ≤ length s.now }
-    ensures { result ≡ signEnd s.now at }
+    ensures { result ≡ asciiSign FREE s.now at }
 {
     let class = Class::at(s, at);
-    if class.is_op() {
-        return Some(at + 1);
+    if FREE && class == Class::SLASH {
+        return !opens_with(byte_at(s, at + 1));
     }
-    if class == Class::WIDE && is_arrow_at(s, at) {
-        return Some(at + 3);
-    }
-    None
+    class.is_op()
 }
 
-// Past the operator signs that stand there; `//` stops none.
-fn consume_signs(s: &[u8], c: Cursor) -> Cursor
+// Past the operator signs that stand there. FREE: a comment's opening ends them. Past ASCII the one sign is U+21D2.
+#[inline(never)] // its loops have registers of their own then
+fn consume_signs<const FREE: bool>(s: &[u8], c: Cursor) -> Cursor
     requires { c.at ≤ length s.now }
     ensures within { result.at ≤ length s.now }
-    ensures rest { from s.now result.at ≡ afterRun opSign (from s.now c.at) }
+    ensures rest { from s.now result.at ≡ afterRun (signIn FREE) (from s.now c.at) }
 {
     let mut i = c.at;
-    // A sign past ASCII has three bytes: no iterator takes such steps.
-    while let Some(next) = sign_end(s, i) {
-        i = next;
+    // A step is the one byte of a sign of ASCII, or the three of U+21D2: no iterator takes such steps.
+    loop {
+        while is_op_sign::<FREE>(s, i) {
+            i += 1;
+        }
+        if !is_arrow_at(s, i) {
+            return Cursor { at: i };
+        }
+        i += 3;
     }
-    Cursor { at: i }
 }
 
-/// Past an identifier's rest. Most have no underscore: then one run of id characters is all of it.
-pub fn skip_id_rest(s: &[u8], c: Cursor) -> Cursor
-    requires { c.at ≤ length s.now }
-    ensures within { result.at ≤ length s.now }
-    ensures rest { from s.now result.at ≡ afterIdent false (from s.now c.at) }
-{
-    let end = id_run_end(s, c.at);
-    if byte_at(s, end) == b'_' {
-        return consume_id_rest(s, Cursor { at: end }, false);
-    }
-    Cursor { at: end }
-}
-
-// The same by chunks, each of zero or more underscores and one or more id characters, then signs where underscores are left. `low`: an underscore
-// came last before c. The inner loop ends with a chunk, the outer one where none follows.
-fn consume_id_rest(s: &[u8], c: Cursor, low: bool) -> Cursor
+/// Past an identifier's rest: chunks, each of zero or more underscores and one or more id characters, then signs where underscores are left. `low`: an
+/// underscore came last before c.
+// The inner loop ends with a chunk, the outer one where none follows.
+#[inline(never)]
+pub fn consume_id_rest(s: &[u8], c: Cursor, low: bool) -> Cursor
     requires { c.at ≤ length s.now }
     ensures within { result.at ≤ length s.now }
     ensures rest { from s.now result.at ≡ afterIdent low (from s.now c.at) }
@@ -88,7 +88,7 @@ fn consume_id_rest(s: &[u8], c: Cursor, low: bool) -> Cursor
         }
     }
     if left {
-        return consume_signs(s, Cursor { at: i });
+        return consume_signs::<false>(s, Cursor { at: i });
     }
     Cursor { at: i }
 }
@@ -99,15 +99,7 @@ pub fn consume_op_run(s: &[u8], c: Cursor) -> Cursor
     ensures within { result.at ≤ length s.now }
     ensures rest { from s.now result.at ≡ afterRun freeSign (from s.now c.at) }
 {
-    let mut d = c;
-    // The same steps, which a comment's opening ends too.
-    while let Some(next) = sign_end(s, d.at) {
-        if opens_comment(s, d) {
-            return d;
-        }
-        d = Cursor { at: next };
-    }
-    d
+    consume_signs::<true>(s, c)
 }
 
 /// Does `//` or `/*` stand there?
@@ -116,65 +108,112 @@ pub fn opens_comment(s: &[u8], c: Cursor) -> bool
     requires { c.at ≤ length s.now }
     ensures { result ≡ opensComment (from s.now c.at) }
 {
-    two_at(s, c.at, b'/', b'/') || two_at(s, c.at, b'/', b'*')
+    byte_at(s, c.at) == b'/' && opens_with(byte_at(s, c.at + 1))
 }
 
-// An identifier or a backtick from `start` to c, or the string that it prefixes.
+// An identifier from `start` to c, or the string that it prefixes.
 #[inline(always)]
-fn or_prefixed(s: &[u8], kind: TokenKind, start: usize, c: Cursor) -> Piece
+fn or_prefixed(s: &[u8], start: usize, c: Cursor) -> Piece
     requires order { start ≤ c.at }
     requires within { c.at ≤ length s.now }
-    ensures { result ≡ pieceOf (length s.now) (orPrefixed (length s.now) kind (from s.now start) (from s.now c.at)) }
+    ensures { result ≡ pieceOf (length s.now) (orPrefixed (length s.now) tk.Ident (from s.now start) (from s.now c.at)) }
 {
     if byte_at(s, c.at) == b'"' {
         return lex_prefixed_string(s, start, c);
     }
-    Ok((kind, c))
+    Ok((TokenKind::Ident, c))
 }
 
-/// An identifier, a keyword, or the string that an identifier prefixes. It was read up to `rest`, which is behind its first character or, past id
-/// characters and underscores, further on.
-pub fn lex_ident(s: &[u8], c: Cursor, rest: Cursor) -> Piece
-    requires within { c.at ≤ length s.now }
-    requires starts { headIs isIdStart (from s.now c.at) ≡ true }
-    requires rest_within { rest.at ≤ length s.now }
-    requires rest_same { afterIdent (lowBefore s.now c.at rest.at) (from s.now rest.at)
-        ≡ afterIdent false (drop 1 (from s.now c.at)) }
+/// Where the identifier from `start` on ends, whose ASCII id characters and underscores end at `end`. Most end there.
+#[inline(always)]
+pub fn name_end(s: &[u8], start: usize, end: Here) -> Cursor
+    requires some { start < end.at }
+    requires within { end.at ≤ length s.now }
+    requires here { end ≡ hereOf s.now end.at }
+    requires stops { IsFalse (inWord end.class.number) }
+    ensures within { result.at ≤ length s.now }
+    ensures rest { from s.now result.at ≡ afterIdent (lowBefore s.now start end.at) (from s.now end.at) }
+{
+    let c = Cursor { at: end.at };
+    if end.class == Class::WIDE {
+        return consume_id_rest(s, c, ends_low(s, start, end.at));
+    }
+    if end.class.is_op() && ends_low(s, start, end.at) {
+        return consume_signs::<false>(s, c);
+    }
+    c
+}
+
+// The keyword from `at` to `end`, if one stands there. Few words begin as one does.
+#[inline(always)]
+fn word_of(s: &[u8], class: Class, at: usize, end: usize) -> Option<Kw>
+    requires class_is { class.number ≡ classAt s.now at }
+    requires left { LeftTo s.now at end }
+    ensures { result ≡ keywordOf (wordOf (codesTo (from s.now at) (from s.now end))) }
+{
+    if class == Class::KEYWORD {
+        return keyword_of(word_number(s, at, end));
+    }
+    None
+}
+
+/// An identifier, a keyword, or the string that an identifier prefixes. Its first character, of this class, ends at `next`.
+#[inline(always)]
+pub fn lex_ident(s: &[u8], c: Cursor, class: Class, next: Cursor) -> Piece
+    requires within { c.at < length s.now }
+    requires starts { IsTrue (headIs isIdStart (from s.now c.at)) }
+    requires class_is { class.number ≡ classAt s.now c.at }
+    requires next_within { next.at ≤ length s.now }
+    requires next_same { from s.now next.at ≡ drop 1 (from s.now c.at) }
     ensures { result ≡ pieceOf (length s.now) (scanIdent (length s.now) (from s.now c.at)) }
 {
-    let low = is_low(s, c.at, rest.at);
-    let end = consume_id_rest(s, rest, low);
-    let word = keyword_of(word_number(s, c.at, end.at));
+    let end = name_end(s, c.at, word_end(s, next.at));
+    let word = word_of(s, class, c.at, end.at);
     match word {
         Some(k) => Ok((TokenKind::Kw(k), end)),
-        None => or_prefixed(s, TokenKind::Ident, c.at, end),
+        None => or_prefixed(s, c.at, end),
     }
 }
 
-// Does an underscore stand last before `end`, and not first?
-fn is_low(s: &[u8], start: usize, end: usize) -> bool
-    requires { end ≤ length s.now }
-    ensures { result ≡ lowBefore s.now start end }
+// Where the operator ends whose first sign ends at c. Many have one sign.
+#[inline(always)]
+fn run_end_from(s: &[u8], c: Cursor) -> Cursor
+    requires { c.at ≤ length s.now }
+    ensures within { result.at ≤ length s.now }
+    ensures rest { from s.now result.at ≡ afterRun freeSign (from s.now c.at) }
 {
-    end > 0 && s[end - 1] == b'_' && start < end - 1
+    if Class::at(s, c.at).in_operator() {
+        return consume_op_run(s, c);
+    }
+    c
 }
 
-/// An operator, which was read up to `rest`; a keyword's run is an operator where a comment follows directly.
-pub fn lex_op_run(s: &[u8], c: Cursor, rest: Cursor) -> Piece
-    requires within { c.at ≤ length s.now }
-    requires rest_within { rest.at ≤ length s.now }
-    requires rest_same { afterRun freeSign (from s.now rest.at) ≡ afterRun freeSign (from s.now c.at) }
+// The keyword from `at` to `end`, if one stands there and no comment directly behind it. Few operators begin as one does.
+#[inline(always)]
+fn run_of(s: &[u8], class: Class, at: usize, end: Cursor) -> Option<Kw>
+    requires class_is { class.number ≡ classAt s.now at }
+    requires left { LeftTo s.now at end.at }
+    ensures { result ≡ keywordOf (runBefore (from s.now at) (from s.now end.at)) }
+{
+    if class == Class::SIGN_KEYWORD && !opens_comment(s, end) {
+        return keyword_of(run_number(s, at, end.at));
+    }
+    None
+}
+
+/// An operator, whose first sign, of this class, ends at `next`; a keyword's run is an operator where a comment follows directly.
+#[inline(always)]
+pub fn lex_op_run(s: &[u8], c: Cursor, class: Class, next: Cursor) -> Piece
+    requires within { c.at < length s.now }
+    requires class_is { class.number ≡ classAt s.now c.at }
+    requires next_within { next.at ≤ length s.now }
+    requires next_same { afterRun freeSign (from s.now next.at) ≡ afterRun freeSign (from s.now c.at) }
     ensures { result ≡ pieceOf (length s.now) (scanOperator (from s.now c.at)) }
 {
-    let end = consume_op_run(s, rest);
-    let run = keyword_of(run_number(s, c.at, end.at));
+    let end = run_end_from(s, next);
+    let run = run_of(s, class, c.at, end);
     match run {
-        Some(k) => {
-            if opens_comment(s, end) {
-                return Ok((TokenKind::OpId, end));
-            }
-            Ok((TokenKind::Kw(k), end))
-        }
+        Some(k) => Ok((TokenKind::Kw(k), end)),
         None => Ok((TokenKind::OpId, end)),
     }
 }
@@ -183,7 +222,7 @@ pub fn lex_op_run(s: &[u8], c: Cursor, rest: Cursor) -> Piece
 #[inline(always)]
 pub fn consume_backtick(s: &[u8], c: Cursor) -> Result<Cursor, Refused>
     requires within { c.at ≤ length s.now }
-    requires opens { isAny "`" (from s.now c.at) ≡ true }
+    requires opens { IsTrue (isAny "`" (from s.now c.at)) }
     ensures { result ≡ backtickOf (length s.now) (from s.now c.at) }
 {
     let start = c.at;
@@ -195,14 +234,4 @@ pub fn consume_backtick(s: &[u8], c: Cursor) -> Result<Cursor, Refused>
         return Err(Refusal::EmptyBacktick.at(start));
     }
     Ok(Cursor { at: end + 1 })
-}
-
-/// A backtick or the string that it prefixes.
-pub fn lex_backtick(s: &[u8], c: Cursor) -> Piece
-    requires within { c.at ≤ length s.now }
-    requires opens { isAny "`" (from s.now c.at) ≡ true }
-    ensures { result ≡ pieceOf (length s.now) (scanBacktick (length s.now) (from s.now c.at)) }
-{
-    let end = consume_backtick(s, c)?;
-    or_prefixed(s, TokenKind::BacktickId, c.at, end)
 }

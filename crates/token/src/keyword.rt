@@ -1,5 +1,5 @@
 // Keywords, by their bytes: the kind's number of a word, and of a run of operator signs. A record has the number, so no kind is made for it.
-ghost use Rattle.std.specs.Prelude.{◌≡◌, cond, [], ◌∷◌, ◌+◌, ◌≤◌, length};
+ghost use Rattle.std.specs.Prelude.{◌≡◌, if◌then◌else◌, [], ◌∷◌, ◌+◌, ◌≤◌, length};
 ghost use Rattle.words.specs.Words.{twoAt, fourAt};
 ghost use Rattle.chars.specs.paper.Text.{from};
 ghost use Rattle.chars.specs.promises.Texts.{Suffix};
@@ -28,7 +28,7 @@ fn four_of(s: &[u8], at: usize) -> u32
 
 // The keyword's number, where its bytes stand; else that of an identifier.
 fn number_if(found: bool, number: u16) -> u16
-    ensures { result ≡ cond found number 1 }
+    ensures { result ≡ (if found then number else 1) }
 {
     if found { number } else { TokenKind::IDENT }
 }

@@ -221,7 +221,7 @@ impl Form {
         }
     }
 
-    /// A string, by its content's start and end.
+    /// A string, by its content's start and end, of each the lower four bytes. `as u32` is refused here, where a place can have more.
     #[tactic(auto, using(crate::proofs::form::Shapes::forms))]
     pub fn span(from: usize, to: usize) -> Form
         ensures value { result ≡ formOf (tk.Str from to) }
@@ -242,7 +242,7 @@ impl Form {
         Form {
             number: TokenKind::NEWLINE,
             length: TokenKind::NEWLINE_LENGTH,
-            values: bit_of(mark) as u64,
+            values: u64::from(bit_of(mark)),
         }
     }
 }
@@ -250,7 +250,7 @@ impl Form {
 pub fn bit_of(b: bool) -> u8
     ensures { result ≡ bit b }
 {
-    if b { 1 } else { 0 }
+    u8::from(b)
 }
 
 /// The keyword of a kind's number; none, where the kind is no keyword.

@@ -11,9 +11,8 @@ mod string; // strings and escapes
 mod keyword; // keywords, by their bytes
 mod ident; // identifiers, operators and backticks
 mod charsym; // characters and symbols
-mod lexer; // one token, by its first byte
 pub mod form; // one record, stored and read back
 mod byte_class; // what a byte is, by a table
-mod names; // words and operators, recognised from their ASCII bytes
+mod names; // where words and runs of signs of ASCII end
 mod walk; // from piece to piece, to the end of script or to what is refused
 pub mod records; // the records, counted, and stored where they fit

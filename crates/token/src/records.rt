@@ -46,6 +46,7 @@ fn walk_script(out: &mut [u8], s: &[u8]) -> Result<Need, Refused>
 }
 
 /// What the records of a script need, or why it has none. `scratch` then has each record that fits into it, before a refusal too.
+#[tactic(auto, using(crate::proofs::records::Told::told))]
 pub fn measure(scratch: &mut [u8], s: &[u8]) -> Result<Need, Refused>
     requires { length s.now ≤ mostBytes }
     ensures value { result ≡ measuredOf 0 0 (answer s.now) }
@@ -59,6 +60,7 @@ pub fn measure(scratch: &mut [u8], s: &[u8]) -> Result<Need, Refused>
 
 /// The records of a script that has tokens, from the buffer's start on: copied, where `scratch` has them, else by another walk. `need` and what
 /// `scratch` holds are as `measure` left them.
+#[tactic(auto, using(crate::proofs::records::Told::told))]
 pub fn write(out: &mut [u8], s: &[u8], scratch: &[u8], need: Need)
     requires within { length s.now ≤ mostBytes }
     requires needs { Needs (answer s.now) need }
@@ -74,6 +76,7 @@ pub fn write(out: &mut [u8], s: &[u8], scratch: &[u8], need: Need)
 }
 
 // The same by another walk.
+#[tactic(auto, using(crate::proofs::records::Measures::fitted))]
 fn write_walk(out: &mut [u8], s: &[u8])
     requires within { length s.now ≤ mostBytes }
     requires fits { Fits (answer s.now) (length out.old) }

@@ -1,5 +1,5 @@
 // Strings and escapes. RULES, "String", "Escape" and "String content".
-ghost use Rattle.std.specs.Prelude.{◌≡◌, true, false, ◌+◌, ◌≤◌, ◌<◌, length, drop, get_or};
+ghost use Rattle.std.specs.Prelude.{◌≡◌, ◌≢◌, true, IsTrue, IsFalse, IfOk, IfErr, Err, false, ◌+◌, ◌≤◌, ◌<◌, length, drop, slice_index};
 ghost use Rattle.chars.specs.paper.Text.{from, headIs};
 ghost use Rattle.chars.specs.computed.Runs.{afterRun};
 ghost use Rattle.token.specs.paper.Tests.{isAny, quote, threeQuotes};
@@ -24,7 +24,7 @@ pub struct Span {
 }
 
 /// Past an escape, from behind its backslash.
-#[tactic(auto, using(crate::proofs::string::Escapes::escape_by), unfolding(crate::specs::paper::Tests::isDigit))]
+#[tactic(auto, using(crate::proofs::string::Escapes::escapes), unfolding(crate::specs::paper::Tests::isDigit))]
 #[inline(always)]
 pub fn consume_escape(s: &[u8], c: Cursor) -> Result<Cursor, Refused>
     requires { c.at ≤ length s.now }
@@ -62,7 +62,9 @@ fn consume_hexes(s: &[u8], c: Cursor) -> Result<Cursor, Refused>
 #[inline(always)]
 pub fn skip_ordinary(s: &[u8], c: Cursor) -> Cursor
     requires { c.at ≤ length s.now }
-    ensures { (c.at ≤ result.at) × (result.at ≤ length s.now) × (from s.now result.at ≡ afterRun (headIs isOrdinary) (from s.now c.at)) }
+    ensures within { result.at ≤ length s.now }
+    ensures onward { c.at ≤ result.at }
+    ensures rest { from s.now result.at ≡ afterRun (headIs isOrdinary) (from s.now c.at) }
 {
     if !Class::at(s, c.at).is_ordinary() {
         return c;
@@ -77,7 +79,7 @@ pub fn skip_ordinary(s: &[u8], c: Cursor) -> Cursor
 #[inline(always)]
 fn consume_interp_dollar(s: &[u8], c: Cursor) -> Result<Cursor, Refused>
     requires within { c.at < length s.now }
-    requires dollar { isAny "$" (from s.now c.at) ≡ true }
+    requires dollar { IsTrue (isAny "$" (from s.now c.at)) }
     ensures { result ≡ dollarOf (length s.now) (from s.now c.at) }
 {
     let next = c.at + 1;
@@ -87,12 +89,14 @@ fn consume_interp_dollar(s: &[u8], c: Cursor) -> Result<Cursor, Refused>
     Ok(Cursor { at: next })
 }
 
+// Where `prefixed` is given below, it is an argument and no const parameter: these functions are compiled into their callers, where it is known.
+
 // Past the backslash that stands there, in a plain string with the escape that it opens.
 #[tactic(auto, unfolding(crate::specs::code::String::singleItem))]
 #[inline(always)]
 fn consume_backslash(s: &[u8], c: Cursor, prefixed: bool) -> Result<Cursor, Refused>
     requires within { c.at < length s.now }
-    requires backslash { get_or s.now c.at 0 ≡ 0x5C }
+    requires backslash { slice_index s.now c.at ≡ 0x5C }
     ensures { result ≡ singleItem prefixed s.now c.at }
 {
     let next = Cursor { at: c.at + 1 };
@@ -107,8 +111,11 @@ fn consume_backslash(s: &[u8], c: Cursor, prefixed: bool) -> Result<Cursor, Refu
 #[inline(always)]
 fn single_item(s: &[u8], c: Cursor, prefixed: bool) -> Result<Cursor, Refused>
     requires within { c.at < length s.now }
-    requires no_backslash { get_or s.now c.at 0 ≡ 0x5C → ⊥ }
-    ensures { result ≡ singleItem prefixed s.now c.at }
+    requires no_backslash { slice_index s.now c.at ≢ 0x5C }
+    requires no_quote { slice_index s.now c.at ≢ 0x22 }
+    ensures value { result ≡ singleItem prefixed s.now c.at }
+    ensures passes { IfOk result (λ d. closeSingle prefixed (from s.now d.at) ≡ closeSingle prefixed (from s.now c.at)) }
+    ensures refuses { IfErr result (λ e. Err e ≡ endedOf (length s.now) (closeSingle prefixed (from s.now c.at))) }
 {
     match s[c.at] {
         b'\n' => Err(Refusal::LineFeed.at(c.at)),
@@ -129,7 +136,7 @@ fn lex_items(s: &[u8], c: Cursor, prefixed: bool) -> Result<Cursor, Refused>
     while d.at < s.len() {
         let b = s[d.at];
         if Class::of(b).is_ordinary() {
-            d = Cursor { at: d.at + 1 };
+            d = skip_ordinary(s, Cursor { at: d.at + 1 });
         } else if b == b'\\' {
             d = consume_backslash(s, d, prefixed)?;
         } else if b == b'"' {
@@ -145,7 +152,7 @@ fn lex_items(s: &[u8], c: Cursor, prefixed: bool) -> Result<Cursor, Refused>
 #[inline(always)]
 fn lex_single_string(s: &[u8], c: Cursor, prefixed: bool) -> Result<Cursor, Refused>
     requires within { c.at ≤ length s.now }
-    requires opens { quote (from s.now c.at) ≡ true }
+    requires opens { IsTrue (quote (from s.now c.at)) }
     ensures { result ≡ endedOf (length s.now) (closeSingle prefixed (drop 1 (from s.now c.at))) }
 {
     let run = skip_ordinary(s, Cursor { at: c.at + 1 });
@@ -167,7 +174,8 @@ pub fn three_quotes(s: &[u8], at: usize) -> bool
 /// Past all quotes that stand there.
 pub fn consume_quotes(s: &[u8], c: Cursor) -> Cursor
     requires { c.at ≤ length s.now }
-    ensures { (result.at ≤ length s.now) × (from s.now result.at ≡ afterRun quote (from s.now c.at)) }
+    ensures within { result.at ≤ length s.now }
+    ensures rest { from s.now result.at ≡ afterRun quote (from s.now c.at) }
 {
     Cursor {
         at: run_end::<OneOf<b'"', b'"'>>(s, c.at),
@@ -175,11 +183,13 @@ pub fn consume_quotes(s: &[u8], c: Cursor) -> Cursor
 }
 
 // Past the three quotes that stand there, and those behind them. Behind most no fourth stands.
+#[tactic(auto, using(crate::proofs::string::Laws::triple_walk, crate::proofs::string::Contents::three_closed))]
 #[inline(always)]
 fn close_triple(s: &[u8], c: Cursor) -> Cursor
     requires within { c.at ≤ length s.now }
-    requires closes { threeQuotes (from s.now c.at) ≡ true }
-    ensures { (result.at ≤ length s.now) × (from s.now result.at ≡ afterRun quote (from s.now c.at)) }
+    requires closes { IsTrue (threeQuotes (from s.now c.at)) }
+    ensures within { result.at ≤ length s.now }
+    ensures rest { from s.now result.at ≡ afterRun quote (from s.now c.at) }
 {
     let next = Cursor { at: c.at + 3 };
     if byte_at(s, next.at) != b'"' {
@@ -192,8 +202,11 @@ fn close_triple(s: &[u8], c: Cursor) -> Cursor
 #[tactic(auto, using(crate::proofs::string::Laws::dollar_in), unfolding(crate::specs::code::String::tripleItem))]
 #[inline(always)]
 fn triple_item(s: &[u8], c: Cursor, prefixed: bool) -> Result<Cursor, Refused>
-    requires { c.at < length s.now }
-    ensures { result ≡ tripleItem prefixed s.now c.at }
+    requires within { c.at < length s.now }
+    requires no_close { IsFalse (threeQuotes (from s.now c.at)) }
+    ensures value { result ≡ tripleItem prefixed s.now c.at }
+    ensures passes { IfOk result (λ d. closeTriple prefixed (from s.now d.at) ≡ closeTriple prefixed (from s.now c.at)) }
+    ensures refuses { IfErr result (λ e. Err e ≡ endedOf (length s.now) (closeTriple prefixed (from s.now c.at))) }
 {
     let next = Cursor { at: c.at + 1 };
     match s[c.at] {
@@ -208,7 +221,7 @@ fn triple_item(s: &[u8], c: Cursor, prefixed: bool) -> Result<Cursor, Refused>
 #[inline(always)]
 fn lex_triple_string(s: &[u8], c: Cursor, prefixed: bool) -> Result<Cursor, Refused>
     requires within { c.at ≤ length s.now }
-    requires opens { threeQuotes (from s.now c.at) ≡ true }
+    requires opens { IsTrue (threeQuotes (from s.now c.at)) }
     ensures { result ≡ endedOf (length s.now) (closeTriple prefixed (drop 3 (from s.now c.at))) }
 {
     let mut d = skip_ordinary(s, Cursor { at: c.at + 3 });
@@ -294,7 +307,7 @@ fn strip_quotes(s: &[u8], start: usize, end: usize) -> Span
 fn strip_triple(s: &[u8], start: usize, end: usize) -> Span
     requires order { start ≤ end }
     requires within { end ≤ length s.now }
-    requires opens { threeQuotes (from s.now start) ≡ true }
+    requires opens { IsTrue (threeQuotes (from s.now start)) }
     requires closes { closeString false (from s.now start) ≡ closed (from s.now end) }
     ensures { spanKind result ≡ plainContent (length s.now) (from s.now start) (from s.now end) }
 {
@@ -311,7 +324,7 @@ fn strip_triple(s: &[u8], start: usize, end: usize) -> Span
 #[inline(always)]
 fn lex_plain_triple(s: &[u8], c: Cursor) -> Piece
     requires within { c.at ≤ length s.now }
-    requires opens { threeQuotes (from s.now c.at) ≡ true }
+    requires opens { IsTrue (threeQuotes (from s.now c.at)) }
     ensures { result ≡ pieceOf (length s.now) (scanString (length s.now) (from s.now c.at)) }
 {
     let end = lex_triple_string(s, c, false)?;
@@ -329,7 +342,7 @@ fn lex_plain_triple(s: &[u8], c: Cursor) -> Piece
 #[inline(always)]
 pub fn lex_plain_string(s: &[u8], c: Cursor) -> Piece
     requires within { c.at ≤ length s.now }
-    requires opens { quote (from s.now c.at) ≡ true }
+    requires opens { IsTrue (quote (from s.now c.at)) }
     ensures { result ≡ pieceOf (length s.now) (scanString (length s.now) (from s.now c.at)) }
 {
     if three_quotes(s, c.at) {
@@ -350,7 +363,7 @@ pub fn lex_plain_string(s: &[u8], c: Cursor) -> Piece
 #[inline(always)]
 fn lex_string(s: &[u8], c: Cursor) -> Result<Cursor, Refused>
     requires within { c.at ≤ length s.now }
-    requires opens { quote (from s.now c.at) ≡ true }
+    requires opens { IsTrue (quote (from s.now c.at)) }
     ensures { result ≡ endedOf (length s.now) (closeString true (from s.now c.at)) }
 {
     if three_quotes(s, c.at) {
@@ -365,7 +378,7 @@ fn lex_string(s: &[u8], c: Cursor) -> Result<Cursor, Refused>
 pub fn lex_prefixed_string(s: &[u8], start: usize, c: Cursor) -> Piece
     requires order { start ≤ c.at }
     requires within { c.at ≤ length s.now }
-    requires opens { quote (from s.now c.at) ≡ true }
+    requires opens { IsTrue (quote (from s.now c.at)) }
     ensures { result ≡ pieceOf (length s.now) (prefixedOf (length s.now) (from s.now start) (closeString true (from s.now c.at))) }
 {
     let end = lex_string(s, c)?;

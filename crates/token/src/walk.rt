@@ -1,29 +1,30 @@
 // One walk over a script, to its end or to what is refused: each piece is read where it stands, and each token's record is stored where it fits.
-ghost use Rattle.std.specs.Prelude.{◌≡◌, true, false, cond, List, ℕ, ◌+◌, ◌≤◌, ◌<◌, eqb, length, Err, IfOk, IfErr, IfSome, IfNone};
-ghost use Rattle.chars.specs.paper.Text.{from};
-ghost use Rattle.token.specs.paper.Tests.{isAny, opensBlock, opensComment};
+ghost use Rattle.std.specs.Prelude.{◌≡◌, IsTrue, IsFalse, not, ◌&&◌, ◌||◌, List, ℕ, ◌+◌, ◌≤◌, ◌<◌, ◌==◌, length, drop, Err, IfOk, IfErr, IfSome, IfNone, IsErr};
+ghost use Rattle.chars.specs.paper.Classes.{isIdStart};
+ghost use Rattle.chars.specs.paper.Text.{from, headIs};
+ghost use Rattle.token.specs.paper.Tests.{isAny, opSign, opensBlock, opensComment};
 ghost use Rattle.token.specs.paper.Records.{mostBytes, headLength, lineLength};
-ghost use Rattle.token.specs.computed.Answer.{scan};
+ghost use Rattle.token.specs.computed.Answer.{scan, scanNumber};
 ghost use Rattle.token.specs.code.Records.{storedIf, measuredFrom, storedFrom};
 ghost use Rattle.token.specs.code.Form.{byForm, plainForm};
-ghost use Rattle.token.specs.code.ByteClass.{classAt, blankClass, digitClass, lfClass, crClass, tickClass, backtickClass, quoteClass, keywordClass, wideClass, upToBlank, isSign, inWord};
-ghost use Rattle.token.specs.code.Names.{hereOf};
+ghost use Rattle.token.specs.code.ByteClass.{classAt, blankClass, digitClass, lfClass, crClass, tickClass, backtickClass, quoteClass, keywordClass, signKeywordClass, slashClass, wideClass, upToBlank, startsWord, asksMore, isSign, inWord};
+ghost use Rattle.token.specs.code.Names.{hereOf, lowBefore};
 ghost use Rattle.token.specs.code.Piece.{pieceOf};
-ghost use Rattle.token.specs.code.Walk.{beginning, movedTo, plainBehind, valuesBehind, lineBehind, commentBehind, blockBehind, nameNumber, operatorNumber, beginsName, stateAt, Good, LeftTo, Prefixes, Refuses, Steps};
+ghost use Rattle.token.specs.code.Walk.{beginning, movedTo, plainBehind, valuesBehind, lineBehind, commentBehind, blockBehind, runGoesOn, nameNumber, operatorNumber, stateAt, Good, Left, LeftTo, Prefixes, Refuses, Steps};
 
 use crate::byte_class::Class;
 use crate::charsym::lex_char_sym;
 use crate::cursor::{Cursor, byte_at, skip_more};
 use crate::digits::{digit_value, lex_number};
 use crate::form::{put_head_if, put_if, put_record};
-use crate::ident::consume_backtick;
+use crate::ident::{consume_backtick, lex_ident, lex_op_run};
 use crate::keyword::{run_number, word_number};
 use crate::kinds::{Form, TokenKind};
-use crate::lexer::{lex_token, lex_wide_word};
-use crate::names::{Here, here_at, name_end, opens_with, operator_end, run_end, word_end};
+use crate::names::{Here, ends_low, here_at, opens_with, run_end, word_end};
 use crate::piece::Piece;
 use crate::refusal::{Refusal, Refused};
 use crate::string::{lex_plain_string, lex_prefixed_string};
+use chars::classes::{IdStart, class_end, is_arrow_at};
 
 const HEAD: usize = TokenKind::HEAD_LENGTH as usize;
 
@@ -53,7 +54,7 @@ impl Stand {
         ensures { result ≡ beginning s.now }
     {
         Stand {
-            at: 0,
+            at: Cursor::new().at,
             class: Class::at(s, 0),
             bytes: 0,
             values: 0,
@@ -135,13 +136,15 @@ fn behind_comment(s: &[u8], x: Stand, end: usize) -> Stand
 }
 
 // Each of the following is a step: past what stands there, with its record stored where it fits. One that refuses answers by Err, one that leaves its
-// piece to another reader by None, and neither stores anything then.
+// piece to another reader by None, and neither stores anything then. All ask for `short` and `good`, which are no invariant of `Stand`, since they speak
+// of the script: a state that carried the script with it would not stay in registers. What two or three have in common is one function; where they
+// differ in what reads the piece, a common one would take the reader, its equation and its class, and be longer than they are.
 
 // Past the blank that stands there and those behind it. Most blanks stand alone.
 fn blank_step(s: &[u8], x: Stand) -> Stand
     requires short { length s.now ≤ mostBytes }
     requires good { Good s.now x }
-    requires blank { eqb x.class.number blankClass ≡ true }
+    requires blank { IsTrue (x.class.number == blankClass) }
     ensures on { (out : List ℕ) → Steps s.now x out result out }
     ensures further { x.at < result.at }
 {
@@ -163,8 +166,8 @@ fn blank_step(s: &[u8], x: Stand) -> Stand
 fn sign_step(out: &mut [u8], s: &[u8], x: Stand) -> Stand
     requires short { length s.now ≤ mostBytes }
     requires good { Good s.now x }
-    requires sign { upToBlank x.class.number ≡ true }
-    requires no_blank { eqb x.class.number blankClass ≡ false }
+    requires sign { IsTrue (upToBlank x.class.number) }
+    requires no_blank { IsFalse (x.class.number == blankClass) }
     ensures on { Steps s.now x out.old result out.new }
     ensures further { result.at ≡ x.at + 1 }
 {
@@ -176,7 +179,7 @@ fn sign_step(out: &mut [u8], s: &[u8], x: Stand) -> Stand
 fn line_step(out: &mut [u8], s: &[u8], x: Stand) -> Stand
     requires short { length s.now ≤ mostBytes }
     requires good { Good s.now x }
-    requires lf { eqb x.class.number lfClass ≡ true }
+    requires lf { IsTrue (x.class.number == lfClass) }
     ensures on { Steps s.now x out.old result out.new }
     ensures further { result.at ≡ x.at + 1 }
 {
@@ -189,7 +192,7 @@ fn line_step(out: &mut [u8], s: &[u8], x: Stand) -> Stand
 fn return_step(out: &mut [u8], s: &[u8], x: Stand) -> Result<Stand, Refused>
     requires short { length s.now ≤ mostBytes }
     requires good { Good s.now x }
-    requires cr { eqb x.class.number crClass ≡ true }
+    requires cr { IsTrue (x.class.number == crClass) }
     ensures on { IfOk result (λ y. Steps s.now x out.old y out.new) }
     ensures further { IfOk result (λ y. x.at < y.at) }
     ensures refused { IfErr result (λ e. Refuses s.now x out.old e) }
@@ -218,7 +221,7 @@ fn behind_block(s: &[u8], x: Stand, end: usize) -> Stand
 fn block_step(s: &[u8], x: Stand) -> Result<Stand, Refused>
     requires short { length s.now ≤ mostBytes }
     requires good { Good s.now x }
-    requires opened { opensBlock (from s.now x.at) ≡ true }
+    requires opened { IsTrue (opensBlock (from s.now x.at)) }
     ensures on { IfOk result (λ y. (out : List ℕ) → Steps s.now x out y out) }
     ensures further { IfOk result (λ y. x.at < y.at) }
     ensures refused { IfErr result (λ e. (out : List ℕ) → Refuses s.now x out e) }
@@ -238,7 +241,7 @@ fn block_step(s: &[u8], x: Stand) -> Result<Stand, Refused>
 fn comment_step(s: &[u8], x: Stand) -> Result<Stand, Refused>
     requires short { length s.now ≤ mostBytes }
     requires good { Good s.now x }
-    requires opened { opensComment (from s.now x.at) ≡ true }
+    requires opened { IsTrue (opensComment (from s.now x.at)) }
     ensures on { IfOk result (λ y. (out : List ℕ) → Steps s.now x out y out) }
     ensures further { IfOk result (λ y. x.at < y.at) }
     ensures refused { IfErr result (λ e. (out : List ℕ) → Refuses s.now x out e) }
@@ -250,23 +253,13 @@ fn comment_step(s: &[u8], x: Stand) -> Result<Stand, Refused>
     block_step(s, x)
 }
 
-// Does a comment begin with the byte of this class at a place?
-fn is_comment(s: &[u8], class: Class, at: usize) -> bool
-    requires within { at ≤ length s.now }
-    requires class_is { class.number ≡ classAt s.now at }
-    requires short { length s.now ≤ mostBytes }
-    ensures { result ≡ opensComment (from s.now at) }
-{
-    class == Class::SLASH && opens_with(byte_at(s, at + 1))
-}
-
 // The kind's number of the operator from `at` to `end`: before a comment it is no keyword.
 #[tactic(auto, unfolding(crate::specs::code::Walk::operatorNumber))]
-fn operator_number(s: &[u8], at: usize, end: Here) -> u16
-    requires { LeftTo s.now at end.at }
-    ensures { result ≡ operatorNumber s.now at end }
+fn operator_number(s: &[u8], class: Class, at: usize, end: Here) -> u16
+    requires { IsTrue (class.number == signKeywordClass) → LeftTo s.now at end.at }
+    ensures { result ≡ operatorNumber s.now class.number at end }
 {
-    if end.class == Class::SLASH {
+    if class != Class::SIGN_KEYWORD || end.class == Class::SLASH {
         return TokenKind::OP_ID;
     }
     run_number(s, at, end.at)
@@ -274,38 +267,23 @@ fn operator_number(s: &[u8], at: usize, end: Here) -> u16
 
 // Stores an operator's record, where it fits: its keyword is looked for there only.
 fn put_run_if(out: &mut [u8], s: &[u8], x: Stand, end: Here)
-    requires left { LeftTo s.now x.at end.at }
+    requires left { IsTrue (x.class.number == signKeywordClass) → LeftTo s.now x.at end.at }
     requires room { x.bytes + headLength ≤ 18446744073709551615 }
-    ensures { out.new ≡ storedIf out.old x.bytes (byForm (plainForm (operatorNumber s.now x.at end)) x.at end.at x.cut) }
+    ensures { out.new ≡ storedIf out.old x.bytes (byForm (plainForm (operatorNumber s.now x.class.number x.at end)) x.at end.at x.cut) }
 {
     if x.bytes + HEAD <= out.len() {
-        let form = Form::plain(operator_number(s, x.at, end));
+        let form = Form::plain(operator_number(s, x.class, x.at, end));
         put_record(out, x.bytes, form, x.at, end.at, x.cut);
     }
-}
-
-// An operator.
-fn run_step(out: &mut [u8], s: &[u8], x: Stand) -> Option<Stand>
-    requires short { length s.now ≤ mostBytes }
-    requires good { Good s.now x }
-    requires sign { isSign x.class.number ≡ true }
-    requires no_comment { opensComment (from s.now x.at) ≡ false }
-    ensures on { IfSome result (λ y. Steps s.now x out.old y out.new) }
-    ensures further { IfSome result (λ y. x.at < y.at) }
-    ensures kept { IfNone result (out.new ≡ out.old) }
-{
-    let end = operator_end(s, x.at + 1)?;
-    put_run_if(out, s, x, end);
-    Some(behind(x, end))
 }
 
 // A number of one digit, as many are.
 fn digit_step(out: &mut [u8], s: &[u8], x: Stand, end: Here) -> Stand
     requires short { length s.now ≤ mostBytes }
     requires good { Good s.now x }
-    requires digit { eqb x.class.number digitClass ≡ true }
+    requires digit { IsTrue (x.class.number == digitClass) }
     requires end_is { end ≡ hereOf s.now (x.at + 1) }
-    requires alone { inWord end.class.number ≡ false }
+    requires alone { IsFalse (inWord end.class.number) }
     ensures on { Steps s.now x out.old result out.new }
     ensures further { result.at ≡ x.at + 1 }
 {
@@ -318,10 +296,11 @@ fn digit_step(out: &mut [u8], s: &[u8], x: Stand, end: Here) -> Stand
 fn number_step(out: &mut [u8], s: &[u8], x: Stand) -> Option<Stand>
     requires short { length s.now ≤ mostBytes }
     requires good { Good s.now x }
-    requires digit { eqb x.class.number digitClass ≡ true }
+    requires digit { IsTrue (x.class.number == digitClass) }
     ensures on { IfSome result (λ y. Steps s.now x out.old y out.new) }
     ensures further { IfSome result (λ y. x.at < y.at) }
     ensures kept { IfNone result (out.new ≡ out.old) }
+    ensures none { IfNone result (IsErr (pieceOf (length s.now) (scanNumber (from s.now x.at)))) }
 {
     let next = here_at(s, x.at + 1);
     if !next.class.in_word() {
@@ -349,7 +328,7 @@ fn number_step(out: &mut [u8], s: &[u8], x: Stand) -> Option<Stand>
 // The kind's number of the word from `at` to `end`, whose first byte has this class.
 #[tactic(auto, unfolding(crate::specs::code::Walk::nameNumber))]
 fn name_number(s: &[u8], class: Class, at: usize, end: usize) -> u16
-    requires { eqb class.number keywordClass ≡ true → LeftTo s.now at end }
+    requires { IsTrue (class.number == keywordClass) → LeftTo s.now at end }
     ensures { result ≡ nameNumber s.now class.number at end }
 {
     if class == Class::KEYWORD {
@@ -360,7 +339,7 @@ fn name_number(s: &[u8], class: Class, at: usize, end: usize) -> u16
 
 // Stores a word's record, where it fits: its keyword is looked for there only.
 fn put_word_if(out: &mut [u8], s: &[u8], x: Stand, end: usize)
-    requires left { eqb x.class.number keywordClass ≡ true → LeftTo s.now x.at end }
+    requires left { IsTrue (x.class.number == keywordClass) → LeftTo s.now x.at end }
     requires room { x.bytes + headLength ≤ 18446744073709551615 }
     ensures { out.new ≡ storedIf out.old x.bytes (byForm (plainForm (nameNumber s.now x.class.number x.at end)) x.at end x.cut) }
 {
@@ -376,15 +355,15 @@ fn put_piece(out: &mut [u8], s: &[u8], x: Stand, piece: Piece) -> Result<Stand, 
     requires short { length s.now ≤ mostBytes }
     requires good { Good s.now x }
     requires within { x.at < length s.now }
-    requires no_gap { isAny " \t\n\r" (from s.now x.at) ≡ false }
-    requires no_comment { opensComment (from s.now x.at) ≡ false }
+    requires no_gap { IsFalse (isAny " \t\n\r" (from s.now x.at)) }
+    requires no_comment { IsFalse (opensComment (from s.now x.at)) }
     requires piece_is { piece ≡ pieceOf (length s.now) (scan (length s.now) (from s.now x.at)) }
     ensures on { IfOk result (λ y. Steps s.now x out.old y out.new) }
     ensures further { IfOk result (λ y. x.at < y.at) }
     ensures refused { IfErr result (λ e. Refuses s.now x out.old e) }
     ensures kept { IfErr result (λ e. out.new ≡ out.old) }
 {
-    // Here alone the piece's answer is taken apart, and its refusal handed on as it is.
+    // `let else` is one of the forms that were asked for; `?` would do as much.
     let Ok((kind, end)) = piece else {
         return Err(piece.unwrap_err());
     };
@@ -393,13 +372,27 @@ fn put_piece(out: &mut [u8], s: &[u8], x: Stand, piece: Piece) -> Result<Stand, 
     Ok(behind_values(x, here_at(s, end.at), form.length as usize))
 }
 
+// A number, with its refusal.
+#[inline(always)]
+fn digits_step(out: &mut [u8], s: &[u8], x: Stand) -> Result<Stand, Refused>
+    requires short { length s.now ≤ mostBytes }
+    requires good { Good s.now x }
+    requires digit { IsTrue (x.class.number == digitClass) }
+    ensures on { IfOk result (λ y. Steps s.now x out.old y out.new) }
+    ensures further { IfOk result (λ y. x.at < y.at) }
+    ensures refused { IfErr result (λ e. Refuses s.now x out.old e) }
+    ensures kept { IfErr result (λ e. out.new ≡ out.old) }
+{
+    let piece = lex_number(s, Cursor { at: x.at });
+    put_piece(out, s, x, piece)
+}
+
 // A character or a symbol.
 #[inline(always)]
 fn char_sym_step(out: &mut [u8], s: &[u8], x: Stand) -> Result<Stand, Refused>
     requires short { length s.now ≤ mostBytes }
     requires good { Good s.now x }
-    requires tick { eqb x.class.number tickClass ≡ true }
-    requires no_comment { opensComment (from s.now x.at) ≡ false }
+    requires tick { IsTrue (x.class.number == tickClass) }
     ensures on { IfOk result (λ y. Steps s.now x out.old y out.new) }
     ensures further { IfOk result (λ y. x.at < y.at) }
     ensures refused { IfErr result (λ e. Refuses s.now x out.old e) }
@@ -409,20 +402,107 @@ fn char_sym_step(out: &mut [u8], s: &[u8], x: Stand) -> Result<Stand, Refused>
     put_piece(out, s, x, piece)
 }
 
-// What begins with a character past ASCII.
+// An operator, whose first sign ends at `next`.
 #[inline(always)]
-fn wide_step(out: &mut [u8], s: &[u8], x: Stand) -> Result<Stand, Refused>
+fn run_step(out: &mut [u8], s: &[u8], x: Stand, next: Cursor) -> Result<Stand, Refused>
     requires short { length s.now ≤ mostBytes }
     requires good { Good s.now x }
-    requires wide { eqb x.class.number wideClass ≡ true }
-    requires no_comment { opensComment (from s.now x.at) ≡ false }
+    requires sign { IsTrue (opSign (from s.now x.at)) }
+    requires no_comment { IsFalse (opensComment (from s.now x.at)) }
+    requires next_within { next.at ≤ length s.now }
+    requires next_same { from s.now next.at ≡ drop 1 (from s.now x.at) }
     ensures on { IfOk result (λ y. Steps s.now x out.old y out.new) }
     ensures further { IfOk result (λ y. x.at < y.at) }
     ensures refused { IfErr result (λ e. Refuses s.now x out.old e) }
     ensures kept { IfErr result (λ e. out.new ≡ out.old) }
 {
-    let piece = lex_wide_word(s, Cursor { at: x.at });
+    let piece = lex_op_run(s, Cursor { at: x.at }, x.class, next);
     put_piece(out, s, x, piece)
+}
+
+// An operator that begins with a sign of ASCII.
+#[inline(always)]
+fn ascii_run_step(out: &mut [u8], s: &[u8], x: Stand) -> Result<Stand, Refused>
+    requires short { length s.now ≤ mostBytes }
+    requires good { Good s.now x }
+    requires sign { IsTrue (isSign x.class.number) }
+    requires no_comment { IsFalse (opensComment (from s.now x.at)) }
+    ensures on { IfOk result (λ y. Steps s.now x out.old y out.new) }
+    ensures further { IfOk result (λ y. x.at < y.at) }
+    ensures refused { IfErr result (λ e. Refuses s.now x out.old e) }
+    ensures kept { IfErr result (λ e. out.new ≡ out.old) }
+{
+    run_step(out, s, x, Cursor { at: x.at + 1 })
+}
+
+// What begins with a `/`: a comment, or an operator.
+#[inline(always)]
+fn slash_step(out: &mut [u8], s: &[u8], x: Stand) -> Result<Stand, Refused>
+    requires short { length s.now ≤ mostBytes }
+    requires good { Good s.now x }
+    requires slash { IsTrue (x.class.number == slashClass) }
+    ensures on { IfOk result (λ y. Steps s.now x out.old y out.new) }
+    ensures further { IfOk result (λ y. x.at < y.at) }
+    ensures refused { IfErr result (λ e. Refuses s.now x out.old e) }
+    ensures kept { IfErr result (λ e. out.new ≡ out.old) }
+{
+    if opens_with(byte_at(s, x.at + 1)) {
+        return comment_step(s, x);
+    }
+    ascii_run_step(out, s, x)
+}
+
+// An identifier, a keyword, or the string that an identifier prefixes. Its first character ends at `next`.
+#[inline(always)]
+fn name_step(out: &mut [u8], s: &[u8], x: Stand, next: Cursor) -> Result<Stand, Refused>
+    requires short { length s.now ≤ mostBytes }
+    requires good { Good s.now x }
+    requires starts { IsTrue (headIs isIdStart (from s.now x.at)) }
+    requires next_within { next.at ≤ length s.now }
+    requires next_same { from s.now next.at ≡ drop 1 (from s.now x.at) }
+    ensures on { IfOk result (λ y. Steps s.now x out.old y out.new) }
+    ensures further { IfOk result (λ y. x.at < y.at) }
+    ensures refused { IfErr result (λ e. Refuses s.now x out.old e) }
+    ensures kept { IfErr result (λ e. out.new ≡ out.old) }
+{
+    let piece = lex_ident(s, Cursor { at: x.at }, x.class, next);
+    put_piece(out, s, x, piece)
+}
+
+// The same, where it begins with a letter, `$` or `_` of ASCII.
+#[inline(always)]
+fn ascii_name_step(out: &mut [u8], s: &[u8], x: Stand) -> Result<Stand, Refused>
+    requires short { length s.now ≤ mostBytes }
+    requires good { Good s.now x }
+    requires no_sign { IsFalse (upToBlank x.class.number) }
+    requires begins { IsTrue (startsWord x.class.number) }
+    ensures on { IfOk result (λ y. Steps s.now x out.old y out.new) }
+    ensures further { IfOk result (λ y. x.at < y.at) }
+    ensures refused { IfErr result (λ e. Refuses s.now x out.old e) }
+    ensures kept { IfErr result (λ e. out.new ≡ out.old) }
+{
+    name_step(out, s, x, Cursor { at: x.at + 1 })
+}
+
+// What begins with a character past ASCII: an operator, an identifier, or nothing.
+#[inline(always)]
+fn wide_step(out: &mut [u8], s: &[u8], x: Stand) -> Result<Stand, Refused>
+    requires short { length s.now ≤ mostBytes }
+    requires good { Good s.now x }
+    requires wide { IsTrue (x.class.number == wideClass) }
+    ensures on { IfOk result (λ y. Steps s.now x out.old y out.new) }
+    ensures further { IfOk result (λ y. x.at < y.at) }
+    ensures refused { IfErr result (λ e. Refuses s.now x out.old e) }
+    ensures kept { IfErr result (λ e. out.new ≡ out.old) }
+{
+    let c = Cursor { at: x.at };
+    if is_arrow_at(s, x.at) {
+        return run_step(out, s, x, c.step(s));
+    }
+    let Some(next) = class_end::<IdStart>(s, x.at) else {
+        return Err(Refusal::NoPiece.at(x.at));
+    };
+    name_step(out, s, x, Cursor { at: next })
 }
 
 // A plain string.
@@ -430,8 +510,7 @@ fn wide_step(out: &mut [u8], s: &[u8], x: Stand) -> Result<Stand, Refused>
 fn string_step(out: &mut [u8], s: &[u8], x: Stand) -> Result<Stand, Refused>
     requires short { length s.now ≤ mostBytes }
     requires good { Good s.now x }
-    requires quote { eqb x.class.number quoteClass ≡ true }
-    requires no_comment { opensComment (from s.now x.at) ≡ false }
+    requires quote { IsTrue (x.class.number == quoteClass) }
     ensures on { IfOk result (λ y. Steps s.now x out.old y out.new) }
     ensures further { IfOk result (λ y. x.at < y.at) }
     ensures refused { IfErr result (λ e. Refuses s.now x out.old e) }
@@ -447,8 +526,8 @@ fn prefixed_step(out: &mut [u8], s: &[u8], x: Stand, end: usize) -> Result<Stand
     requires short { length s.now ≤ mostBytes }
     requires good { Good s.now x }
     requires within { x.at < length s.now }
-    requires no_gap { isAny " \t\n\r" (from s.now x.at) ≡ false }
-    requires no_comment { opensComment (from s.now x.at) ≡ false }
+    requires no_gap { IsFalse (isAny " \t\n\r" (from s.now x.at)) }
+    requires no_comment { IsFalse (opensComment (from s.now x.at)) }
     requires prefixes { Prefixes s.now x.at end }
     ensures on { IfOk result (λ y. Steps s.now x out.old y out.new) }
     ensures further { IfOk result (λ y. x.at < y.at) }
@@ -464,8 +543,7 @@ fn prefixed_step(out: &mut [u8], s: &[u8], x: Stand, end: usize) -> Result<Stand
 fn backtick_step(out: &mut [u8], s: &[u8], x: Stand) -> Result<Stand, Refused>
     requires short { length s.now ≤ mostBytes }
     requires good { Good s.now x }
-    requires backtick { eqb x.class.number backtickClass ≡ true }
-    requires no_comment { opensComment (from s.now x.at) ≡ false }
+    requires backtick { IsTrue (x.class.number == backtickClass) }
     ensures on { IfOk result (λ y. Steps s.now x out.old y out.new) }
     ensures further { IfOk result (λ y. x.at < y.at) }
     ensures refused { IfErr result (λ e. Refuses s.now x out.old e) }
@@ -487,55 +565,30 @@ fn backtick_step(out: &mut [u8], s: &[u8], x: Stand) -> Result<Stand, Refused>
     Ok(behind(x, end))
 }
 
-// An identifier or a keyword, or the string that an identifier prefixes. One that is refused is left.
-fn name_step(out: &mut [u8], s: &[u8], x: Stand) -> Option<Stand>
-    requires short { length s.now ≤ mostBytes }
-    requires good { Good s.now x }
-    requires begins { beginsName x.class.number ≡ true }
-    requires no_comment { opensComment (from s.now x.at) ≡ false }
-    ensures on { IfSome result (λ y. Steps s.now x out.old y out.new) }
-    ensures further { IfSome result (λ y. x.at < y.at) }
-    ensures kept { IfNone result (out.new ≡ out.old) }
+// May what stands behind a word make more of it? A sign does only where an underscore came last.
+fn goes_on(s: &[u8], start: usize, end: Here) -> bool
+    requires some { start < end.at }
+    requires within { end.at ≤ length s.now }
+    ensures { result ≡ (asksMore end.class.number && (not (isSign end.class.number) || lowBefore s.now start end.at)) }
 {
-    let end = name_end(s, x.at, word_end(s, x.at + 1))?;
-    let number = name_number(s, x.class, x.at, end.at);
-    if end.class == Class::QUOTE && number == TokenKind::IDENT {
-        return prefixed_step(out, s, x, end.at).ok();
-    }
-    put_if(out, x.bytes, Form::plain(number), x.at, end.at, x.cut);
-    Some(behind(x, end))
+    end.class.asks_more() && (!end.class.is_op() || ends_low(s, start, end.at))
 }
 
-// An id start?
-fn begins_name(class: Class) -> bool
-    ensures { result ≡ beginsName class.number }
+// May what stands behind a run of signs make more of it? A `/` does not, where a comment begins with it.
+fn run_goes_on(s: &[u8], end: Here) -> bool
+    requires here { end ≡ hereOf s.now end.at }
+    requires within { end.at ≤ length s.now }
+    ensures { result ≡ runGoesOn s.now end.at }
 {
-    !class.is_sign() && class.starts_word()
-}
-
-// A piece that is recognised from its bytes; None, where none is.
-fn quick_step(out: &mut [u8], s: &[u8], x: Stand) -> Option<Stand>
-    requires short { length s.now ≤ mostBytes }
-    requires good { Good s.now x }
-    requires no_comment { opensComment (from s.now x.at) ≡ false }
-    ensures on { IfSome result (λ y. Steps s.now x out.old y out.new) }
-    ensures further { IfSome result (λ y. x.at < y.at) }
-    ensures kept { IfNone result (out.new ≡ out.old) }
-{
-    if x.class.is_op() {
-        return run_step(out, s, x);
-    }
-    if begins_name(x.class) {
-        return name_step(out, s, x);
-    }
-    None
+    end.class.in_operator() && !(end.class == Class::SLASH && opens_with(byte_at(s, end.at + 1)))
 }
 
 // As far as blanks, signs, words, LFs, runs of operator signs and numbers stand there of which no byte behind them makes more, as most pieces are.
 fn walk_words(out: &mut [u8], s: &[u8], start: Stand) -> Stand
     requires short { length s.now ≤ mostBytes }
     requires good { Good s.now start }
-    ensures { Steps s.now start out.old result out.new }
+    ensures on { Steps s.now start out.old result out.new }
+    ensures left { Left s.now result }
 {
     let mut x = start;
     // A step is a piece, and what it makes of the state.
@@ -546,7 +599,7 @@ fn walk_words(out: &mut [u8], s: &[u8], start: Stand) -> Stand
             x = sign_step(out, s, x);
         } else if x.class.starts_word() {
             let end = word_end(s, x.at + 1);
-            if end.class.asks_more() {
+            if goes_on(s, x.at, end) {
                 return x;
             }
             put_word_if(out, s, x, end.at);
@@ -555,7 +608,7 @@ fn walk_words(out: &mut [u8], s: &[u8], start: Stand) -> Stand
             x = line_step(out, s, x);
         } else if x.class.in_run() {
             let end = run_end(s, x.at + 1);
-            if end.class.asks_more() {
+            if run_goes_on(s, end) {
                 return x;
             }
             put_run_if(out, s, x, end);
@@ -571,22 +624,6 @@ fn walk_words(out: &mut [u8], s: &[u8], start: Stand) -> Stand
     }
 }
 
-// Another token, by the reader of its kind.
-fn token_step(out: &mut [u8], s: &[u8], x: Stand) -> Result<Stand, Refused>
-    requires short { length s.now ≤ mostBytes }
-    requires good { Good s.now x }
-    requires within { x.at < length s.now }
-    requires no_gap { isAny " \t\n\r" (from s.now x.at) ≡ false }
-    requires no_comment { opensComment (from s.now x.at) ≡ false }
-    ensures on { IfOk result (λ y. Steps s.now x out.old y out.new) }
-    ensures further { IfOk result (λ y. x.at < y.at) }
-    ensures refused { IfErr result (λ e. Refuses s.now x out.old e) }
-    ensures kept { IfErr result (λ e. out.new ≡ out.old) }
-{
-    let piece = lex_token(s, Cursor { at: x.at });
-    put_piece(out, s, x, piece)
-}
-
 /// To the end of script, or to what is refused. While no cut is set, as nearly always, words and all that is as short go in a loop of their own.
 #[inline(always)]
 pub fn walk(out: &mut [u8], s: &[u8], start: Stand) -> Result<Stand, Refused>
@@ -598,33 +635,26 @@ pub fn walk(out: &mut [u8], s: &[u8], start: Stand) -> Result<Stand, Refused>
     ensures out_after { IfErr result (λ e. out.new ≡ storedFrom s.now (stateAt start) out.old) }
 {
     let mut x = start;
-    // The same steps, of every piece.
+    // The same steps, of every piece, by the class of its first byte.
     loop {
         if !x.cut {
             x = walk_words(out, s, x);
         }
-        x = if is_comment(s, x.class, x.at) {
-            comment_step(s, x)?
-        } else if x.class == Class::CR {
-            return_step(out, s, x)?
-        } else if x.class == Class::QUOTE {
-            string_step(out, s, x)?
-        } else if x.class == Class::BACKTICK {
-            backtick_step(out, s, x)?
-        } else if x.class == Class::TICK {
-            char_sym_step(out, s, x)?
-        } else if x.class == Class::WIDE {
-            wide_step(out, s, x)?
-        } else if let Some(y) = quick_step(out, s, x) {
-            y
-        } else if x.class == Class::BLANK {
-            blank_step(s, x)
-        } else if x.class == Class::LF {
-            line_step(out, s, x)
-        } else if x.at < s.len() {
-            token_step(out, s, x)?
-        } else {
-            return Ok(x);
+        x = match x.class {
+            Class::SLASH => slash_step(out, s, x)?,
+            Class::QUOTE => string_step(out, s, x)?,
+            Class::WIDE => wide_step(out, s, x)?,
+            Class::TICK => char_sym_step(out, s, x)?,
+            Class::BACKTICK => backtick_step(out, s, x)?,
+            Class::CR => return_step(out, s, x)?,
+            Class::LF => line_step(out, s, x),
+            Class::BLANK => blank_step(s, x),
+            Class::DIGIT => digits_step(out, s, x)?,
+            Class::START | Class::DOLLAR | Class::KEYWORD => ascii_name_step(out, s, x)?,
+            Class::SIGN | Class::SIGN_KEYWORD | Class::BACKSLASH => ascii_run_step(out, s, x)?,
+            class if class.is_sign() => sign_step(out, s, x),
+            _ if x.at < s.len() => return Err(Refusal::NoPiece.at(x.at)),
+            _ => return Ok(x),
         };
     }
 }

@@ -1,15 +1,12 @@
 -- The lines that the program writes: of each length one for each first byte, and one for all.
-use Rattle.std.specs.Prelude.{ℕ, zero, suc, ◌+◌, ◌/◌, ◌%◌, if◌then◌else◌, nat_lt, List, [], ◌∷◌, ◌++◌, codes, decimal}
+use Rattle.std.specs.Prelude.{ℕ, zero, suc, ◌+◌, ◌/◌, ◌%◌, List, [], ◌∷◌, ◌++◌, codes, decimal}
 use Rattle.std.specs.List.{flat_map}
+use Rattle.puts.specs.Digits.{glyph}
 use Rattle.utf8_runs.specs.Sequences.{noCounts, walked, rows}
 
--- a digit in hexadecimal, in ASCII and lower case
-unfoldable pub glyph : ℕ → ℕ
-glyph d = if nat_lt d 10 then 48 + d else 87 + d
-
--- a byte in hexadecimal
+-- a byte in hexadecimal, in lower case
 unfoldable pub hexOf : ℕ → List ℕ
-hexOf a = glyph (a / 16) ∷ glyph (a % 16) ∷ []
+hexOf a = glyph (a / 16) 0x61 ∷ glyph (a % 16) 0x61 ∷ []
 
 abbrev pub spacedText : ℕ → List ℕ
 spacedText count = 0x20 ∷ decimal count

@@ -1,5 +1,5 @@
 -- The byte sequences that the program walks, and how it counts.
-use Rattle.std.specs.Prelude.{ℕ, zero, suc, ◌+◌, ◌/◌, ◌%◌, ◌^◌, cond, List, [], ◌∷◌, take, ◌==◌, nat_le, nat_lt, slice_index, slice_set}
+use Rattle.std.specs.Prelude.{ℕ, zero, suc, ◌+◌, ◌/◌, ◌%◌, ◌^◌, if◌then◌else◌, List, [], ◌∷◌, take, ◌==◌, nat_le, nat_lt, slice_index, slice_set}
 use Rattle.chars.specs.computed.Valid.{validPrefix}
 
 abbrev pub edges : List ℕ
@@ -8,13 +8,13 @@ edges = 0x7F ∷ 0x80 ∷ 0xBF ∷ 0xC0 ∷ []
 -- the sequence of number k that begins with a, of which the first n bytes count
 unfoldable pub bytesOf : ℕ → ℕ → ℕ → List ℕ
 bytesOf n a k =
-    cond (nat_le n 2) (a ∷ k % 256 ∷ 0 ∷ 0 ∷ [])
-    (cond (n == 3) (a ∷ k / 256 % 256 ∷ k % 256 ∷ 0 ∷ [])
-    (a ∷ k / 16 % 256 ∷ slice_index edges (k / 4 % 4) ∷ slice_index edges (k % 4) ∷ []))
+    if nat_le n 2 then a ∷ k % 256 ∷ 0 ∷ 0 ∷ []
+    else if n == 3 then a ∷ k / 256 % 256 ∷ k % 256 ∷ 0 ∷ []
+    else a ∷ k / 16 % 256 ∷ slice_index edges (k / 4 % 4) ∷ slice_index edges (k % 4) ∷ []
 
 -- one more at the answer's place
 unfoldable pub tallied : List ℕ → ℕ → List ℕ
-tallied counts answer = cond (nat_lt answer 5) (slice_set counts answer ((slice_index counts answer + 1) % 2 ^ 32)) counts
+tallied counts answer = if nat_lt answer 5 then slice_set counts answer ((slice_index counts answer + 1) % 2 ^ 32) else counts
 
 -- the answers for the first `tails` sequences that begin with a counted
 unfoldable pub walked : ℕ → ℕ → ℕ → List ℕ → List ℕ

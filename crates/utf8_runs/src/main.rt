@@ -4,12 +4,12 @@
 // --summary made of Rust's std::str::from_utf8.
 #![tactic(auto)]
 
-ghost use Rattle.std.specs.Prelude.{◌≡◌, ◌≤◌, ◌<◌, length};
+ghost use Rattle.std.specs.Prelude.{◌≡◌, ◌≤◌, length};
 ghost use Rattle.puts.specs.Puts.{Puts};
 ghost use Rattle.utf8_runs.specs.Sequences.{bytesOf, tallied, walked};
-ghost use Rattle.utf8_runs.specs.Rows.{countsText, glyph, hexOf, rowText, rowsText};
+ghost use Rattle.utf8_runs.specs.Rows.{countsText, hexOf, rowText, rowsText};
 
-use puts::{put_number, put_spaced};
+use puts::{hex_digit, put_number, put_spaced};
 use std::alloc::AllocError;
 use std::io;
 
@@ -61,20 +61,12 @@ fn walk(n: usize, a: u8, tails: u32, counts: &mut [u32; 5], all: &mut [u32; 5])
     }
 }
 
-// A digit in hexadecimal, in lower case.
-#[tactic(auto, unfolding(crate::specs::Rows::glyph))]
-fn hex_digit(d: u8) -> u8
-    requires { d < 16 }
-    ensures { result ≡ glyph d }
-{
-    if d < 10 { b'0' + d } else { b'a' - 10 + d }
-}
-
+// A byte in hexadecimal, in lower case.
 fn hex_of(a: u8) -> [u8; 2]
     ensures value { result ≡ hexOf a }
     ensures size { 2 ≡ length result }
 {
-    [hex_digit(a / 16), hex_digit(a % 16)]
+    [hex_digit(a / 16, b'a'), hex_digit(a % 16, b'a')]
 }
 
 // Puts the counts behind a text, and ends the line.

@@ -1,12 +1,7 @@
 -- Reading undoes writing, and writing undoes reading. What is known of a width follows from what is known of its half, so that one law, `double`,
 -- goes from one byte to two, to four and to eight.
-use Prim.Native.Nat.{ℕ, ◌+◌, ◌*◌, ◌/◌, ◌%◌, ◌≤◌, ◌<◌}
-use mathlib.Core.Path.{◌≡◌, refl, sym, ◌∙◌, ap}
-use mathlib.Core.List.{List, [], ◌∷◌, ◌++◌, append_assoc}
-use lib.ListN.{length, take, drop, length-append, length-drop}
-use lib.Seq.{get_or-drop, take-add, drop_at}
-use native.Mathlib.Nat.{add-zero, zero-add, add_assoc, mod-mod, mod-lt, mod-eq_of_lt, mod-add-div', div-eq_of_lt, div-lt_iff_lt-mul, div-div-eq-div-mul, add-mul-mod_self_right, add-mul-div_right, mul-le-mul_right}
-use native.Mathlib.Omega.{arith}
+use Rattle.std.proofs.Common.{ℕ, ◌+◌, ◌*◌, ◌/◌, ◌%◌, ◌≤◌, ◌<◌, ◌≡◌, refl, sym, ◌∙◌, ap, List, [], ◌∷◌, ◌++◌, append_assoc, length, take, drop, length-append, length-drop, get_or-drop, take-add, drop_at, add-zero, zero-add, add_assoc, mod-lt, mod-eq_of_lt, div-lt_iff_lt-mul, mul-le-mul_right, arith}
+use Rattle.std.proofs.Math.Nat.{mod-mod, mod-add-div', div-eq_of_lt, add-mul-mod_self_right, add-mul-div_right}
 use Rattle.words.specs.Words.{le2, le4, le8, oneAt, twoAt, fourAt, eightAt}
 use Rattle.words.specs.Joins.{Bytes, Joins}
 
@@ -99,11 +94,7 @@ two-halves x = rw mod-mod
 
 pub four-halves : (x : ℕ) → le4 x ≡ le2 (x % 65536) ++ le2 (x / 65536)
 unfolding le4 le2
-four-halves x =
-    let a : x % 65536 % 256 ≡ x % 256 = omega arith in
-    let b : x % 65536 / 256 ≡ x / 256 % 256 = omega (arith, div-div-eq-div-mul x 256 256) in
-    let c : x / 65536 / 256 ≡ x / 16777216 = div-div-eq-div-mul x 65536 256 in
-    rw (a, b, c, mod-mod)
+four-halves x = grind arith
 
 eight-halves : (x : ℕ) → le8 x ≡ le4 (x % 4294967296) ++ le4 (x / 4294967296)
 unfolding le8
@@ -147,9 +138,6 @@ two-drop = place _ _ _ _ twos
 pub four-drop : (l : List ℕ) (i : ℕ) → fourAt l i ≡ fourAt (drop i l) 0
 four-drop = place _ _ _ _ fours
 
-pub eight-drop : (l : List ℕ) (i : ℕ) → eightAt l i ≡ eightAt (drop i l) 0
-eight-drop = place _ _ _ _ eights
-
 pub two-le2 : (x : ℕ) (l : List ℕ) → x < 65536 → twoAt (le2 x ++ l) 0 ≡ x
 two-le2 = twos.back
 
@@ -158,9 +146,6 @@ four-le4 = fours.back
 
 pub eight-le8 : (x : ℕ) (l : List ℕ) → x < 18446744073709551616 → eightAt (le8 x ++ l) 0 ≡ x
 eight-le8 = eights.back
-
-pub le2-two : (l : List ℕ) → Bytes l → 2 ≤ length l → le2 (twoAt l 0) ≡ take 2 l
-le2-two = twos.forth
 
 pub le4-four : (l : List ℕ) → Bytes l → 4 ≤ length l → le4 (fourAt l 0) ≡ take 4 l
 le4-four = fours.forth
@@ -173,7 +158,7 @@ joins = record {
   two-le2 = two-le2;
   four-le4 = four-le4;
   eight-le8 = eight-le8;
-  le2-two = le2-two;
+  le2-two = twos.forth;
   le4-four = le4-four;
   le8-eight = le8-eight;
   two-fits = two-fits;
@@ -181,5 +166,5 @@ joins = record {
   eight-fits = eight-fits;
   two-drop = two-drop;
   four-drop = four-drop;
-  eight-drop = eight-drop;
+  eight-drop = place _ _ _ _ eights;
 }

@@ -1,7 +1,6 @@
 -- What is read: bytes from a place on, and the number that they make.
-use Rattle.std.proofs.Common.{◌≡◌, ℕ, ◌+◌, ◌*◌, ◌<◌, ◌≤◌, List, length, get_or, map, take, drop, sym, ◌∙◌, ap, add-zero, add_assoc, arith}
+use Rattle.std.proofs.Common.{◌≡◌, ℕ, ◌+◌, ◌*◌, ◌<◌, ◌≤◌, List, length, get_or, map, take, drop, ◌∙◌, ap, add-zero, add_assoc, arith, get_or-take, get_or-drop}
 use Rattle.std.proofs.Math.Seq.{length-take-le}
-use Rattle.std.proofs.lemmas.List.{get_or-take, get_or-drop}
 use Rattle.std.proofs.lemmas.List.FromFn.{fill_by_all}
 use Rattle.std.specs.Int.{w16, w32, w64, from_le_bytes}
 use Rattle.std.specs.List.{range_with_len}
@@ -29,20 +28,14 @@ two-le : (bytes : List ℕ) (at : ℕ) → from_le_bytes w16 (bytesAt bytes at 2
 unfolding twoAt
 two-le bytes at = ap (λ i. oneAt bytes i + oneAt bytes (at + 1) * 256) (add-zero at)
 
--- four bytes as two twos, eight as two fours
-four-parts : (a b c d : ℕ) → a + b * 256 + c * 65536 + d * 16777216 ≡ a + b * 256 + (c + d * 256) * 65536
-four-parts a b c d = omega arith
-
+-- eight bytes as two fours
 eight-parts : (l a b c d : ℕ) → l + a * 4294967296 + b * 1099511627776 + c * 281474976710656 + d * 72057594037927936
     ≡ l + (a + b * 256 + (c + d * 256) * 65536) * 4294967296
 eight-parts l a b c d = omega arith
 
 four-le : (bytes : List ℕ) (at : ℕ) → from_le_bytes w32 (bytesAt bytes at 4) ≡ fourAt bytes at
 unfolding fourAt twoAt
-four-le bytes at =
-    four-parts (oneAt bytes (at + 0)) (oneAt bytes (at + 1)) (oneAt bytes (at + 2)) (oneAt bytes (at + 3))
-    ∙ ap (λ i. oneAt bytes i + oneAt bytes (at + 1) * 256 + (oneAt bytes (at + 2) + oneAt bytes (at + 3) * 256) * 65536) (add-zero at)
-    ∙ ap (λ i. twoAt bytes at + (oneAt bytes (at + 2) + oneAt bytes i * 256) * 65536) (sym (add_assoc at 2 1))
+four-le bytes at = grind arith
 
 upper-four : (l : List ℕ) (i : ℕ) → oneAt l (i + 4) + oneAt l (i + 5) * 256 + (oneAt l (i + 6) + oneAt l (i + 7) * 256) * 65536 ≡ fourAt l (i + 4)
 unfolding fourAt twoAt

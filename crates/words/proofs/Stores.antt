@@ -1,11 +1,6 @@
 -- Stores that follow one another are one store; what each writer of src/write.rt stores is one list.
-use Prim.Native.Nat.{ℕ, suc, ◌≤◌, ◌+◌, ◌-◌, ◌*◌, ◌/◌, ◌%◌}
-use mathlib.Core.Path.{◌≡◌, refl, sym, ◌∙◌, ap}
-use mathlib.Core.List.{List, [], ◌∷◌, ◌++◌, append-nil, append_assoc}
-use lib.ListN.{length, set, take, drop}
-use lib.Seq.{sets, sets-eq, length-take-le, drop-drop, drop-length}
-use native.Mathlib.Nat.{add-zero, zero-add}
-use native.Mathlib.Omega.{arith}
+use Rattle.std.proofs.Common.{ℕ, suc, ◌≤◌, ◌+◌, ◌-◌, ◌*◌, ◌/◌, ◌%◌, ◌≡◌, refl, sym, ◌∙◌, ap, List, [], ◌∷◌, ◌++◌, append-nil, append_assoc, length, set, take, drop, length-take-le, drop-drop, add-zero, zero-add, arith}
+use Rattle.std.proofs.Math.Seq.{sets, sets-eq, drop-length}
 use Rattle.std.specs.Int.{w64, to_le_bytes}
 use Rattle.words.specs.Words.{le4, le8, blockOf}
 
@@ -41,21 +36,9 @@ length-four x = refl
 -- ---- numbers
 
 -- a multiple of 4294967296 is in none of the lower four bytes
-low-byte : (q r : ℕ) → (r + q * 4294967296) % 256 ≡ r % 256
-low-byte q r = omega arith
-
-second-byte : (q r : ℕ) → (r + q * 4294967296) / 256 % 256 ≡ r / 256 % 256
-second-byte q r = let e : (r + q * 4294967296) / 256 ≡ r / 256 + q * 16777216 = omega arith in rw e (omega arith)
-
-third-byte : (q r : ℕ) → (r + q * 4294967296) / 65536 % 256 ≡ r / 65536 % 256
-third-byte q r = let e : (r + q * 4294967296) / 65536 ≡ r / 65536 + q * 65536 = omega arith in rw e (omega arith)
-
-fourth-byte : (q r : ℕ) → (r + q * 4294967296) / 16777216 % 256 ≡ r / 16777216 % 256
-fourth-byte q r = let e : (r + q * 4294967296) / 16777216 ≡ r / 16777216 + q * 256 = omega arith in rw e (omega arith)
-
 lower-four : (q r : ℕ) → le4 (r + q * 4294967296) ≡ le4 r
 unfolding le4
-lower-four q r = rw (low-byte q r, second-byte q r, third-byte q r, fourth-byte q r)
+lower-four q r = grind arith
 
 pub low-four : (v : ℕ) → le4 (v % 4294967296) ≡ le4 v
 low-four v =

@@ -1,10 +1,10 @@
 -- What a reader may rely on: reading undoes writing, and writing undoes reading. The contract of `read::eight` asks for it.
-use Rattle.std.specs.Prelude.{ℕ, ◌≤◌, ◌<◌, ◌≡◌, List, ◌++◌, get_or, length, take, drop}
+use Rattle.std.specs.Prelude.{ℕ, ◌≤◌, ◌<◌, ◌≡◌, List, ◌++◌, slice_index, length, take, drop}
 use Rattle.words.specs.Words.{le2, le4, le8, twoAt, fourAt, eightAt}
 
 -- Every number of the list is a byte. Past the end stands 0, so that no place need be shown to be inside: so it is known of a lent slice too.
 abbrev pub Bytes : List ℕ → Type 0
-Bytes l = (i : ℕ) → get_or l i 0 < 256
+Bytes l = (i : ℕ) → slice_index l i < 256
 
 pub record Joins : Type 0 where
   -- a number that fits its bytes is read back as it was written, whatever follows

@@ -1,5 +1,5 @@
 -- Numbers as bytes: the bytes of a number, the number at a place of bytes, the answer block, and what a host is told.
-use Rattle.std.specs.Prelude.{ℕ, ◌+◌, ◌*◌, ◌/◌, ◌%◌, List, [], ◌∷◌, ◌++◌, get_or}
+use Rattle.std.specs.Prelude.{ℕ, ◌+◌, ◌*◌, ◌/◌, ◌%◌, List, [], ◌∷◌, ◌++◌, slice_index}
 
 -- ---- the bytes of a number
 
@@ -17,7 +17,7 @@ le8 x = le4 (x % 4294967296) ++ le4 (x / 4294967296)
 
 -- Little-endian: the number of one, two, four and eight bytes from a place on. A byte past the end counts as 0.
 abbrev pub oneAt : List ℕ → ℕ → ℕ
-oneAt bytes at = get_or bytes at 0
+oneAt bytes at = slice_index bytes at
 
 unfoldable pub twoAt : List ℕ → ℕ → ℕ
 twoAt bytes at = oneAt bytes at + oneAt bytes (at + 1) * 256

@@ -21,7 +21,7 @@ pub fn put8(out: &mut [u8], w: usize, x: u64)
     put4(out, w + 4, (x >> 32) as usize);
 }
 
-/// The first n bytes of a buffer into another.
+/// The first n bytes of a buffer into another. The count stands beside them, since both are lent and may be longer.
 #[tactic(auto, using(crate::proofs::Stores::copied))]
 pub fn copy(out: &mut [u8], src: &[u8], n: usize)
     requires room { n ≤ length out.old }
@@ -55,4 +55,14 @@ pub fn put_block(out: &mut [u8], number: usize, place: usize, count: usize, byte
     ensures { out.new ≡ blockOf number place count bytes }
 {
     put_numbers(out, 0, number, place, count, bytes);
+}
+
+/// The block of a refusal: its number and its place, and zeros. Gives the number.
+pub fn put_refused(answer: &mut [u8], number: u32, place: usize) -> u32
+    requires { length answer.old ≡ 16 }
+    ensures value { result ≡ number }
+    ensures answer_after { answer.new ≡ blockOf number place 0 0 }
+{
+    put_block(answer, number as usize, place, 0, 0);
+    number
 }

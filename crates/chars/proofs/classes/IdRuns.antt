@@ -1,12 +1,6 @@
 -- Runs of id characters: first those of ASCII, then the others.
-use Prim.Native.Nat.{ℕ, zero, suc, ◌+◌, ◌-◌, ◌≤◌, ◌<◌}
-use mathlib.Core.Path.{◌≡◌, refl, sym, ◌∙◌, ap}
-use mathlib.Core.Bool.{Bool, true, false, ◌&&◌}
-use mathlib.Core.List.{List, [], ◌∷◌}
-use lib.ListN.{length, get_or}
-use lib.Dec.{ltb}
-use native.Mathlib.Omega.{arith}
-use borrow.Author.Tests.{ltb-true, ltb-false, lt-ltb, le-ltb}
+use Rattle.std.proofs.Common.{ℕ, zero, suc, ◌+◌, ◌-◌, ◌≤◌, ◌<◌, ◌≡◌, refl, sym, ◌∙◌, ap, Bool, true, false, ◌&&◌, List, [], ◌∷◌, length, get_or, ltb, ⊎_elim, arith, ltb-true, lt-ltb, le-ltb}
+use Rattle.std.proofs.lemmas.Bool.{cases_Bool, cases_lt}
 use Rattle.chars.specs.paper.Classes.{isIdChar, alphabetic, alphaNotLetter, nd}
 use Rattle.chars.specs.paper.Text.{Text, from, place, idChar}
 use Rattle.chars.specs.code.Text.{charEnd}
@@ -23,11 +17,8 @@ use Rattle.chars.proofs.text.Places.{head-byte, at-end, next-on, ascii-code, asc
 pub run-widen : (p q : Text → Bool) → ((t : Text) → p t ≡ true → q t ≡ true) → (t : Text) → afterRun q (afterRun p t) ≡ afterRun q t
 unfolding afterRun
 run-widen p q h [] = refl
-run-widen p q h (c ∷ t) = go (p (c ∷ t)) refl (run-widen p q h t)
-  where
-    go : (b : Bool) → p (c ∷ t) ≡ b → afterRun q (afterRun p t) ≡ afterRun q t → afterRun q (afterRun p (c ∷ t)) ≡ afterRun q (c ∷ t)
-    go true e r = rw (e, h (c ∷ t) e, afterRun) r
-    go false e r = rw (e, afterRun)
+run-widen p q h (c ∷ t) =
+    ⊎_elim (λ (e : p (c ∷ t) ≡ true). rw (e, h (c ∷ t) e, afterRun) (run-widen p q h t)) (λ (e : p (c ∷ t) ≡ false). rw (e, afterRun)) (cases_Bool (p (c ∷ t)))
 
 -- where the test fails at once nothing is passed
 pub run-stays : (p : Text → Bool) (t : Text) → p t ≡ false → afterRun p t ≡ t
@@ -38,11 +29,7 @@ run-stays p (c ∷ t) e = rw (e, afterRun)
 run-left : (p : Text → Bool) (t : Text) → Suffix (afterRun p t) t
 unfolding afterRun
 run-left p [] = suffix-refl []
-run-left p (c ∷ t) = go (p (c ∷ t)) refl (run-left p t)
-  where
-    go : (b : Bool) → p (c ∷ t) ≡ b → Suffix (afterRun p t) t → Suffix (afterRun p (c ∷ t)) (c ∷ t)
-    go true e r = rw (e, afterRun) (suffix-cons c r)
-    go false e r = rw (e, afterRun) (suffix-refl (c ∷ t))
+run-left p (c ∷ t) = ⊎_elim (λ (e : p (c ∷ t) ≡ true). rw (e, afterRun) (suffix-cons c (run-left p t))) (λ (e : p (c ∷ t) ≡ false). rw (e, afterRun) (suffix-refl (c ∷ t))) (cases_Bool (p (c ∷ t)))
 
 module _ (p : Text → Bool) (s : List ℕ) where
   -- the text where a run ends is what it left
@@ -50,19 +37,21 @@ module _ (p : Text → Bool) (s : List ℕ) where
   run-text i = text-place s (afterRun p (from s i)) (text-suffix s (afterRun p (from s i)) (from s i) (run-left p (from s i)) (i, refl))
 
   -- and it ends within the script, not before its start
-  run-within : (n i : ℕ) → length s - i ≤ n → i ≤ length s
-      → (i ≤ place (length s) (afterRun p (from s i))) × (place (length s) (afterRun p (from s i)) ≤ length s)
+  abbrev Ends : ℕ → Type 0
+  Ends i = (i ≤ place (length s) (afterRun p (from s i))) × (place (length s) (afterRun p (from s i)) ≤ length s)
+
+  run-within : (n i : ℕ) → length s - i ≤ n → i ≤ length s → Ends i
   run-within zero i m h = let e = run-end p s i (omega arith) in (omega arith, omega arith)
-  run-within (suc n) i m h = go (ltb i (length s)) refl (p (from s i)) refl (run-within n (charEnd s i))
+  run-within (suc n) i m h = ⊎_elim (λ l. ⊎_elim (on l (run-within n (charEnd s i))) (stop l) (cases_Bool (p (from s i)))) end (cases_lt i (length s))
     where
-      go : (b : Bool) → ltb i (length s) ≡ b → (d : Bool) → p (from s i) ≡ d
-          → (length s - charEnd s i ≤ n → charEnd s i ≤ length s
-          → (charEnd s i ≤ place (length s) (afterRun p (from s (charEnd s i)))) × (place (length s) (afterRun p (from s (charEnd s i))) ≤ length s))
-          → (i ≤ place (length s) (afterRun p (from s i))) × (place (length s) (afterRun p (from s i)) ≤ length s)
-      go false e d f r = let k = ltb-false i (length s) e in let q = run-end p s i k in (omega arith, omega arith)
-      go true e false f r = let q = run-stop p s i (ltb-true i (length s) e) f in (omega arith, omega arith)
-      go true e true f r =
-          let l = ltb-true i (length s) e in
+      end : length s ≤ i → Ends i
+      end k = let q = run-end p s i k in (omega arith, omega arith)
+
+      stop : i < length s → p (from s i) ≡ false → Ends i
+      stop l f = let q = run-stop p s i l f in (omega arith, omega arith)
+
+      on : i < length s → (length s - charEnd s i ≤ n → charEnd s i ≤ length s → Ends (charEnd s i)) → p (from s i) ≡ true → Ends i
+      on l r f =
           let a = next-on s i l in
           let b = r (omega arith) a.1 in
           let q = ap (place (length s)) (run-next p s i l f) in
@@ -77,11 +66,7 @@ module _ (p : Text → Bool) (s : List ℕ) where
 pub run-done : (p : Text → Bool) → p [] ≡ false → (t : Text) → p (afterRun p t) ≡ false
 unfolding afterRun
 run-done p z [] = z
-run-done p z (c ∷ t) = go (p (c ∷ t)) refl (run-done p z t)
-  where
-    go : (b : Bool) → p (c ∷ t) ≡ b → p (afterRun p t) ≡ false → p (afterRun p (c ∷ t)) ≡ false
-    go true e r = rw (e, afterRun) r
-    go false e r = rw (e, afterRun) e
+run-done p z (c ∷ t) = ⊎_elim (λ (e : p (c ∷ t) ≡ true). rw (e, afterRun) (run-done p z t)) (λ (e : p (c ∷ t) ≡ false). rw (e, afterRun) e) (cases_Bool (p (c ∷ t)))
 
 -- ---- id characters of ASCII
 
@@ -126,11 +111,9 @@ module _ (s : List ℕ) (i r : ℕ) (h : i ≤ length s) (e : r ≡ place (lengt
       no = sym (head-byte isAsciiId ascii-id s r) ∙ ap asciiIdChar (run-place asciiIdChar s i r h e).2 ∙ run-done asciiIdChar refl (from s i)
 
       stays : afterRun idChar (from s r) ≡ from s r
-      stays = go (ltb r (length s)) refl
+      stays = ⊎_elim inner (λ k. run-stays idChar (from s r) (ap idChar (at-end s r k))) (cases_lt r (length s))
         where
-          go : (b : Bool) → ltb r (length s) ≡ b → afterRun idChar (from s r) ≡ from s r
-          go true q =
-              let k = ltb-true r (length s) q in
+          inner : r < length s → afterRun idChar (from s r) ≡ from s r
+          inner k =
               let m : isIdChar (get_or s r 0) ≡ false = rw (lt-ltb (get_or s r 0) 0x80 l) at no in
               run-stays idChar (from s r) (head-at isIdChar s r k ∙ ap isIdChar (ascii-code s r k l) ∙ m)
-          go false q = run-stays idChar (from s r) (ap idChar (at-end s r (ltb-false r (length s) q)))

@@ -1,15 +1,12 @@
 -- The character classes: what excludes what, each computed at the few characters that the rules name.
-use Prim.Native.Nat.{ℕ, ◌^◌, ◌≤◌, ◌<◌}
+use Rattle.std.proofs.Common.{ℕ, ◌^◌, ◌≤◌, ◌<◌, ◌≡◌, refl, sym, ap, ◌∙◌, Bool, true, false, cond, not, ◌&&◌, ◌||◌, ⊎_elim, arith, eqb-true, le-leb, lt-ltb, le-ltb, ne_eqb, eqb, ltb}
+use Rattle.std.proofs.lemmas.Bool.{cases_lt, false_from_ne_true, or_left, or_right, not-true, lt-leb}
 use Prim.Native.String.{String}
-use mathlib.Core.Path.{◌≡◌, refl, sym, ap, ◌∙◌}
-use mathlib.Core.Bool.{Bool, true, false, cond, not, ◌&&◌, ◌||◌, and-true, and-false, or-true, or-false}
-use native.Mathlib.Omega.{arith}
-use borrow.Author.Tests.{not-true, eqb-true, ltb-true, ltb-false, le-leb, lt-leb, le-ltb, ne_eqb}
-use lib.Dec.{eqb, ltb}
+use Rattle.std.proofs.Math.Bool.{and-true, and-false, or-false}
 use Rattle.chars.specs.paper.Quoted.{between, codes, oneOf}
 use Rattle.chars.specs.paper.Tables.{alphabeticTable, lowercaseTable, uppercaseTable, ndTable, alphaNotLetterTable}
 use Rattle.chars.specs.paper.Classes.{isIdStart, isIdChar, opSigns, isOpSign, isPrintable, alphabetic, lowercase, uppercase, nd, alphaNotLetter}
-use Rattle.chars.proofs.classes.Ranges.{between-in, between-out, clear-out, covered-in, only-first}
+use Rattle.chars.proofs.classes.Ranges.{between-out, clear-out, covered-in, only-first}
 use Rattle.chars.specs.promises.Codes.{every}
 use Rattle.chars.specs.promises.Classes.{lowStart, lowId}
 use Rattle.chars.proofs.Carry.{carry, each-same}
@@ -61,11 +58,7 @@ low-id c l =
 
 -- the same of a byte
 below : (p q : ℕ → Bool) → ((c : ℕ) → c < 0x80 → p c ≡ q c) → (b : ℕ) → ltb b 0x80 && p b ≡ ltb b 0x80 && q b
-below p q h b = go (ltb b 0x80) refl
-  where
-    go : (x : Bool) → ltb b 0x80 ≡ x → x && p b ≡ x && q b
-    go true e = h b (ltb-true b 0x80 e)
-    go false e = refl
+below p q h b = ⊎_elim (λ l. rw (lt-ltb b 0x80 l) (h b l)) (λ l. rw (le-ltb b 0x80 l)) (cases_lt b 0x80)
 
 pub byte-start : (b : ℕ) → ltb b 0x80 && isIdStart b ≡ ltb b 0x80 && lowStart b
 byte-start b = below isIdStart lowStart low-start b
@@ -80,11 +73,16 @@ id-byte b h = byte-id b ∙ each-same (λ x. ltb x 0x80 && lowId x) (λ x. is_as
 -- quoted characters of which none is in a class: ASCII by q, and the double arrow
 quoted-not : (p q : ℕ → Bool) → ((c : ℕ) → c < 0x80 → p c ≡ q c) → p 0x21D2 ≡ false → (t : String)
     → every (λ x. cond (ltb x 0x80) (not (q x)) (eqb x 0x21D2)) (codes t) ≡ true → (c : ℕ) → oneOf t c ≡ true → not (p c) ≡ true
-quoted-not p q h a t k c e = go (ltb c 0x80) refl (carry (λ x. cond (ltb x 0x80) (not (q x)) (eqb x 0x21D2)) (codes t) c k e)
+quoted-not p q h a t k c e = ⊎_elim low past (cases_lt c 0x80)
   where
-    go : (x : Bool) → ltb c 0x80 ≡ x → cond x (not (q c)) (eqb c 0x21D2) ≡ true → not (p c) ≡ true
-    go true f g = ap not (h c (ltb-true c 0x80 f)) ∙ g
-    go false f g = ap (λ z. not (p z)) (eqb-true c 0x21D2 g) ∙ ap not a
+    found : cond (ltb c 0x80) (not (q c)) (eqb c 0x21D2) ≡ true
+    found = carry (λ x. cond (ltb x 0x80) (not (q x)) (eqb x 0x21D2)) (codes t) c k e
+
+    low : c < 0x80 → not (p c) ≡ true
+    low l = ap not (h c l) ∙ rw (lt-ltb c 0x80 l) at found
+
+    past : 0x80 ≤ c → not (p c) ≡ true
+    past l = let f = rw (le-ltb c 0x80 l) at found in ap (λ z. not (p z)) (eqb-true c 0x21D2 f) ∙ ap not a
 
 -- ---- operator signs are neither
 
@@ -117,9 +115,7 @@ roman-no-id = refl
 module _ (c : ℕ) (from : 0x24B6 ≤ c) (to : c ≤ 0x24E9) where
   pub circled-no-start : isIdStart c ≡ false
   unfolding isIdStart
-  circled-no-start =
-      let e : between 0x24B6 0x24E9 c ≡ true = between-in 0x24B6 0x24E9 c from to in
-      rw (le-leb c 0xFFFF (omega arith), e)
+  circled-no-start = grind arith
 
   circled-mark : alphaNotLetter c ≡ true
   unfolding alphaNotLetter
@@ -145,26 +141,16 @@ module _ (c : ℕ) (h : 0x80 ≤ c) where
       eqb-true c 0x21D2 (rw (le-ltb c 0x80 h) at k)
 
   pub wide-none : (c ≡ 0x21D2 → ⊥) → isOpSign c ≡ false
-  wide-none n = go (isOpSign c) refl
-    where
-      go : (b : Bool) → isOpSign c ≡ b → isOpSign c ≡ false
-      go true e = absurd (n (wide-sign e))
-      go false e = e
+  wide-none n = false_from_ne_true (isOpSign c) (λ e. n (wide-sign e))
 
   -- no `$` or `_` is left, so up to U+FFFF the tables decide
   pub wide-start : c ≤ 0xFFFF → (0x24B6 ≤ c → 0x24E9 < c) → isIdStart c ≡ lowercase c || uppercase c
   unfolding isIdStart
-  wide-start l out =
-      let e : between 0x24B6 0x24E9 c ≡ false = between-out 0x24B6 0x24E9 c out in
-      let a : (c ≡ 0x24 → ⊥) = λ e. omega arith in
-      let b : (c ≡ 0x5F → ⊥) = λ e. omega arith in
-      rw (le-leb c 0xFFFF l, e, ne_eqb c 0x24 a, ne_eqb c 0x5F b) (or-false (lowercase c || uppercase c))
+  wide-start l out = grind arith
 
   pub wide-id : c ≤ 0xFFFF → isIdChar c ≡ alphabetic c && not (alphaNotLetter c) || nd c
   unfolding isIdChar
-  wide-id l =
-      let a : (c ≡ 0x24 → ⊥) = λ e. omega arith in
-      rw (le-leb c 0xFFFF l, ne_eqb c 0x24 a)
+  wide-id l = grind arith
 
 -- ---- above U+FFFF no class has a code
 
@@ -201,14 +187,9 @@ mark-range c l h = clear-out 0x0410 0x044F c l h alphaNotLetterTable refl
 
 module _ (c : ℕ) (from : 0x0410 ≤ c) (to : c ≤ 0x044F) where
   pub russian-start : isIdStart c ≡ true
-  russian-start = go (ltb c 0x0430) refl
-    where
-      either : lowercase c || uppercase c ≡ true → isIdStart c ≡ true
-      either h = wide-start c (omega arith) (omega arith) (λ m. absurd (omega arith)) ∙ h
-
-      go : (b : Bool) → ltb c 0x0430 ≡ b → isIdStart c ≡ true
-      go true q = let l = ltb-true c 0x0430 q in either (ap (λ z. lowercase c || z) (capital-range c from (omega arith)) ∙ or-true (lowercase c))
-      go false q = either (ap (λ z. z || uppercase c) (small-range c (ltb-false c 0x0430 q) to))
+  russian-start =
+      wide-start c (omega arith) (omega arith) (λ m. absurd (omega arith))
+      ∙ ⊎_elim (λ l. or_right (lowercase c) (uppercase c) (capital-range c from (omega arith))) (λ l. or_left (lowercase c) (uppercase c) (small-range c l to)) (cases_lt c 0x0430)
 
   pub russian-id : isIdChar c ≡ true
   russian-id = wide-id c (omega arith) (omega arith) ∙ rw (letter-range c from to, mark-range c from to)

@@ -1,8 +1,6 @@
 -- The masks by blocks say of every code up to U+FFFF what the range tables say: both as the bits of one number, compared once for each class.
-use Rattle.std.proofs.Common.{◌≡◌, ℕ, zero, suc, ◌+◌, ◌-◌, ◌*◌, ◌/◌, ◌%◌, ◌^◌, ◌<◌, ◌≤◌, min, max, Bool, true, false, cond, not, ◌&&◌, ◌||◌, List, [], ◌∷◌, length, get_or, eqb, leb, ltb, refl, sym, ap, ◌∙◌, arith}
-use mathlib.Core.Bool.{or-false, and-true, and-false}
-use borrow.Author.Tests.{eqb-true, eqb-false, ltb-true, leb-true, leb-false, le-leb}
-use Rattle.std.specs.Prelude.{bit_and, bit_or, bit_xor}
+use Rattle.std.proofs.Common.{◌≡◌, ℕ, zero, suc, ◌+◌, ◌-◌, ◌*◌, ◌/◌, ◌%◌, ◌^◌, ◌<◌, ◌≤◌, min, max, Bool, true, false, cond, not, ◌&&◌, ◌||◌, List, [], ◌∷◌, length, get_or, eqb, leb, ltb, refl, sym, ap, ◌∙◌, ⊎_elim, arith, eq-eqb, ne_eqb, ltb-true, le-leb, bit_and, bit_or, bit_xor}
+use Rattle.std.proofs.lemmas.Bool.{cases_lt, cases_eq, lt-leb}
 use Rattle.std.specs.Int.{bit_at}
 use Rattle.std.proofs.lemmas.Nat.Bits.{bit_at-zero, bit_at_and, bit_at_or, bit_at_xor, bit_at-pow_same, bit_at-pow_other, bit_at_mask_inside, bit_at_mask_below, bit_at_mask_above, bit_at_cat_low, bit_at_cat_high}
 use Rattle.chars.specs.paper.Quoted.{between}
@@ -11,7 +9,7 @@ use Rattle.chars.specs.paper.Tables.{alphabeticTable, lowercaseTable, uppercaseT
 use Rattle.chars.specs.paper.Classes.{isIdStart, isIdChar, alphabetic, lowercase, uppercase, nd, alphaNotLetter}
 use Rattle.chars.specs.code.Masks.{inMasks}
 use Rattle.chars.specs.declared.masks.TheConstants.{BLOCKS, ID_CHARS, ID_STARTS}
-use Rattle.chars.proofs.Bools.{clash, and-both}
+use Rattle.chars.proofs.Bools.{and-both}
 
 -- ---- the codes of ranges as the bits of one number
 
@@ -27,32 +25,20 @@ abbrev without : ℕ → ℕ → ℕ
 without x y = bit_xor x (bit_and x y)
 
 either-bit : (p q : Bool) → max (bitOf p) (bitOf q) ≡ bitOf (p || q)
-either-bit true true = refl
-either-bit true false = refl
-either-bit false true = refl
-either-bit false false = refl
+either-bit p q = grind arith
 
 less-bit : (p q : Bool) → (bitOf p + min (bitOf p) (bitOf q)) % 2 ≡ bitOf (p && not q)
-less-bit true true = refl
-less-bit true false = refl
-less-bit false true = refl
-less-bit false false = refl
+less-bit p q = grind arith
 
 module _ (c : ℕ) where
   range-bit : (a b : ℕ) → bit_at (2 ^ (b + 1) - 2 ^ a) c ≡ bitOf (between a b c)
-  range-bit a b = go (leb a c) refl (leb c b) refl
-    where
-      go : (p : Bool) → leb a c ≡ p → (q : Bool) → leb c b ≡ q → bit_at (2 ^ (b + 1) - 2 ^ a) c ≡ bitOf (p && q)
-      go false e q f = let l = leb-false a c e in bit_at_mask_below a (b + 1) c l
-      go true e true f = let l = leb-true a c e in let m = leb-true c b f in bit_at_mask_inside a (b + 1) c l (omega arith)
-      go true e false f = let m = leb-false c b f in bit_at_mask_above a (b + 1) c (omega arith)
+  range-bit a b =
+      ⊎_elim (λ l. bit_at_mask_below a (b + 1) c l ∙ rw (lt-leb a c l))
+      (λ l. ⊎_elim (λ m. bit_at_mask_above a (b + 1) c (omega arith) ∙ rw (le-leb a c l, lt-leb c b m)) (λ m. bit_at_mask_inside a (b + 1) c l (omega arith) ∙ rw (le-leb a c l, le-leb c b m)) (cases_lt b c))
+      (cases_lt c a)
 
   one-bit : (k : ℕ) → bit_at (2 ^ k) c ≡ bitOf (eqb c k)
-  one-bit k = go (eqb c k) refl
-    where
-      go : (p : Bool) → eqb c k ≡ p → bit_at (2 ^ k) c ≡ bitOf p
-      go true e = ap (bit_at (2 ^ k)) (eqb-true c k e) ∙ bit_at-pow_same k
-      go false e = bit_at-pow_other k c (eqb-false c k e)
+  one-bit k = ⊎_elim (λ e. ap (bit_at (2 ^ k)) e ∙ bit_at-pow_same k ∙ rw (eq-eqb c k e)) (λ n. bit_at-pow_other k c n ∙ rw (ne_eqb c k n)) (cases_eq c k)
 
   or-bit : (x y : ℕ) (p q : Bool) → bit_at x c ≡ bitOf p → bit_at y c ≡ bitOf q → bit_at (bit_or x y) c ≡ bitOf (p || q)
   or-bit x y p q e f = bit_at_or x y c ∙ ap (λ z. max z (bit_at y c)) e ∙ ap (max (bitOf p)) f ∙ either-bit p q
@@ -111,8 +97,7 @@ by-bits masks blocks c p e h q =
     ap (λ x. eqb x 1) (sym b ∙ ap (bit_at (joined masks blocks)) z ∙ q) ∙ one p
   where
     one : (p : Bool) → eqb (bitOf p) 1 ≡ p
-    one true = refl
-    one false = refl
+    one p = grind arith
 
 -- ---- the two classes
 
@@ -147,8 +132,7 @@ module _ (c : ℕ) (h : c ≤ 0xFFFF) where
       ∙ shape (eqb c 0x24) (p && not q || inRanges ndTable c) (leb c 0xFFFF) (le-leb c 0xFFFF h)
     where
       shape : (x y l : Bool) → l ≡ true → x || y ≡ (x || false) || l && y
-      shape x y true e = ap (λ z. z || y) (sym (or-false x))
-      shape x y false e = clash e
+      shape x y l e = grind (arith, e)
 
   pub start-masks : inMasks ID_STARTS BLOCKS c ≡ isIdStart c
   unfolding isIdStart lowercase uppercase startBits
@@ -163,9 +147,4 @@ module _ (c : ℕ) (h : c ≤ 0xFFFF) where
       ∙ shape (p || q) (eqb c 0x24) (eqb c 0x5F) (between 0x24B6 0x24E9 c) (leb c 0xFFFF) (le-leb c 0xFFFF h)
     where
       shape : (a b d x l : Bool) → l ≡ true → (a || (b || d)) && not (x || false) ≡ (l && not x) && (a || (b || (d || false)))
-      shape a b d x true e = go x
-        where
-          go : (x : Bool) → (a || (b || d)) && not (x || false) ≡ not x && (a || (b || (d || false)))
-          go true = and-false (a || (b || d))
-          go false = and-true (a || (b || d)) ∙ ap (λ z. a || (b || z)) (sym (or-false d))
-      shape a b d x false e = clash e
+      shape a b d x l e = grind (arith, e)

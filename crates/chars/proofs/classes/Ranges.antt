@@ -1,17 +1,11 @@
 -- Laws of a table of ranges in ascending order: what the order test says, and what a binary search finds.
-use Prim.Native.Nat.{ℕ, zero, suc, ◌≤◌, ◌<◌}
-use mathlib.Core.Path.{◌≡◌, refl, ap}
-use mathlib.Core.Bool.{Bool, true, false, ◌&&◌, ◌||◌, and-eq-true_iff, or-true}
-use mathlib.Core.List.{List, [], ◌∷◌}
-use native.Mathlib.Nat.{not-suc-le-zero, le_of_suc-le-suc}
-use native.Mathlib.Omega.{arith}
-use borrow.Author.Tests.{ltb-true, leb-true, leb-false, le-leb, lt-leb}
-use lib.Dec.{leb, ltb}
-use lib.ListN.{length, take, drop}
+use Rattle.std.proofs.Common.{ℕ, zero, suc, ◌≤◌, ◌<◌, ◌≡◌, refl, ap, Bool, true, false, ◌&&◌, ◌||◌, ⊎_elim, List, [], ◌∷◌, not-suc-le-zero, le_of_suc-le-suc, arith, ltb-true, leb-true, leb-false, le-leb, leb, ltb, length, take, drop}
+use Rattle.std.proofs.lemmas.Bool.{or_cases}
+use Rattle.std.proofs.Math.Bool.{or-true}
 use Rattle.chars.specs.paper.Quoted.{between}
 use Rattle.chars.specs.paper.Ranges.{Range, ◌to◌, low, high, rangeAt, inRanges, Ascending}
 use Rattle.chars.specs.computed.Ascending.{ascendingFrom}
-use Rattle.chars.proofs.Bools.{clash}
+use Rattle.chars.proofs.Bools.{clash, and-both}
 
 -- ---- a code and one range
 
@@ -19,14 +13,10 @@ pub between-in : (l h c : ℕ) → l ≤ c → c ≤ h → between l h c ≡ tru
 between-in l h c p q = rw (le-leb l c, le-leb c h)
 
 pub between-out : (l h c : ℕ) → (l ≤ c → h < c) → between l h c ≡ false
-between-out l h c p = go (leb l c) refl
-  where
-    go : (b : Bool) → leb l c ≡ b → b && leb c h ≡ false
-    go false e = refl
-    go true e = lt-leb c h (p (leb-true l c e))
+between-out l h c p = grind (arith, p)
 
 pub in-between : (l h c : ℕ) → between l h c ≡ true → (l ≤ c) × (c ≤ h)
-in-between l h c e = let k = (and-eq-true_iff (leb l c) (leb c h)).0 e in (leb-true l c k.0, leb-true c h k.1)
+in-between l h c e = let k = and-both (leb l c) (leb c h) e in (leb-true l c k.0, leb-true c h k.1)
 
 pub not-between : (l h c : ℕ) → between l h c ≡ false → l ≤ c → h < c
 not-between l h c e p = leb-false c h (rw (le-leb l c p) at e)
@@ -47,27 +37,18 @@ module _ (l h c : ℕ) (p : l ≤ c) (q : c ≤ h) where
   pub clear-out : (t : List Range) → clear l h t ≡ true → inRanges t c ≡ false
   clear-out [] e = refl
   clear-out (◌to◌ a b ∷ t) e =
-      let k = (and-eq-true_iff (ltb b l || ltb h a) (clear l h t)).0 e in
-      let y : between a b c ≡ false = between-out a b c (off (ltb b l) refl k.0) in
-      rw y (clear-out t k.1)
-    where
-      off : (x : Bool) → ltb b l ≡ x → x || ltb h a ≡ true → a ≤ c → b < c
-      off true f g m = let z = ltb-true b l f in omega arith
-      off false f g m = let z = ltb-true h a g in absurd (omega arith)
+      let k = and-both (ltb b l || ltb h a) (clear l h t) e in
+      let off : a ≤ c → b < c =
+      λ m. ⊎_elim (λ f. let z = ltb-true b l f in omega arith) (λ f. let z = ltb-true h a f in absurd (omega arith)) (or_cases (ltb b l) (ltb h a) k.0) in
+      rw (between-out a b c off) (clear-out t k.1)
 
   pub covered-in : (t : List Range) → covered l h t ≡ true → inRanges t c ≡ true
   covered-in [] e = clash e
-  covered-in (◌to◌ a b ∷ t) e = go (leb a l && leb h b) refl e (λ g. covered-in t g)
+  covered-in (◌to◌ a b ∷ t) e =
+      ⊎_elim here (λ g. rw (covered-in t g) (or-true (between a b c))) (or_cases (leb a l && leb h b) (covered l h t) e)
     where
-      go : (x : Bool) → leb a l && leb h b ≡ x → x || covered l h t ≡ true → (covered l h t ≡ true → inRanges t c ≡ true)
-          → between a b c || inRanges t c ≡ true
-      go true f g r =
-          let k = (and-eq-true_iff (leb a l) (leb h b)).0 f in
-          let m = leb-true a l k.0 in
-          let n = leb-true h b k.1 in
-          let y : between a b c ≡ true = between-in a b c (omega arith) (omega arith) in
-          rw y
-      go false f g r = rw (r g) (or-true (between a b c))
+      here : leb a l && leb h b ≡ true → between a b c || inRanges t c ≡ true
+      here f = grind arith
 
 -- up to h only the first k ranges count
 pub only-first : (k : ℕ) (t : List Range) (h c : ℕ) → clear 0 h (drop k t) ≡ true → c ≤ h → inRanges t c ≡ inRanges (take k t) c
@@ -84,10 +65,7 @@ record FirstRange (f a b : ℕ) (t : List Range) : Type 0 where
   rest : ascendingFrom (suc b) t ≡ true
 
 first-range : (f a b : ℕ) (t : List Range) → ascendingFrom f (a to b ∷ t) ≡ true → FirstRange f a b t
-first-range f a b t e =
-    let k = (and-eq-true_iff (leb f a && leb a b) (ascendingFrom (suc b) t)).0 e in
-    let l = (and-eq-true_iff (leb f a) (leb a b)).0 k.0 in
-    record { start = leb-true f a l.0; ends = leb-true a b l.1; rest = k.1 }
+first-range f a b t e = grind arith
 
 -- every range begins at the bound or above
 low-from : (f : ℕ) (t : List Range) → ascendingFrom f t ≡ true → (k : ℕ) → k < length t → f ≤ low (rangeAt t k)

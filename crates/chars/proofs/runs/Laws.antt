@@ -1,12 +1,11 @@
 -- From the mask of one load to the bytes that stand there, and from these to a run.
-use Rattle.std.proofs.Common.{◌≡◌, ℕ, zero, suc, ◌+◌, ◌*◌, ◌%◌, ◌^◌, ◌<◌, ◌≤◌, eqb, ltb, leb, Bool, true, false, not, ◌&&◌, ◌||◌, cond, List, [], ◌∷◌, map, length, drop, refl, sym, ap, ap₂, ◌∙◌, inl, inr, arith}
+use Rattle.std.proofs.Common.{◌≡◌, ℕ, zero, suc, ◌+◌, ◌*◌, ◌%◌, ◌^◌, ◌<◌, ◌≤◌, eqb, ltb, leb, Bool, true, false, not, ◌&&◌, ◌||◌, cond, List, [], ◌∷◌, map, length, drop, refl, sym, ap, ap₂, ◌∙◌, inl, inr, arith, length-drop, eq-eqb, ne_eqb, le-leb, bit_or, bit_and}
 use Rattle.std.proofs.lemmas.Simd.{length-chunk, chunk-drop, mask_l-mod, leading_from_mask_l, trailing_mask_l}
-use Rattle.std.proofs.lemmas.List.{length-map, length-drop}
+use Rattle.std.proofs.lemmas.List.{length-map}
 use Rattle.std.proofs.lemmas.List.Folds.{prefix_len-append}
 use Rattle.std.proofs.lemmas.List.Sums.{prefix_len-le-length}
-use Rattle.std.proofs.lemmas.Bool.{eq-eqb, ne_eqb, le-leb, lt-leb, cases_eq}
+use Rattle.std.proofs.lemmas.Bool.{lt-leb, cases_eq, false_from_ne_true}
 use Rattle.std.specs.List.{prefix_len}
-use lib.Bits.{bit_or, bit_and}
 use lib.Count.{count_trailing_zeros}
 use lib.Lanes.{chunk, mask_l, top}
 use Rattle.chars.specs.code.Runs.{stepsIn, stepsOver}
@@ -28,16 +27,10 @@ masked f p e v z long i =
     ap (λ l. mask_l (map (top 7) l) % 2 ^ 64) i ∙ ap (λ l. mask_l l % 2 ^ 64) (each-lane f p e v) ∙ mask_l-mod (map p v) 64 (omega (arith, length-map v p))
 
 either : (a b : Bool) → top 7 (bit_or (lane a) (lane b)) ≡ (a || b)
-either true true = refl
-either true false = refl
-either false true = refl
-either false false = refl
+either a b = grind arith
 
 both : (a b : Bool) → top 7 (bit_and (lane a) (lane b)) ≡ (a && b)
-both true true = refl
-both true false = refl
-both false true = refl
-both false false = refl
+both a b = grind arith
 
 pub out-of : (low high x : ℕ) → top 7 (bit_or (lane (ltb x low)) (lane (ltb high x))) ≡ not (leb low x && leb x high)
 out-of low high x = either (ltb x low) (ltb high x) ∙ grind arith
@@ -47,22 +40,7 @@ other a b x = both (not (eqb x a)) (not (eqb x b)) ∙ grind arith
 
 -- by four comparisons, one after another
 pub none : (a b c d : Bool) → top 7 (bit_or (bit_or (bit_or (lane a) (lane b)) (lane c)) (lane d)) ≡ not (not (((a || b) || c) || d))
-none true true true true = refl
-none true true true false = refl
-none true true false true = refl
-none true true false false = refl
-none true false true true = refl
-none true false true false = refl
-none true false false true = refl
-none true false false false = refl
-none false true true true = refl
-none false true true false = refl
-none false true false true = refl
-none false true false false = refl
-none false false true true = refl
-none false false true false = refl
-none false false false true = refl
-none false false false false = refl
+none a b c d = grind arith
 
 -- ---- a run, sixteen bytes at a time
 
@@ -71,11 +49,7 @@ module _ (q : ℕ → Bool) where
   out b = not (q b)
 
   inside-out : (x : ℕ) → q x ≡ not (out x)
-  inside-out x = go (q x)
-    where
-      go : (b : Bool) → b ≡ not (not b)
-      go true = refl
-      go false = refl
+  inside-out x = grind arith
 
   same-run : (l : List ℕ) → prefix_len q l ≡ prefix_len (λ x. not (out x)) l
   same-run [] = refl
@@ -116,10 +90,7 @@ module _ (q : ℕ → Bool) where
         ∙ sym (trailing_mask_l out 64 block (omega (arith, length-chunk i 16 s room)) some) ∙ ap (count_trailing_zeros 64) (sym e)
 
     few : 0 < mask_l (map out block) → prefix_len q (drop i s) < 16
-    few m =
-        let stops = split ∙ ap (λ b. cond b (length block + rest) (prefix_len q block)) (ne_eqb _ _ (some-fails m)) in
-        let less : prefix_len q block < length block = let fails = some-fails m in omega (arith, prefix_len-le-length q block) in
-        omega (arith, stops, less, length-chunk i 16 s room)
+    few m = grind arith
 
     -- does it have them all?
     pub block-in : (m : ℕ) → m ≡ mask_l (map out block) → eqb m 0 ≡ leb 16 (prefix_len q (drop i s))
@@ -137,11 +108,7 @@ module _ (q : ℕ → Bool) where
 -- where the test holds, so many bytes stand
 module _ (step : ℕ) (test : List ℕ → ℕ → Bool) (s : List ℕ) (moves : 0 < step) (stand : (i : ℕ) → test s i ≡ true → i + step ≤ length s) where
   none-past : (i : ℕ) → length s ≤ i → test s i ≡ false
-  none-past i l = go (test s i) refl
-    where
-      go : (x : Bool) → test s i ≡ x → test s i ≡ false
-      go true e = absurd (let h = stand i e in omega arith)
-      go false e = e
+  none-past i l = false_from_ne_true (test s i) (λ e. let h = stand i e in omega arith)
 
   -- one step more than suffices changes nothing
   one-more : (n i : ℕ) → length s ≤ i + n → stepsIn (suc n) step (test s) i ≡ stepsIn n step (test s) i

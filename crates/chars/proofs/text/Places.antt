@@ -1,24 +1,14 @@
 -- From a byte offset to the text from there on.
-use Prim.Native.Nat.{ℕ, zero, suc, ◌+◌, ◌-◌, ◌≤◌, ◌<◌}
-use mathlib.Core.Path.{◌≡◌, refl, sym, ◌∙◌, ap}
-use mathlib.Core.Bool.{Bool, true, false, cond}
-use mathlib.Core.Logic.{⊎_elim}
-use mathlib.Core.List.{List, [], ◌∷◌}
-use lib.ListN.{length, drop, get_or, length-drop, drop_of_length-le, get_or-eq_default}
-use lib.Seq.{drop-drop, get_or-drop}
-use lib.Dec.{ltb}
-use native.Mathlib.Nat.{add-zero}
-use native.Mathlib.Omega.{arith}
-use borrow.Author.Tests.{ltb-true, ltb-false}
+use Rattle.std.proofs.Common.{ℕ, zero, suc, ◌+◌, ◌-◌, ◌≤◌, ◌<◌, ◌≡◌, sym, ◌∙◌, ap, Bool, true, false, inl, inr, ⊎_elim, List, [], ◌∷◌, length, drop, get_or, length-drop, drop_of_length-le, drop-drop, get_or-drop, add-zero, arith, lt-ltb, None}
+use Rattle.std.proofs.Math.ListN.{get_or-eq_default}
+use Rattle.std.proofs.lemmas.Bool.{cases_lt}
 use Rattle.chars.specs.paper.Utf8.{WellFormed, width, codeOf}
 use Rattle.chars.specs.paper.Text.{Text, charsAt, from, place, headIs}
 use Rattle.chars.specs.code.Text.{codeAt, charEnd, stepAt}
 use Rattle.chars.specs.promises.Texts.{AsciiClass, PastWide}
 use Rattle.chars.specs.computed.Runs.{afterRun}
-use Rattle.std.specs.Prelude.{max, None}
 use Rattle.chars.specs.code.Utf8.{decoded}
 use Rattle.chars.proofs.utf8.Rows as rows
-use Rattle.chars.proofs.utf8.Stands.{same-code, same-width}
 use Rattle.chars.proofs.utf8.Codes.{code-one}
 use Rattle.chars.proofs.utf8.Valid.{first-char}
 use Rattle.chars.proofs.utf8.Widths.{width-within}
@@ -50,11 +40,8 @@ module _ (s : List ℕ) (i : ℕ) where
   next-on h = let a = width-within s i (omega arith) in (omega arith, omega arith)
 
   pub place-from : i ≤ length s → place (length s) (from s i) ≡ i
-  place-from h = go (ltb i (length s)) refl
-    where
-      go : (b : Bool) → ltb i (length s) ≡ b → place (length s) (from s i) ≡ i
-      go true e = ap (place (length s)) (at-char (ltb-true i (length s) e))
-      go false e = let k = ltb-false i (length s) e in ap (place (length s)) (at-end k) ∙ omega arith
+  place-from h =
+      ⊎_elim (λ l. ap (place (length s)) (at-char l)) (λ k. ap (place (length s)) (at-end k) ∙ (let z : length s ≡ i = omega arith in z)) (cases_lt i (length s))
 
   -- ---- ASCII
 
@@ -82,20 +69,20 @@ module _ (s : List ℕ) (i : ℕ) where
   -- the bytes of a character after its first
   pub wide-tail : i < length s → (j : ℕ) → i < j → j < charEnd s i → (0x80 ≤ get_or s j 0) × (get_or s j 0 ≤ 0xBF)
   unfolding charEnd
-  wide-tail h j l m = go (ltb (get_or s i 0) 0x80) refl
+  wide-tail h j l m =
+      elim (cases_lt (get_or s i 0) 0x80) [
+        | inl e ↦ let q = ascii-width h e in absurd (omega arith)
+        | inr e ↦ ⊎_elim (λ q. absurd (omega arith)) more (wide (drop i s) (rw byte0 e))
+      ]
     where
-      one : width (drop i s) ≡ 0 → (0x80 ≤ get_or s j 0) × (get_or s j 0 ≤ 0xBF)
-      one e = absurd (omega arith)
-
       more : Wide (width (drop i s)) (drop i s) → (0x80 ≤ get_or s j 0) × (get_or s j 0 ≤ 0xBF)
       more w =
           let e : i + (j - i) ≡ j = omega arith in
           let q : get_or (drop i s) (j - i) 0 ≡ get_or s j 0 = get_or-drop i s (j - i) 0 ∙ ap (λ k. get_or s k 0) e in
-          rw q at (w.others (j - i) (omega arith) (omega arith))
-
-      go : (b : Bool) → ltb (get_or s i 0) 0x80 ≡ b → (0x80 ≤ get_or s j 0) × (get_or s j 0 ≤ 0xBF)
-      go true e = let q = ascii-width h (ltb-true (get_or s i 0) 0x80 e) in absurd (omega arith)
-      go false e = ⊎_elim one more (wide (drop i s) (rw byte0 (ltb-false (get_or s i 0) 0x80 e)))
+          let n = w.others (j - i) (omega arith) (omega arith) in
+          let low = n.low in
+          let high = n.high in
+          (omega arith, omega arith)
 
   -- with a byte of 0x80 to 0xBF no character begins: it stands alone
   tail-width : i < length s → 0x80 ≤ get_or s i 0 → get_or s i 0 ≤ 0xBF → width (drop i s) ≡ 0
@@ -112,47 +99,31 @@ module _ (s : List ℕ) (i : ℕ) where
       let d = length-drop i s in
       let f = first-char w (omega arith) in
       let k : i + width (drop i s) ≡ suc i + (width (drop i s) - 1) = let x = f.0 in omega arith in
-      (λ l. go (ltb 0xBF (get_or s i 0)) refl l f.0, rw (drop-drop, k) at f.1)
-    where
-      go : (b : Bool) → ltb 0xBF (get_or s i 0) ≡ b → 0x80 ≤ get_or s i 0 → 0 < width (drop i s) → 0xBF < get_or s i 0
-      go true e l p = ltb-true 0xBF (get_or s i 0) e
-      go false e l p = let z = tail-width h l (ltb-false 0xBF (get_or s i 0) e) in absurd (omega arith)
+      (λ l. ⊎_elim (λ m. m) (λ m. let z = tail-width h l m in let x = f.0 in absurd (omega arith)) (cases_lt 0xBF (get_or s i 0)), rw (drop-drop, k) at f.1)
 
 -- ---- a class of ASCII characters is tested on the byte; past the end the byte counts as 0
 
 pub head-byte : (p : ℕ → Bool) → AsciiClass p → (s : List ℕ) (i : ℕ) → headIs p (from s i) ≡ p (get_or s i 0)
-head-byte p a s i = go (ltb i (length s)) refl (ltb (get_or s i 0) 0x80) refl
+head-byte p a s i = ⊎_elim (λ h. ⊎_elim (low h) (high h) (cases_lt (get_or s i 0) 0x80)) past (cases_lt i (length s))
   where
-    go : (b : Bool) → ltb i (length s) ≡ b → (l : Bool) → ltb (get_or s i 0) 0x80 ≡ l → headIs p (from s i) ≡ p (get_or s i 0)
-    go false e l f = let h = ltb-false i (length s) e in ap (headIs p) (at-end s i h) ∙ sym (ap p (get_or-eq_default s 0 h) ∙ a.nul)
-    go true e true f = ap (headIs p) (at-ascii s i (ltb-true i (length s) e) (ltb-true (get_or s i 0) 0x80 f))
-    go true e false f =
-        let k = ltb-false (get_or s i 0) 0x80 f in
-        ap (headIs p) (at-char s i (ltb-true i (length s) e)) ∙ a.wide (codeAt s i) (wide-code s i k) ∙ sym (a.wide (get_or s i 0) k)
+    past : length s ≤ i → headIs p (from s i) ≡ p (get_or s i 0)
+    past h = ap (headIs p) (at-end s i h) ∙ sym (ap p (get_or-eq_default s 0 h) ∙ a.nul)
+
+    low : i < length s → get_or s i 0 < 0x80 → headIs p (from s i) ≡ p (get_or s i 0)
+    low h l = ap (headIs p) (at-ascii s i h l)
+
+    high : i < length s → 0x80 ≤ get_or s i 0 → headIs p (from s i) ≡ p (get_or s i 0)
+    high h l = ap (headIs p) (at-char s i h) ∙ a.wide (codeAt s i) (wide-code s i l) ∙ sym (a.wide (get_or s i 0) l)
 
 -- ---- one step
 
 pub step-text : (s : List ℕ) (i c w : ℕ) → decoded c w ≡ stepAt s i → (i < length s) × (codeAt s i ≡ c) × (charEnd s i ≡ i + w)
 unfolding stepAt charEnd
-step-text s i c w e = go (ltb i (length s)) refl e
-  where
-    go : (b : Bool) → ltb i (length s) ≡ b
-        → decoded c w ≡ cond b (decoded (codeAt s i) (max 1 (width (drop i s)))) None
-        → (i < length s) × (codeAt s i ≡ c) × (suc i + (width (drop i s) - 1) ≡ i + w)
-    go true h e = (
-      ltb-true i (length s) h,
-      sym (same-code c w (codeAt s i) (max 1 (width (drop i s))) e),
-      let z = same-width c w (codeAt s i) (max 1 (width (drop i s))) e in omega arith,
-    )
-    go false h e = cc
+step-text s i c w e = grind arith
 
 pub step-none : (s : List ℕ) (i : ℕ) → None ≡ stepAt s i → length s ≤ i
 unfolding stepAt
-step-none s i e = go (ltb i (length s)) refl e
-  where
-    go : (b : Bool) → ltb i (length s) ≡ b → None ≡ cond b (decoded (codeAt s i) (max 1 (width (drop i s)))) None → length s ≤ i
-    go true h e = cc
-    go false h e = ltb-false i (length s) h
+step-none s i e = ⊎_elim (λ h. let f = rw (lt-ltb i (length s) h) at e in cc) (λ h. h) (cases_lt i (length s))
 
 -- ---- runs
 

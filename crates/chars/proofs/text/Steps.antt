@@ -1,19 +1,11 @@
 -- One character of a script's text, from what stands at its place.
-use Prim.Native.Nat.{ℕ, ◌≤◌, ◌<◌}
-use mathlib.Core.Path.{◌≡◌, refl, sym}
-use mathlib.Core.Bool.{Bool, true, false, cond}
-use mathlib.Core.List.{List}
-use lib.ListN.{length, drop, get_or}
-use lib.Dec.{eqb}
-use native.Mathlib.Omega.{arith}
-use borrow.Author.Tests.{eqb-true, eqb-false, lt-ltb, le-ltb}
-use Rattle.std.specs.Prelude.{max, Option, Some, None, unwrap_or}
+use Rattle.std.proofs.Common.{ℕ, ◌≤◌, ◌<◌, ◌≡◌, refl, sym, List, length, drop, get_or, ⊎_elim, arith, ne_eqb, lt-ltb, le-ltb, max, Option, Some, None, unwrap_or}
+use Rattle.std.proofs.lemmas.Bool.{cases_eq}
 use Rattle.chars.specs.declared.utf8.Decoded.{Decoded}
 use Rattle.chars.specs.paper.Utf8.{width, codeOf}
 use Rattle.chars.specs.code.Utf8.{decoded, decodeAt}
 use Rattle.chars.specs.code.Text.{stepAt}
 use Rattle.chars.proofs.utf8.Codes.{code-one}
-use Rattle.chars.proofs.utf8.Stands.{same-code, same-width}
 
 -- what is decoded at i, by the width there
 pub record CharStands (s : List ℕ) (i code w : ℕ) : Type 0 where
@@ -23,23 +15,11 @@ pub record CharStands (s : List ℕ) (i code w : ℕ) : Type 0 where
 
 pub char-stands : (s : List ℕ) (i code w : ℕ) → decoded code w ≡ decodeAt s i → CharStands s i code w
 unfolding decodeAt
-char-stands s i code w e = go (eqb (width (drop i s)) 0) refl e
-  where
-    go : (b : Bool) → eqb (width (drop i s)) 0 ≡ b → decoded code w ≡ cond b None (decoded (codeOf (width (drop i s)) (drop i s)) (width (drop i s))) → CharStands s i code w
-    go true z e = cc
-    go false z e =
-        let a : w ≡ width (drop i s) = same-width code w (codeOf (width (drop i s)) (drop i s)) (width (drop i s)) e in
-        let b : code ≡ codeOf (width (drop i s)) (drop i s) = same-code code w (codeOf (width (drop i s)) (drop i s)) (width (drop i s)) e in
-        let n = eqb-false (width (drop i s)) 0 z in
-        record { width-is = sym a; code-is = rw a (sym b); least = omega arith }
+char-stands s i code w e = grind arith
 
 pub nothing-stands : (s : List ℕ) (i : ℕ) → None ≡ decodeAt s i → width (drop i s) ≡ 0
 unfolding decodeAt
-nothing-stands s i e = go (eqb (width (drop i s)) 0) refl e
-  where
-    go : (b : Bool) → eqb (width (drop i s)) 0 ≡ b → None ≡ cond b None (decoded (codeOf (width (drop i s)) (drop i s)) (width (drop i s))) → width (drop i s) ≡ 0
-    go true z e = eqb-true (width (drop i s)) 0 z
-    go false z e = cc
+nothing-stands s i e = ⊎_elim (λ z. z) (λ n. let f = rw (ne_eqb (width (drop i s)) 0 n) at e in cc) (cases_eq (width (drop i s)) 0)
 
 -- a step is over the character that is decoded, or over a byte alone
 pub step_found : (s : List ℕ) (i : ℕ) → i < length s → Some (unwrap_or (decodeAt s i) (record { code = get_or s i 0; width = 1 })) ≡ stepAt s i

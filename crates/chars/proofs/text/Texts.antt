@@ -1,11 +1,7 @@
 -- A script's texts: suffixes of a text, and each text of the script is the script's text from its own place on.
-use Prim.Native.Nat.{ℕ, zero, suc, ◌≤◌, ◌+◌, ◌-◌}
-use mathlib.Core.Path.{◌≡◌, refl, sym, ◌∙◌, ap}
-use mathlib.Core.List.{List, [], ◌∷◌}
-use lib.ListN.{length, drop, drop_of_length-le}
-use lib.Seq.{drop-drop}
-use native.Mathlib.Nat.{sub_self}
-use native.Mathlib.Omega.{arith}
+use Rattle.std.proofs.lemmas.Grind.{common_steps}
+use Rattle.std.proofs.Common.{ℕ, zero, suc, ◌≤◌, ◌+◌, ◌-◌, ◌≡◌, refl, sym, ◌∙◌, ap, List, [], ◌∷◌, length, drop, drop_of_length-le, drop-drop, arith}
+use Rattle.std.proofs.Math.Nat.{sub_self}
 use Rattle.chars.specs.paper.Utf8.{width}
 use Rattle.chars.specs.paper.Text.{Char, Text, charsAt, from, place}
 use Rattle.chars.specs.promises.Texts.{Suffix, ScriptText}
@@ -16,16 +12,10 @@ pub suffix-refl : (s : Text) → Suffix s s
 suffix-refl s = record { within = omega arith; rest-is = rw sub_self }
 
 pub suffix-cons : {r s : Text} (c : Char) → Suffix r s → Suffix r (c ∷ s)
-suffix-cons {r} {s} c h =
-    let e : suc (length s) - length r ≡ suc (length s - length r) = omega arith in
-    record { within = omega arith; rest-is = rw e h.rest-is }
+suffix-cons {r} {s} c h = grind arith
 
 pub suffix-trans : {q r s : Text} → Suffix q r → Suffix r s → Suffix q s
-suffix-trans {q} {r} {s} h k =
-    let e : length s - length r + (length r - length q) ≡ length s - length q = omega arith in
-    let d : drop (length r - length q) (drop (length s - length r) s) ≡ drop (length s - length q) s =
-    drop-drop (length r - length q) (length s - length r) s ∙ ap (λ n. drop n s) e in
-    record { within = omega arith; rest-is = h.rest-is ∙ ap (drop (length r - length q)) k.rest-is ∙ d }
+suffix-trans {q} {r} {s} h k = grind (arith, common_steps)
 
 pub suffix-same : {q r s : Text} → Suffix q s → Suffix r s → length q ≡ length r → q ≡ r
 suffix-same {q} {r} {s} h k e = h.rest-is ∙ ap (λ n. drop (length s - n) s) e ∙ sym k.rest-is

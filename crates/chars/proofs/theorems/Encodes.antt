@@ -1,13 +1,7 @@
 -- What `encoded` writes for a scalar value meets a row of Table 3-7, and decodes to the code again.
-use Prim.Native.Nat.{ℕ, ◌+◌, ◌*◌, ◌/◌, ◌%◌, ◌≤◌, ◌<◌}
-use mathlib.Core.Path.{◌≡◌, refl, ◌∙◌}
-use mathlib.Core.Bool.{Bool, true, false, cond, not}
-use mathlib.Core.List.{List, [], ◌∷◌, ◌++◌}
-use lib.ListN.{length}
-use lib.Seq.{drop-append_seam}
-use lib.Dec.{leb, ltb}
-use native.Mathlib.Omega.{arith}
-use borrow.Author.Tests.{not-true, ltb-true, ltb-false, leb-true, lt-ltb, le-ltb}
+use Rattle.std.proofs.Common.{ℕ, ◌+◌, ◌*◌, ◌/◌, ◌%◌, ◌≤◌, ◌<◌, ◌≡◌, refl, ◌∙◌, true, cond, not, ⊎_elim, List, [], ◌∷◌, ◌++◌, length, leb, ltb, arith, leb-true, lt-ltb, le-ltb}
+use Rattle.std.proofs.Math.Seq.{drop-append_seam}
+use Rattle.std.proofs.lemmas.Bool.{cases_lt, not-true}
 use Rattle.chars.specs.paper.Quoted.{between}
 use Rattle.chars.specs.paper.Ranges.{Range, ◌to◌}
 use Rattle.chars.specs.paper.Utf8.{table37, fits, Row, here, later, WellFormed, width, codeOf}
@@ -90,11 +84,7 @@ module _ (c : ℕ) where
 
   -- below n and from n on
   split : {P : Type 0} (n : ℕ) → (c < n → P) → (n ≤ c → P) → P
-  split {P} n f g = go (ltb c n) refl
-    where
-      go : (b : Bool) → ltb c n ≡ b → P
-      go true e = f (ltb-true c n e)
-      go false e = g (ltb-false c n e)
+  split n f g = ⊎_elim f g (cases_lt c n)
 
   -- what is written by such a test
   picked : (n : ℕ) {s t : List ℕ} → (c < n → Writes c s) → (n ≤ c → Writes c t) → Writes c (cond (ltb c n) s t)

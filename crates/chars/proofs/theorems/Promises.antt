@@ -1,12 +1,8 @@
 -- The promises of specs/promises hold.
-use Prim.Native.Nat.{ℕ, ◌+◌, ◌≤◌, ◌<◌}
-use mathlib.Core.Path.{◌≡◌, refl, sym, ◌∙◌, ap}
-use native.Mathlib.Omega.{arith}
-use lib.ListN.{length, drop, get_or, length-drop}
-use mathlib.Core.Bool.{Bool, true, ◌&&◌, and-eq-true_iff}
+use Rattle.std.proofs.Common.{ℕ, ◌+◌, ◌≤◌, ◌<◌, ◌≡◌, refl, sym, ◌∙◌, ap, arith, length, drop, get_or, length-drop, Bool, true, ◌&&◌, List, [], ◌∷◌, ⊎_elim, None}
+use Rattle.std.proofs.Math.Bool.{and-eq-true_iff}
 use mathlib.Core.List.Memᴰ
-use mathlib.Core.List.{List, [], ◌∷◌, Memᴰ}
-use mathlib.Core.Logic.{⊎_elim}
+use mathlib.Core.List.{Memᴰ}
 use Rattle.chars.specs.paper.Ranges.{Range, Ascending}
 use Rattle.chars.specs.computed.Ascending.{ascendingFrom}
 use Rattle.chars.specs.paper.Utf8.{width, codeOf}
@@ -16,7 +12,6 @@ use Rattle.chars.specs.promises.Codes.{CodeLaws}
 use Rattle.chars.specs.promises.Utf8.{Decoding, ValidLaws}
 use Rattle.chars.specs.promises.Texts.{TextLaws}
 use Rattle.chars.specs.promises.Classes.{tables, ClassLaws}
-use Rattle.std.specs.Prelude.{None}
 use Rattle.chars.proofs.utf8.Rows.{here, inside, row-00, none-low, none-high}
 use Rattle.chars.proofs.utf8.Codes.{code-one}
 use Rattle.chars.proofs.utf8.Widths.{width-most, width-within}
@@ -28,6 +23,7 @@ use Rattle.chars.proofs.Carry as carries
 use Rattle.chars.proofs.classes.Laws as classes
 use Rattle.chars.proofs.classes.Masks as masks
 use Rattle.chars.proofs.classes.Arrow as arrows
+use Rattle.chars.proofs.classes.Cyrillic as cyrillic
 use Rattle.chars.proofs.classes.IdRuns as runs
 use Rattle.chars.proofs.classes.Ranges as ranges
 
@@ -90,6 +86,7 @@ code_laws = record {
   carry-span = carries.carry-span;
   agree = carries.agree;
   mask-set = carries.mask-set;
+  two-masks = carries.two-masks;
   hits = carries.hits;
   misses = carries.misses;
   between-in = ranges.between-in;
@@ -157,6 +154,7 @@ class-laws = record {
   above-no-print = classes.above-no-print;
   russian-start = classes.russian-start;
   russian-id = classes.russian-id;
+  russian = cyrillic.russian;
   tables-are = refl;
   id-masks = masks.id-masks;
   start-masks = masks.start-masks;

@@ -1,11 +1,6 @@
 -- The code of a character, by the bytes at its place.
-use Prim.Native.Nat.{ℕ, ◌+◌, ◌*◌, ◌%◌, ◌≤◌, ◌<◌}
-use mathlib.Core.Path.{◌≡◌, ◌∙◌, ap}
-use mathlib.Core.List.{List}
-use lib.ListN.{drop, get_or}
-use lib.Seq.{get_or-drop}
-use native.Mathlib.Nat.{add-zero}
-use borrow.Author.Tests.{le-leb, lt-leb, ne_eqb}
+use Rattle.std.proofs.Common.{ℕ, ◌+◌, ◌*◌, ◌%◌, ◌≤◌, ◌<◌, ◌≡◌, ◌∙◌, ap, List, drop, get_or, get_or-drop, add-zero, le-leb, ne_eqb}
+use Rattle.std.proofs.lemmas.Bool.{lt-leb}
 use Rattle.chars.specs.paper.Utf8.{codeOf}
 
 module _ (s : List ℕ) (i : ℕ) where

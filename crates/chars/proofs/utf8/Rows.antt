@@ -1,14 +1,7 @@
 -- The rows of Table 3-7 at a place of a script, as the code meets them: a row for the first byte, then the bytes that follow it.
-use Prim.Native.Nat.{ℕ, ◌+◌, ◌≤◌, ◌<◌}
-use mathlib.Core.Path.{◌≡◌, refl, sym, ◌∙◌, ap}
-use mathlib.Core.Bool.{Bool, true, false, cond, ◌&&◌, and-true, and_assoc}
-use mathlib.Core.List.{List, [], ◌∷◌}
-use lib.ListN.{length, drop, get_or, drop_of_length-le}
-use lib.Seq.{drop-cons, drop-drop}
-use lib.Dec.{ltb}
-use native.Mathlib.Numerals.{add-one}
-use native.Mathlib.Omega.{arith}
-use borrow.Author.Tests.{le-leb, lt-leb, ltb-true, ltb-false}
+use Rattle.std.proofs.Common.{ℕ, ◌+◌, ◌≤◌, ◌<◌, ◌≡◌, refl, sym, ◌∙◌, ap, cond, ◌&&◌, List, [], ◌∷◌, length, drop, get_or, drop_of_length-le, drop-cons, drop-drop, add-one, ⊎_elim, arith, le-leb}
+use Rattle.std.proofs.Math.Bool.{and-true, and_assoc}
+use Rattle.std.proofs.lemmas.Bool.{lt-leb, cases_lt}
 use Rattle.chars.specs.paper.Ranges.{Range, ◌to◌}
 use Rattle.chars.specs.paper.Utf8.{fits, width}
 
@@ -82,8 +75,4 @@ fits-last a b (◌to◌ p q) y s i =
 -- where a character stands there is a byte
 pub inside : (s : List ℕ) (i : ℕ) → (width (drop i s) ≡ 0 → ⊥) → i < length s
 unfolding width
-inside s i h = go (ltb i (length s)) refl
-  where
-    go : (b : Bool) → ltb i (length s) ≡ b → i < length s
-    go true e = ltb-true i (length s) e
-    go false e = absurd (h (rw (drop_of_length-le s (ltb-false i (length s) e), width)))
+inside s i h = ⊎_elim (λ l. l) (λ l. absurd (h (rw (drop_of_length-le s l, width)))) (cases_lt i (length s))

@@ -1,58 +1,29 @@
 -- What is answered of a character: its width, and its code with its width.
-use Prim.Native.Nat.{ℕ, suc, ◌+◌, ◌≤◌, ◌<◌}
-use mathlib.Core.Path.{◌≡◌, refl, sym, ◌∙◌, ap}
-use mathlib.Core.Bool.{Bool, true, false, cond}
-use mathlib.Core.List.{List, ◌∷◌}
-use lib.ListN.{length, drop, get_or, drop_of_length-le}
-use lib.Dec.{eqb}
-use native.Mathlib.Omega.{arith}
-use borrow.Author.Tests.{eqb-true, eqb-false, ne_eqb}
-use Rattle.std.specs.Prelude.{Option, Some, None}
+use Rattle.std.proofs.lemmas.Grind.{common_steps}
+use Rattle.std.proofs.Common.{ℕ, suc, ◌+◌, ◌≤◌, ◌<◌, ◌≡◌, sym, ◌∙◌, ap, Bool, cond, List, ◌∷◌, length, drop, get_or, drop_of_length-le, ⊎_elim, arith, eq-eqb, ne_eqb, Option, Some, None}
+use Rattle.std.proofs.lemmas.Bool.{cases_Bool, cases_eq}
 use Rattle.std.specs.Bool.{then_some}
-use Rattle.chars.specs.declared.utf8.Decoded.{Decoded}
 use Rattle.chars.specs.paper.Utf8.{width, codeOf}
 use Rattle.chars.specs.code.Utf8.{decoded, widthAt, decodeAt}
-use Rattle.chars.proofs.utf8.Rows.{here, inside}
-
--- ---- two characters that are the same
-
-abbrev codeIn : Option Decoded → ℕ
-codeIn (Some d) = d.code
-codeIn None = 0
-
-abbrev widthIn : Option Decoded → ℕ
-widthIn (Some d) = d.width
-widthIn None = 0
-
-pub same-code : (c w d v : ℕ) → decoded c w ≡ decoded d v → c ≡ d
-same-code c w d v e = ap codeIn e
-
-pub same-width : (c w d v : ℕ) → decoded c w ≡ decoded d v → w ≡ v
-same-width c w d v e = ap widthIn e
+use Rattle.chars.proofs.utf8.Rows.{inside}
 
 -- ---- a width
 
 -- what is known of the byte at the place, with what follows it, is known of the place: that one character or none stands there
 pub found : (s : List ℕ) (i k : ℕ) → i < length s → suc k ≡ width (get_or s i 0 ∷ drop (i + 1) s) → Some (suc k) ≡ widthAt s i
 unfolding widthAt
-found s i k h e =
-    let q : width (drop i s) ≡ suc k = ap width (here s i h) ∙ sym e in
-    rw (q, ne_eqb (suc k) 0 (λ z. omega arith))
+found s i k h e = grind (arith, common_steps)
 
 pub not-found : (s : List ℕ) (i : ℕ) → i < length s → 0 ≡ width (get_or s i 0 ∷ drop (i + 1) s) → None ≡ widthAt s i
 unfolding widthAt
-not-found s i h e =
-    let q : width (drop i s) ≡ 0 = ap width (here s i h) ∙ sym e in
-    rw q
+not-found s i h e = grind (arith, common_steps)
 
 -- a character of so many bytes where a test of those after the first holds
 pub found-if : {r : Option ℕ} {b d : Bool} (s : List ℕ) (i k : ℕ) → i < length s → r ≡ then_some b (suc k) → b ≡ d
     → cond d (suc k) 0 ≡ width (get_or s i 0 ∷ drop (i + 1) s) → r ≡ widthAt s i
-found-if {d} s i k h q f e = q ∙ ap (λ x. then_some x (suc k)) f ∙ go d e
-  where
-    go : (d : Bool) → cond d (suc k) 0 ≡ width (get_or s i 0 ∷ drop (i + 1) s) → then_some d (suc k) ≡ widthAt s i
-    go true e = found s i k h e
-    go false e = not-found s i h e
+found-if {d} s i k h q f e =
+    q ∙ ap (λ x. then_some x (suc k)) f
+    ∙ ⊎_elim (λ y. ap (λ x. then_some x (suc k)) y ∙ found s i k h (rw y at e)) (λ n. ap (λ x. then_some x (suc k)) n ∙ not-found s i h (rw n at e)) (cases_Bool d)
 
 pub past_end : (s : List ℕ) (i : ℕ) → length s ≤ i → None ≡ widthAt s i
 unfolding widthAt width
@@ -66,22 +37,14 @@ pub record Wide (s : List ℕ) (i w : ℕ) : Type 0 where
 
 pub stands : (s : List ℕ) (i w : ℕ) → Some w ≡ widthAt s i → Wide s i w
 unfolding widthAt
-stands s i w e = go (eqb (width (drop i s)) 0) refl e
+stands s i w e = ⊎_elim (λ z. let f = rw (eq-eqb (width (drop i s)) 0 z) at e in cc) some (cases_eq (width (drop i s)) 0)
   where
-    go : (b : Bool) → eqb (width (drop i s)) 0 ≡ b → Some w ≡ cond b None (Some (width (drop i s))) → Wide s i w
-    go true z e = cc
-    go false z e =
-        let n = eqb-false (width (drop i s)) 0 z in
-        let q : w ≡ width (drop i s) = cc in
-        record { is = sym q; least = omega arith; within = inside s i n }
+    some : (width (drop i s) ≡ 0 → ⊥) → Wide s i w
+    some n = let f = rw (ne_eqb (width (drop i s)) 0 n) at e in let q : w ≡ width (drop i s) = cc in record { is = sym q; least = omega arith; within = inside s i n }
 
 pub nothing : (s : List ℕ) (i : ℕ) → None ≡ widthAt s i → width (drop i s) ≡ 0
 unfolding widthAt
-nothing s i e = go (eqb (width (drop i s)) 0) refl e
-  where
-    go : (b : Bool) → eqb (width (drop i s)) 0 ≡ b → None ≡ cond b None (Some (width (drop i s))) → width (drop i s) ≡ 0
-    go true z e = eqb-true (width (drop i s)) 0 z
-    go false z e = cc
+nothing s i e = ⊎_elim (λ z. z) (λ n. let f = rw (ne_eqb (width (drop i s)) 0 n) at e in cc) (cases_eq (width (drop i s)) 0)
 
 -- ---- a code and a width
 

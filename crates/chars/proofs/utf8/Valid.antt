@@ -1,15 +1,9 @@
 -- UTF-8: the prefix that is measured is the longest valid one.
-use Prim.Native.Nat.{ℕ, zero, suc, ◌≤◌, ◌<◌, ◌+◌, ◌-◌}
-use mathlib.Core.Path.{◌≡◌, refl, sym, ◌∙◌, ap}
-use mathlib.Core.Bool.{Bool, true, false, ◌&&◌}
-use mathlib.Core.Logic.{◌⊎◌, inl, inr}
-use mathlib.Core.List.{List, [], ◌∷◌}
-use lib.ListN.{length, take, drop, length-drop}
-use lib.Seq.{take-nil, take_all, take-length}
-use lib.Dec.{leb, ltb}
-use native.Mathlib.Nat.{sub-zero}
-use native.Mathlib.Omega.{arith}
-use borrow.Author.Tests.{leb-true, ltb-true, lt-leb}
+use Rattle.std.proofs.Common.{ℕ, zero, suc, ◌≤◌, ◌<◌, ◌+◌, ◌-◌, ◌≡◌, refl, sym, ◌∙◌, ap, Bool, true, false, ◌&&◌, ◌⊎◌, inl, inr, ⊎_elim, List, [], ◌∷◌, length, take, drop, length-drop, take_all, leb, ltb, arith, leb-true, ltb-true}
+use Rattle.std.proofs.Math.Seq.{take-nil, take-length}
+use Rattle.std.proofs.Math.Nat.{sub-zero}
+use Rattle.std.proofs.lemmas.Bool.{lt-leb, cases_Bool, false_from_ne_true}
+use Rattle.std.proofs.Math.Bool.{and-false}
 use Rattle.chars.specs.paper.Quoted.{between}
 use Rattle.chars.specs.paper.Ranges.{Range, ◌to◌}
 use Rattle.chars.specs.paper.Utf8.{table37, fits, Row, here, later, WellFormed, LongestValid, rowLength, width}
@@ -29,11 +23,7 @@ rising ([] ∷ rows) = false
 rising ((◌to◌ low high ∷ row) ∷ rows) = above high rows && rising rows
 
 out : (low high b : ℕ) → high < b → between low high b ≡ false
-out low high b h = go (leb low b)
-  where
-    go : (x : Bool) → x && leb b high ≡ false
-    go true = lt-leb b high h
-    go false = refl
+out low high b h = rw (lt-leb b high h) (and-false (leb low b))
 
 -- a row above h has a first byte above h
 first-above : (h : ℕ) {rows : List (List Range)} {row : List Range} → above h rows ≡ true → Row rows row → (t : List ℕ) → fits row t ≡ true → (b : ℕ) × (u : List ℕ) × (t ≡ b ∷ u) × (h < b)
@@ -61,13 +51,10 @@ first-fit {rows = (◌to◌ low high ∷ r) ∷ rows} e (later w) t f =
 -- what is found is a row that fits
 found-fit : (rows : List (List Range)) (t : List ℕ) → (rowLength rows t ≡ 0) ⊎ ((row : List Range) × Row rows row × (fits row t ≡ true) × (rowLength rows t ≡ length row))
 found-fit [] t = inl refl
-found-fit (row ∷ rows) t = go (fits row t) refl (found-fit rows t)
-  where
-    go : (b : Bool) → fits row t ≡ b → (rowLength rows t ≡ 0) ⊎ ((r : List Range) × Row rows r × (fits r t ≡ true) × (rowLength rows t ≡ length r))
-        → (rowLength (row ∷ rows) t ≡ 0) ⊎ ((r : List Range) × Row (row ∷ rows) r × (fits r t ≡ true) × (rowLength (row ∷ rows) t ≡ length r))
-    go true e h = inr (row, here, e, rw e)
-    go false e (inl h) = inl (rw e h)
-    go false e (inr (r, w, f, l)) = inr (r, later w, f, rw e l)
+found-fit (row ∷ rows) t = elim (cases_Bool (fits row t)) [
+  | inl e ↦ inr (row, here, e, rw e)
+  | inr e ↦ ⊎_elim (λ h. inl (rw e h)) (λ h. inr (h.0, later h.1, h.2, rw e h.3)) (found-fit rows t)
+]
 
 -- the same of the width
 pub width-fit : {row : List Range} → Row table37 row → (t : List ℕ) → fits row t ≡ true → width t ≡ length row
@@ -93,11 +80,8 @@ fit-within x row s i e = let l = fit-length (x ∷ row) (drop i s) e in let d = 
 
 -- where too few bytes are left it is not met
 pub fit-short : (x : Range) (row : List Range) (s : List ℕ) (i : ℕ) → length s < i + length (x ∷ row) → false ≡ fits (x ∷ row) (drop i s)
-fit-short x row s i h = go (fits (x ∷ row) (drop i s)) refl
-  where
-    go : (b : Bool) → fits (x ∷ row) (drop i s) ≡ b → false ≡ fits (x ∷ row) (drop i s)
-    go true e = absurd (let l = fit-within x row s i e in omega arith)
-    go false e = sym e
+fit-short x row s i h =
+    sym (false_from_ne_true (fits (x ∷ row) (drop i s)) (λ e. let l = fit-within x row s i e in omega arith))
 
 fits-take : (row : List Range) (t : List ℕ) (m : ℕ) → fits row t ≡ true → length row ≤ m → fits row (take m t) ≡ true
 fits-take [] t m e l = refl
@@ -123,7 +107,7 @@ drop-take (suc f) (suc t) (x ∷ l) = let q : suc t - suc f ≡ t - f = omega ar
 
 -- ---- the measure
 
-valid-shift : (i k : ℕ) (s : List ℕ) → validFrom i k s ≡ i + validFrom 0 k s
+pub valid-shift : (i k : ℕ) (s : List ℕ) → validFrom i k s ≡ i + validFrom 0 k s
 unfolding validFrom
 valid-shift i k [] = omega arith
 valid-shift i (suc k) (b ∷ s) = let x = valid-shift (suc i) k s in let y = valid-shift 1 k s in omega arith
@@ -139,35 +123,31 @@ valid-pass zero s l = omega arith
 valid-pass (suc k) [] l = absurd (omega arith)
 valid-pass (suc k) (b ∷ s) l = let x = valid-shift 1 k s in let y = valid-pass k s (omega arith) in omega arith
 
-valid-stop : (b : ℕ) (s : List ℕ) → width (b ∷ s) ≡ 0 → validPrefix (b ∷ s) ≡ 0
+pub valid-none : (t : List ℕ) → width t ≡ 0 → validPrefix t ≡ 0
 unfolding validFrom
-valid-stop b s e = rw (e, validFrom)
+valid-none [] e = refl
+valid-none (b ∷ s) e = rw (e, validFrom)
 
-valid-next : (k b : ℕ) (s : List ℕ) → width (b ∷ s) ≡ suc k → k ≤ length s → validPrefix (b ∷ s) ≡ suc k + validPrefix (drop k s)
+pub valid-past : (w : ℕ) (t : List ℕ) → width t ≡ w → 0 < w → w ≤ length t → validPrefix t ≡ w + validPrefix (drop w t)
 unfolding validFrom
-valid-next k b s e l = let q : validPrefix (b ∷ s) ≡ validFrom 1 k s = rw (e, validFrom) in let x = valid-shift 1 k s in let y = valid-pass k s l in omega arith
+valid-past zero t e h l = absurd (omega arith)
+valid-past (suc k) [] e h l = absurd (omega arith)
+valid-past (suc k) (b ∷ s) e h l =
+    let q : validPrefix (b ∷ s) ≡ validFrom 1 k s = rw (e, validFrom) in let x = valid-shift 1 k s in let y = valid-pass k s (omega arith) in omega arith
 
--- a row is never empty
-row-long : {row : List Range} → Row table37 row → (k : ℕ) × (length row ≡ suc k)
-row-long h = by rising-rows h
-  where
-    rising-rows : rising table37 ≡ true
-    rising-rows = refl
+-- a row is never empty: one computed test
+abbrev none-empty : List (List Range) → Bool
+none-empty [] = true
+none-empty (row ∷ rows) = leb 1 (length row) && none-empty rows
 
-    by : {rows : List (List Range)} {row : List Range} → rising rows ≡ true → Row rows row → (k : ℕ) × (length row ≡ suc k)
-    by {rows = [] ∷ rows} e here = clash e
-    by {rows = (x ∷ r) ∷ rows} e here = (length r, refl)
-    by {rows = [] ∷ rows} e (later w) = clash e
-    by {rows = (◌to◌ low high ∷ r) ∷ rows} e (later w) = by (and-both (above high rows) (rising rows) e).1 w
-    by {rows = []} e w = elim w [ ]
+row-long : {rows : List (List Range)} {row : List Range} → none-empty rows ≡ true → Row rows row → 0 < length row
+row-long {rows = row ∷ rows} e here = leb-true 1 (length row) (and-both (leb 1 (length row)) (none-empty rows) e).0
+row-long {rows = other ∷ rows} e (later w) = row-long (and-both (leb 1 (length other)) (none-empty rows) e).1 w
+row-long {rows = []} e w = elim w [ ]
 
 -- one character in front
 valid-char : (row : List Range) (t : List ℕ) → Row table37 row → fits row t ≡ true → length row ≤ length t → validPrefix t ≡ length row + validPrefix (drop (length row) t)
-valid-char row t w f l = go t (row-long w) f l
-  where
-    go : (t : List ℕ) → (k : ℕ) × (length row ≡ suc k) → fits row t ≡ true → length row ≤ length t → validPrefix t ≡ length row + validPrefix (drop (length row) t)
-    go [] (k, e) f l = absurd (omega arith)
-    go (b ∷ s) (k, e) f l = valid-next k b s (width-fit w (b ∷ s) f ∙ e) (omega arith) ∙ rw e
+valid-char row t w f l = let k = row-long refl w in valid-past (length row) t (width-fit w t f) (omega arith) l
 
 -- it is valid
 valid-good : (fuel : ℕ) (t : List ℕ) → length t ≤ fuel → (validPrefix t ≤ length t) × WellFormed (take (validPrefix t) t)
@@ -179,9 +159,9 @@ valid-good (suc fuel) (b ∷ s) l = go (width-found (b ∷ s)) (λ t h. valid-go
   where
     go : (width (b ∷ s) ≡ 0) ⊎ ((row : List Range) × Row table37 row × (fits row (b ∷ s) ≡ true) × (width (b ∷ s) ≡ length row)) → ((t : List ℕ) → length t ≤ fuel → (validPrefix t ≤ length t) × WellFormed (take (validPrefix t) t))
         → (validPrefix (b ∷ s) ≤ length (b ∷ s)) × WellFormed (take (validPrefix (b ∷ s)) (b ∷ s))
-    go (inl e) below = let z = valid-stop b s e in (omega arith, rw z WellFormed.empty)
+    go (inl e) below = let z = valid-none (b ∷ s) e in (omega arith, rw z WellFormed.empty)
     go (inr (row, w, f, e)) below =
-        let k = row-long w in
+        let k = row-long refl w in
         let a = take-fits row (b ∷ s) (length (b ∷ s)) (fits-take row (b ∷ s) (length (b ∷ s)) f (fit-length row (b ∷ s) f)) in
         let d = length-drop (length row) (b ∷ s) in
         let h = below (drop (length row) (b ∷ s)) (omega arith) in
@@ -226,4 +206,4 @@ all-valid s l = let v = valid s in rw (take_all (validPrefix s) s l) at v.valid
 -- one character of a well-formed text: it has bytes, and what follows it is well-formed
 pub first-char : {t : List ℕ} → WellFormed t → 0 < length t → (0 < width t) × WellFormed (drop (width t) t)
 first-char WellFormed.empty h = absurd (omega arith)
-first-char {t} (WellFormed.char {row} w f g) h = let e = width-fit w t f in let k = row-long w in let l = k.1 in (omega arith, rw e g)
+first-char {t} (WellFormed.char {row} w f g) h = let e = width-fit w t f in let k = row-long refl w in (omega arith, rw e g)

@@ -1,43 +1,28 @@
 -- How wide a character is, and the check of one character after the other.
-use Prim.Native.Nat.{ℕ, zero, suc, ◌+◌, ◌-◌, ◌≤◌, ◌<◌}
-use mathlib.Core.Path.{◌≡◌, refl, sym, ◌∙◌, ap}
-use mathlib.Core.Bool.{Bool, true, false, cond, ◌&&◌}
-use mathlib.Core.Logic.{◌⊎◌, inl, inr}
-use mathlib.Core.List.{List, [], ◌∷◌}
-use lib.ListN.{length, drop, get_or, length-drop, drop_of_length-le}
-use lib.Seq.{drop-drop}
-use lib.Dec.{leb}
-use native.Mathlib.Omega.{arith}
-use borrow.Author.Tests.{leb-true, le-leb}
+use Rattle.std.proofs.lemmas.Grind.{common_steps}
+use Rattle.std.proofs.Common.{ℕ, zero, suc, ◌+◌, ◌-◌, ◌≤◌, ◌<◌, ◌≡◌, refl, sym, ◌∙◌, ap, Bool, true, false, cond, ◌&&◌, inl, inr, List, [], ◌∷◌, length, drop, get_or, length-drop, drop_of_length-le, drop-drop, leb, arith, leb-true, le-leb}
 use Rattle.chars.specs.paper.Ranges.{Range, ◌to◌}
-use Rattle.chars.specs.paper.Utf8.{table37, fits, Row, here, later, width}
-use Rattle.chars.specs.computed.Valid.{validFrom}
+use Rattle.chars.specs.paper.Utf8.{table37, fits, Row, width}
+use Rattle.chars.specs.computed.Valid.{validFrom, validPrefix}
 use Rattle.chars.specs.code.Runs.{stepsIn, AllIn}
 use Rattle.chars.specs.code.Utf8.{rowAt, rowsOver}
-use Rattle.std.proofs.lemmas.Bool.{cases_lt}
+use Rattle.std.proofs.lemmas.Bool.{cases_lt, cond_both}
 use Rattle.std.specs.List.{prefix_len}
 use Rattle.chars.proofs.Bools.{and-both}
 use Rattle.chars.proofs.Prefix.{end, within, passed, stopped}
 use Rattle.chars.proofs.runs.Laws.{over-on}
 use Rattle.chars.proofs.utf8.Rows as rows
-use Rattle.chars.proofs.utf8.Valid.{width-found, width-fit, fit-length, fit-within}
-
--- no row is longer than four bytes: one computed test
-abbrev short : List (List Range) → Bool
-short [] = true
-short (row ∷ rows) = leb (length row) 4 && short rows
-
-row-short : {rows : List (List Range)} {row : List Range} → short rows ≡ true → Row rows row → length row ≤ 4
-row-short {rows = row ∷ rows} e here = leb-true (length row) 4 (and-both (leb (length row) 4) (short rows) e).0
-row-short {rows = other ∷ rows} e (later w) = row-short (and-both (leb (length other) 4) (short rows) e).1 w
-row-short {rows = []} e w = elim w [ ]
+use Rattle.chars.proofs.utf8.Wide.{Stood, stood}
+use Rattle.chars.proofs.utf8.Valid.{width-fit, fit-within, valid-shift, valid-none, valid-past}
 
 pub width-most : (t : List ℕ) → (width t ≤ 4) × (width t ≤ length t)
-width-most t = go (width-found t)
+width-most t = elim (stood t) [ inl e ↦ (omega arith, omega arith) | inr s ↦ by s ]
   where
-    go : (width t ≡ 0) ⊎ ((row : List Range) × Row table37 row × (fits row t ≡ true) × (width t ≡ length row)) → (width t ≤ 4) × (width t ≤ length t)
-    go (inl e) = (omega arith, omega arith)
-    go (inr (row, w, f, e)) = let a = row-short refl w in let b = fit-length row t f in (omega arith, omega arith)
+    by : {w : ℕ} {t : List ℕ} → Stood w t → (w ≤ 4) × (w ≤ length t)
+    by (Stood.one a) = (omega arith, omega arith)
+    by (Stood.two a b p) = (omega arith, omega arith)
+    by (Stood.three a b p q m n) = (omega arith, omega arith)
+    by (Stood.four a b p q r m n) = (omega arith, omega arith)
 
 -- at a place
 pub width-within : (s : List ℕ) (i : ℕ) → i ≤ length s → i + width (drop i s) ≤ length s
@@ -45,36 +30,20 @@ width-within s i h = let a = width-most (drop i s) in let b = length-drop i s in
 
 -- ---- the check
 
-valid-skip : (i k : ℕ) (t : List ℕ) → k ≤ length t → validFrom i k t ≡ validFrom (i + k) 0 (drop k t)
-unfolding validFrom
-valid-skip i zero t l = ap (λ j. validFrom j 0 t) (omega arith)
-valid-skip i (suc k) [] l = absurd (omega arith)
-valid-skip i (suc k) (b ∷ t) l = valid-skip (suc i) k t (omega arith) ∙ ap (λ j. validFrom j 0 (drop k t)) (omega arith)
-
 -- no character stands at i
-pub valid-stop : (s : List ℕ) (i : ℕ) → i < length s → width (drop i s) ≡ 0 → validFrom i 0 (drop i s) ≡ i
-unfolding validFrom
-valid-stop s i h e =
-    let q = rows.here s i h in
-    ap (validFrom i 0) q ∙ rw (ap width (sym q) ∙ e, validFrom)
+pub valid-stop : (s : List ℕ) (i : ℕ) → width (drop i s) ≡ 0 → validFrom i 0 (drop i s) ≡ i
+valid-stop s i e = omega (arith, valid-shift i 0 (drop i s), valid-none (drop i s) e)
+
+pub valid-end : (s : List ℕ) (i : ℕ) → length s ≤ i → validFrom i 0 (drop i s) ≡ i
+valid-end s i h = let a = width-most (drop i s) in let b = length-drop i s in valid-stop s i (omega arith)
 
 -- one of w bytes does
 pub valid-next : (s : List ℕ) (i w : ℕ) → i < length s → width (drop i s) ≡ w → (w ≡ 0 → ⊥) → validFrom (i + w) 0 (drop (i + w) s) ≡ validFrom i 0 (drop i s)
-unfolding validFrom
-valid-next s i zero h e n = absurd (n refl)
-valid-next s i (suc k) h e n =
-    let q = rows.here s i h in
-    let a = width-within s i (omega arith) in
-    let b = length-drop (i + 1) s in
-    let p : validFrom i 0 (drop i s) ≡ validFrom (suc i) k (drop (i + 1) s) = ap (validFrom i 0) q ∙ rw (ap width (sym q) ∙ e, validFrom) in
-    let x : i + 1 + k ≡ i + suc k = omega arith in
-    let y : suc i + k ≡ i + suc k = omega arith in
-    let d : drop k (drop (i + 1) s) ≡ drop (i + suc k) s = drop-drop k (i + 1) s ∙ ap (λ j. drop j s) x in
-    sym (p ∙ valid-skip (suc i) k (drop (i + 1) s) (omega arith) ∙ ap (validFrom (suc i + k) 0) d ∙ ap (λ j. validFrom j 0 (drop (i + suc k) s)) y)
-
-pub valid-end : (s : List ℕ) (i : ℕ) → length s ≤ i → validFrom i 0 (drop i s) ≡ i
-unfolding validFrom
-valid-end s i h = rw (drop_of_length-le s h, validFrom)
+valid-next s i w h e n =
+    let a = width-most (drop i s) in
+    let p = valid-past w (drop i s) e (omega arith) (omega arith) in
+    let d : validPrefix (drop w (drop i s)) ≡ validPrefix (drop (i + w) s) = ap validPrefix (drop-drop w i s) in
+    omega (arith, valid-shift i 0 (drop i s), valid-shift (i + w) 0 (drop (i + w) s), p, d)
 
 -- an ASCII byte is a character of one byte
 pub valid-ascii : (s : List ℕ) (i : ℕ) → i < length s → get_or s i 0 < 0x80 → validFrom (i + 1) 0 (drop (i + 1) s) ≡ validFrom i 0 (drop i s)
@@ -99,8 +68,7 @@ module _ {x : Range} {row : List Range} (w : Row table37 (x ∷ row)) (s : List 
 
   -- past one or none, then on
   on-if : (b : Bool) (i j : ℕ) → i ≤ length s → (b ≡ true → Onward s i j) → Onward s i (cond b j i)
-  on-if true i j h f = f refl
-  on-if false i j h f = record { onward = omega arith; within = h; same = refl }
+  on-if b i j h f = cond_both b j i (Onward s i) f (λ e. record { onward = omega arith; within = h; same = refl })
 
   rows-in : (n i : ℕ) → i ≤ length s → Onward s i (stepsIn n (length (x ∷ row)) (rowAt (x ∷ row) s) i)
   unfolding stepsIn
@@ -121,11 +89,7 @@ rows-stand x row s = over-on (length (x ∷ row)) (rowAt (x ∷ row)) s (omega a
 -- where no character of the row stands, its characters end
 pub rows_end : (row : List Range) (s : List ℕ) (i : ℕ) → rowAt row s i ≡ false → i ≡ rowsOver row s i
 unfolding stepsIn
-rows_end row s i e = go (length s)
-  where
-    go : (n : ℕ) → i ≡ stepsIn n (length row) (rowAt row s) i
-    go zero = refl
-    go (suc n) = rw e
+rows_end row s i e = grind arith
 
 -- ---- ASCII bytes
 
@@ -154,10 +118,7 @@ module _ (s : List ℕ) where
   is-ascii b = leb 0x00 b && leb b 0x7F
 
   ascii-out : (j : ℕ) → (j < length s → is-ascii (get_or s j 0) ≡ false) → rowAt ascii s j ≡ false
-  ascii-out j out = elim (cases_lt j (length s)) [
-    | inl h ↦ ap (fits ascii) (rows.here s j h) ∙ grind (arith, out h)
-    | inr h ↦ ap (fits ascii) (drop_of_length-le s h)
-  ]
+  ascii-out j out = grind (arith, common_steps)
 
   -- where the run ends, no row stands
   pub ascii_run : (i : ℕ) → i + prefix_len is-ascii (drop i s) ≡ rowsOver ascii s i

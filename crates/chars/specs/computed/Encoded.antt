@@ -1,5 +1,5 @@
 -- A code as UTF-8 bytes, by the Unicode Standard, Table 3-6, and quoted texts as scripts.
-use Rattle.std.specs.Prelude.{ℕ, ◌+◌, ◌/◌, ◌%◌, cond, List, [], ◌∷◌, ◌++◌, ltb}
+use Rattle.std.specs.Prelude.{ℕ, ◌+◌, ◌/◌, ◌%◌, if◌then◌else◌, List, [], ◌∷◌, ◌++◌, nat_lt}
 use Prim.Native.String.{String}
 use Rattle.chars.specs.paper.Quoted.{codes}
 
@@ -9,7 +9,10 @@ encoded c =
     let two : List ℕ = (0xC0 + c / 64) ∷ (0x80 + c % 64) ∷ [] in
     let three : List ℕ = (0xE0 + c / 4096) ∷ (0x80 + c / 64 % 64) ∷ (0x80 + c % 64) ∷ [] in
     let four : List ℕ = (0xF0 + c / 262144) ∷ (0x80 + c / 4096 % 64) ∷ (0x80 + c / 64 % 64) ∷ (0x80 + c % 64) ∷ [] in
-    cond (ltb c 0x80) (c ∷ []) (cond (ltb c 0x800) two (cond (ltb c 0x10000) three four))
+    if nat_lt c 0x80 then c ∷ []
+    else if nat_lt c 0x800 then two
+    else if nat_lt c 0x10000 then three
+    else four
 
 -- codes one after the other
 abbrev pub encodeAll : List ℕ → List ℕ

@@ -1,5 +1,5 @@
 -- Runs of characters, computed.
-use Rattle.std.specs.Prelude.{Bool, cond, [], ◌∷◌}
+use Rattle.std.specs.Prelude.{Bool, if◌then◌else◌, [], ◌∷◌}
 use Rattle.chars.specs.paper.Text.{Text}
 
 -- what follows the longest run of characters that pass the test, which sees the text from that character on
@@ -7,4 +7,4 @@ unfoldable pub afterRun : (Text → Bool) → Text → Text
 afterRun p [] = []
 afterRun p (c ∷ s) =
     let rest = afterRun p s in
-    cond (p (c ∷ s)) rest (c ∷ s)
+    if p (c ∷ s) then rest else c ∷ s

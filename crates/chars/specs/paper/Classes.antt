@@ -1,5 +1,5 @@
 -- The classes of a character: RULES, "Characters".
-use Rattle.std.specs.Prelude.{ℕ, Bool, not, ◌&&◌, ◌||◌, leb}
+use Rattle.std.specs.Prelude.{ℕ, Bool, not, ◌&&◌, ◌||◌, nat_le}
 use Prim.Native.String.{String}
 use Rattle.chars.specs.paper.Quoted.{between, oneOf}
 use Rattle.chars.specs.paper.Ranges.{inRanges}
@@ -24,12 +24,12 @@ alphaNotLetter c = inRanges alphaNotLetterTable c
 -- RULES, "Id start": "A character that can begin an identifier: `$`, `_`, or one that is Lowercase or Uppercase. It is at most U+FFFF, and none of
 -- the circled letters U+24B6 to U+24E9."
 unfoldable pub isIdStart : ℕ → Bool
-isIdStart c = leb c 0xFFFF && not (between 0x24B6 0x24E9 c) && (lowercase c || uppercase c || oneOf "$_" c)
+isIdStart c = nat_le c 0xFFFF && not (between 0x24B6 0x24E9 c) && (lowercase c || uppercase c || oneOf "$_" c)
 
 -- RULES, "Id character": "A character that can go on in a chunk of an identifier: `$`; or one of at most U+FFFF that is in `ND`, or Alphabetic and
 -- not in `ALPHA_NOT_LETTER`."
 unfoldable pub isIdChar : ℕ → Bool
-isIdChar c = oneOf "$" c || leb c 0xFFFF && (alphabetic c && not (alphaNotLetter c) || nd c)
+isIdChar c = oneOf "$" c || nat_le c 0xFFFF && (alphabetic c && not (alphaNotLetter c) || nd c)
 
 -- RULES, "Operator sign": "One of these eighteen, or U+21D2 (`⇒`): `! # % & * + - / : < = > ? @ \ ^ | ~`."
 abbrev pub opSigns : String
@@ -41,4 +41,4 @@ isOpSign c = oneOf opSigns c
 -- RULES, "Printable": "A character that can stand by itself between two `'`: at most U+FFFF, and in none of U+0000 to U+001F, U+007F to U+009F and
 -- U+FFF0 to U+FFFF."
 unfoldable pub isPrintable : ℕ → Bool
-isPrintable c = leb c 0xFFFF && not (between 0x0000 0x001F c) && not (between 0x007F 0x009F c) && not (between 0xFFF0 0xFFFF c)
+isPrintable c = nat_le c 0xFFFF && not (between 0x0000 0x001F c) && not (between 0x007F 0x009F c) && not (between 0xFFF0 0xFFFF c)

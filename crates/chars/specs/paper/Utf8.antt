@@ -1,5 +1,5 @@
 -- RULES, "Bytes into characters": well-formed UTF-8 by the Unicode Standard, Table 3-7.
-use Rattle.std.specs.Prelude.{ℕ, ◌≤◌, ◌+◌, ◌*◌, ◌%◌, ◌≡◌, Bool, true, false, cond, ◌&&◌, List, [], ◌∷◌, length, take, drop, get_or, eqb, leb}
+use Rattle.std.specs.Prelude.{ℕ, ◌≤◌, ◌+◌, ◌*◌, ◌%◌, Bool, true, IsTrue, false, if◌then◌else◌, ◌&&◌, List, [], ◌∷◌, length, take, drop, slice_index, ◌==◌, nat_le}
 use Rattle.chars.specs.paper.Quoted.{between}
 use Rattle.chars.specs.paper.Ranges.{Range, ◌to◌}
 
@@ -34,7 +34,7 @@ pub data Row : List (List Range) → List Range → Type 0 where
 -- where it is such characters end to end."
 pub data WellFormed : List ℕ → Type 0 where
   empty : WellFormed []
-  char : {row : List Range} {s : List ℕ} → Row table37 row → fits row s ≡ true → WellFormed (drop (length row) s) → WellFormed s
+  char : {row : List Range} {s : List ℕ} → Row table37 row → IsTrue (fits row s) → WellFormed (drop (length row) s) → WellFormed s
 
 -- n is its length: "The longest valid prefix of a script is the longest part from its start that is well-formed"
 pub record LongestValid (s : List ℕ) (n : ℕ) : Type 0 where
@@ -49,7 +49,7 @@ abbrev pub rowLength : List (List Range) → List ℕ → ℕ
 rowLength [] s = 0
 rowLength (row ∷ rows) s =
     let rest = rowLength rows s in
-    cond (fits row s) (length row) rest
+    if fits row s then length row else rest
 
 -- how many bytes the well-formed character has that the bytes begin with; 0 where none stands there
 unfoldable pub width : List ℕ → ℕ
@@ -59,11 +59,14 @@ width s = rowLength table37 s
 -- bits, where the character has one, two, three or four bytes, and each later byte six more behind them."
 unfoldable pub codeOf : ℕ → List ℕ → ℕ
 codeOf w s =
-    let a = get_or s 0 0 in
-    let b = get_or s 1 0 % 64 in
-    let c = get_or s 2 0 % 64 in
-    let d = get_or s 3 0 % 64 in
+    let a = slice_index s 0 in
+    let b = slice_index s 1 % 64 in
+    let c = slice_index s 2 % 64 in
+    let d = slice_index s 3 % 64 in
     let two = a % 32 * 64 + b in
     let three = a % 16 * 4096 + b * 64 + c in
     let four = a % 8 * 262144 + b * 4096 + c * 64 + d in
-    cond (leb w 1) a (cond (eqb w 2) two (cond (eqb w 3) three four))
+    if nat_le w 1 then a
+    else if w == 2 then two
+    else if w == 3 then three
+    else four

@@ -1,8 +1,9 @@
 -- Tests on codes. What is computed for a list of codes is carried to a code that is known to be in the list.
-use Rattle.std.specs.Prelude.{ℕ, zero, suc, ◌+◌, ◌≤◌, ◌<◌, ◌≡◌, Bool, true, false, not, ◌&&◌, List, [], ◌∷◌}
+use Rattle.std.specs.Prelude.{ℕ, zero, suc, ◌+◌, ◌≤◌, ◌<◌, ◌≡◌, Bool, true, IsTrue, false, IsFalse, not, ◌&&◌, List, [], ◌∷◌, nat_lt}
 use types.Run.{OneOf}
 use Rattle.chars.specs.paper.Quoted.{between, member}
 use Rattle.chars.specs.code.Classes.{bitIn}
+use Rattle.chars.specs.code.Masks.{inMasks}
 
 -- does the test hold at every code of the list?
 abbrev pub every : (ℕ → Bool) → List ℕ → Bool
@@ -21,24 +22,26 @@ alike false y = not y
 
 pub record CodeLaws : Type 0 where
   -- a test that holds at every code of a list holds at a member; one that holds at none of them fails at a member
-  pub carry : (f : ℕ → Bool) (l : List ℕ) (c : ℕ) → every f l ≡ true → member l c ≡ true → f c ≡ true
-  pub carry-not : (f : ℕ → Bool) (l : List ℕ) (c : ℕ) → every (λ x. not (f x)) l ≡ true → member l c ≡ true → f c ≡ false
+  pub carry : (f : ℕ → Bool) (l : List ℕ) (c : ℕ) → IsTrue (every f l) → IsTrue (member l c) → IsTrue (f c)
+  pub carry-not : (f : ℕ → Bool) (l : List ℕ) (c : ℕ) → IsTrue (every (λ x. not (f x)) l) → IsTrue (member l c) → IsFalse (f c)
   -- where a test fails at every code of a list, a code at which it holds is no member
-  pub no-member : (f : ℕ → Bool) (l : List ℕ) (c : ℕ) → every (λ x. not (f x)) l ≡ true → f c ≡ true → member l c ≡ false
+  pub no-member : (f : ℕ → Bool) (l : List ℕ) (c : ℕ) → IsTrue (every (λ x. not (f x)) l) → IsTrue (f c) → IsFalse (member l c)
   -- a test that implies another, over a list
-  pub every-sub : (f g : ℕ → Bool) (l : List ℕ) → every f l ≡ true → ((c : ℕ) → f c ≡ true → g c ≡ true) → every g l ≡ true
+  pub every-sub : (f g : ℕ → Bool) (l : List ℕ) → IsTrue (every f l) → ((c : ℕ) → IsTrue (f c) → IsTrue (g c)) → IsTrue (every g l)
   -- the list of n codes from a on
-  pub carry-span : (f : ℕ → Bool) (a n c : ℕ) → every f (span a n) ≡ true → a ≤ c → c < a + n → f c ≡ true
+  pub carry-span : (f : ℕ → Bool) (a n c : ℕ) → IsTrue (every f (span a n)) → a ≤ c → c < a + n → IsTrue (f c)
   -- two tests that are found alike say the same
-  pub agree : (x y : Bool) → alike x y ≡ true → x ≡ y
+  pub agree : (x y : Bool) → IsTrue (alike x y) → x ≡ y
   -- a set of ASCII characters as two masks: computed at each code of ASCII, and empty past it
-  pub mask-set : (low high : ℕ) (p : ℕ → Bool) → every (λ x. alike (bitIn low high x) (p x)) (span 0 128) ≡ true
-      → ((c : ℕ) → 0x80 ≤ c → p c ≡ false) → (c : ℕ) → bitIn low high c ≡ p c
+  pub mask-set : (low high : ℕ) (p : ℕ → Bool) → IsTrue (every (λ x. alike (bitIn low high x) (p x)) (span 0 128))
+      → ((c : ℕ) → 0x80 ≤ c → IsFalse (p c)) → (c : ℕ) → bitIn low high c ≡ p c
+  -- they are masks by blocks, of two blocks
+  pub two-masks : (low high c : ℕ) → bitIn low high c ≡ nat_lt c 0x80 && inMasks (low ∷ high ∷ []) (0 ∷ 1 ∷ []) c
   -- one of the keys of a match's arm, or none of them
-  pub hits : (ks : List ℕ) (x : ℕ) → OneOf ks x → member ks x ≡ true
-  pub misses : (ks : List ℕ) (x : ℕ) → (OneOf ks x → ⊥) → member ks x ≡ false
+  pub hits : (ks : List ℕ) (x : ℕ) → OneOf ks x → IsTrue (member ks x)
+  pub misses : (ks : List ℕ) (x : ℕ) → (OneOf ks x → ⊥) → IsFalse (member ks x)
   -- a code and one range
-  pub between-in : (l h c : ℕ) → l ≤ c → c ≤ h → between l h c ≡ true
-  pub between-out : (l h c : ℕ) → (l ≤ c → h < c) → between l h c ≡ false
-  pub in-between : (l h c : ℕ) → between l h c ≡ true → (l ≤ c) × (c ≤ h)
-  pub not-between : (l h c : ℕ) → between l h c ≡ false → l ≤ c → h < c
+  pub between-in : (l h c : ℕ) → l ≤ c → c ≤ h → IsTrue (between l h c)
+  pub between-out : (l h c : ℕ) → (l ≤ c → h < c) → IsFalse (between l h c)
+  pub in-between : (l h c : ℕ) → IsTrue (between l h c) → (l ≤ c) × (c ≤ h)
+  pub not-between : (l h c : ℕ) → IsFalse (between l h c) → l ≤ c → h < c

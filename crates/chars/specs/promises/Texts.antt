@@ -1,5 +1,5 @@
 -- The text from a place on, the suffixes of a text, runs of characters.
-use Rattle.std.specs.Prelude.{ℕ, ◌+◌, ◌-◌, ◌≤◌, ◌<◌, ◌≡◌, Bool, true, false, None, List, [], ◌∷◌, length, drop, get_or}
+use Rattle.std.specs.Prelude.{ℕ, ◌+◌, ◌-◌, ◌≤◌, ◌<◌, ◌≡◌, Bool, IsTrue, IsFalse, None, List, [], ◌∷◌, length, drop, slice_index}
 use Rattle.chars.specs.paper.Text.{Char, Text, from, place, headIs}
 use Rattle.chars.specs.computed.Runs.{afterRun}
 use Rattle.chars.specs.code.Utf8.{decoded}
@@ -16,8 +16,8 @@ ScriptText script s = (i : ℕ) × (from script i ≡ s)
 
 -- a class of ASCII characters without NUL
 pub record AsciiClass (p : ℕ → Bool) : Type 0 where
-  pub nul : p 0 ≡ false
-  pub wide : (c : ℕ) → 0x80 ≤ c → p c ≡ false
+  pub nul : IsFalse (p 0)
+  pub wide : (c : ℕ) → 0x80 ≤ c → IsFalse (p c)
 
 -- r is what is left of s after some characters past ASCII
 pub data PastWide : Text → Text → Type 0 where
@@ -32,17 +32,17 @@ pub record TextLaws : Type 0 where
   -- the text from i on starts at i
   pub place-from : (s : List ℕ) (i : ℕ) → i ≤ length s → place (length s) (from s i) ≡ i
   -- an ASCII byte is a character
-  pub at-ascii : (s : List ℕ) (i : ℕ) → i < length s → get_or s i 0 < 0x80 → from s i ≡ record { code = get_or s i 0; at = i } ∷ from s (i + 1)
-  pub ascii-code : (s : List ℕ) (i : ℕ) → i < length s → get_or s i 0 < 0x80 → codeAt s i ≡ get_or s i 0
-  pub ascii-next : (s : List ℕ) (i : ℕ) → i < length s → get_or s i 0 < 0x80 → charEnd s i ≡ i + 1
+  pub at-ascii : (s : List ℕ) (i : ℕ) → i < length s → slice_index s i < 0x80 → from s i ≡ record { code = slice_index s i; at = i } ∷ from s (i + 1)
+  pub ascii-code : (s : List ℕ) (i : ℕ) → i < length s → slice_index s i < 0x80 → codeAt s i ≡ slice_index s i
+  pub ascii-next : (s : List ℕ) (i : ℕ) → i < length s → slice_index s i < 0x80 → charEnd s i ≡ i + 1
   -- what begins past ASCII has a code past ASCII; the other bytes of a character are 0x80 to 0xBF
-  pub wide-code : (s : List ℕ) (i : ℕ) → 0x80 ≤ get_or s i 0 → 0x80 ≤ codeAt s i
-  pub wide-tail : (s : List ℕ) (i : ℕ) → i < length s → (j : ℕ) → i < j → j < charEnd s i → (0x80 ≤ get_or s j 0) × (get_or s j 0 ≤ 0xBF)
+  pub wide-code : (s : List ℕ) (i : ℕ) → 0x80 ≤ slice_index s i → 0x80 ≤ codeAt s i
+  pub wide-tail : (s : List ℕ) (i : ℕ) → i < length s → (j : ℕ) → i < j → j < charEnd s i → (0x80 ≤ slice_index s j) × (slice_index s j ≤ 0xBF)
   -- from such a byte, and from one byte further, only characters past ASCII lie before the character's end
-  pub wide-past : (s : List ℕ) (i : ℕ) → i < length s → 0x80 ≤ get_or s i 0
+  pub wide-past : (s : List ℕ) (i : ℕ) → i < length s → 0x80 ≤ slice_index s i
       → PastWide (from s i) (from s (charEnd s i)) × PastWide (from s (i + 1)) (from s (charEnd s i))
   -- ---- a class of ASCII characters is seen by the byte there, which counts as 0 past the end
-  pub head-byte : (p : ℕ → Bool) → AsciiClass p → (s : List ℕ) (i : ℕ) → headIs p (from s i) ≡ p (get_or s i 0)
+  pub head-byte : (p : ℕ → Bool) → AsciiClass p → (s : List ℕ) (i : ℕ) → headIs p (from s i) ≡ p (slice_index s i)
   -- ---- one step
   pub step-text : (s : List ℕ) (i c w : ℕ) → decoded c w ≡ stepAt s i → (i < length s) × (codeAt s i ≡ c) × (charEnd s i ≡ i + w)
   pub step-none : (s : List ℕ) (i : ℕ) → None ≡ stepAt s i → length s ≤ i
@@ -60,9 +60,9 @@ pub record TextLaws : Type 0 where
   -- a script has no more characters than bytes
   pub from-length : (script : List ℕ) → length (from script 0) ≤ length script
   -- ---- runs: past a character of it the run is the same; where the test fails at once nothing is passed
-  pub run-next : (p : Text → Bool) (s : List ℕ) (i : ℕ) → i < length s → p (from s i) ≡ true → afterRun p (from s (charEnd s i)) ≡ afterRun p (from s i)
-  pub run-stays : (p : Text → Bool) (t : Text) → p t ≡ false → afterRun p t ≡ t
+  pub run-next : (p : Text → Bool) (s : List ℕ) (i : ℕ) → i < length s → IsTrue (p (from s i)) → afterRun p (from s (charEnd s i)) ≡ afterRun p (from s i)
+  pub run-stays : (p : Text → Bool) (t : Text) → IsFalse (p t) → afterRun p t ≡ t
   -- it ends within the script, not before its start, and what stands there fails the test
   pub run-place : (p : Text → Bool) (s : List ℕ) (i r : ℕ) → i ≤ length s → r ≡ place (length s) (afterRun p (from s i))
       → (i ≤ r) × (r ≤ length s) × (from s r ≡ afterRun p (from s i))
-  pub run-done : (p : Text → Bool) → p [] ≡ false → (t : Text) → p (afterRun p t) ≡ false
+  pub run-done : (p : Text → Bool) → IsFalse (p []) → (t : Text) → IsFalse (p (afterRun p t))

@@ -1,5 +1,5 @@
 -- What stands at a byte offset, the longest valid prefix, and what is written for a code.
-use Rattle.std.specs.Prelude.{ℕ, ◌+◌, ◌≤◌, ◌<◌, ◌≡◌, Bool, true, not, ◌&&◌, None, List, ◌++◌, length, drop, get_or, leb}
+use Rattle.std.specs.Prelude.{ℕ, ◌+◌, ◌≤◌, ◌<◌, ◌≡◌, Bool, IsTrue, not, ◌&&◌, None, List, ◌++◌, length, drop, slice_index, nat_le}
 use Rattle.chars.specs.paper.Quoted.{between}
 use Rattle.chars.specs.paper.Utf8.{WellFormed, LongestValid, width, codeOf}
 use Rattle.chars.specs.computed.Valid.{validPrefix}
@@ -11,10 +11,10 @@ pub record Decoding (s : List ℕ) (i : ℕ) : Type 0 where
   -- a character is 1 to 4 bytes wide and ends within the slice
   pub widths : (c w : ℕ) → decoded c w ≡ decodeAt s i → (1 ≤ w) × (w ≤ 4) × (i + w ≤ length s)
   -- a byte below 0x80 is itself
-  pub ascii : i < length s → get_or s i 0 < 0x80 → decodeAt s i ≡ decoded (get_or s i 0) 1
+  pub ascii : i < length s → slice_index s i < 0x80 → decodeAt s i ≡ decoded (slice_index s i) 1
   -- a byte of 0x80 to 0xBF starts nothing, nor does 0xC0, 0xC1 or a byte of 0xF5 and above
-  pub no-first : i < length s → 0x80 ≤ get_or s i 0 → get_or s i 0 ≤ 0xC1 → decodeAt s i ≡ None
-  pub high : i < length s → 0xF5 ≤ get_or s i 0 → decodeAt s i ≡ None
+  pub no-first : i < length s → 0x80 ≤ slice_index s i → slice_index s i ≤ 0xC1 → decodeAt s i ≡ None
+  pub high : i < length s → 0xF5 ≤ slice_index s i → decodeAt s i ≡ None
   -- past the end nothing stands
   pub past : length s ≤ i → decodeAt s i ≡ None
   -- the text there begins with it
@@ -29,16 +29,16 @@ pub record ValidLaws : Type 0 where
   pub all-valid : (s : List ℕ) → length s ≤ validPrefix s → WellFormed s
   -- well-formed text begins with no byte of 0x80 to 0xBF, and behind its first character it is well-formed
   pub next-valid : (s : List ℕ) (i : ℕ) → i < length s → WellFormed (drop i s)
-      → (0x80 ≤ get_or s i 0 → 0xBF < get_or s i 0) × WellFormed (drop (charEnd s i) s)
+      → (0x80 ≤ slice_index s i → 0xBF < slice_index s i) × WellFormed (drop (charEnd s i) s)
 
 -- a code that UTF-8 can carry: a Unicode scalar value, at most U+10FFFF and no surrogate
 abbrev pub isScalar : ℕ → Bool
-isScalar c = leb c 0x10FFFF && not (between 0xD800 0xDFFF c)
+isScalar c = nat_le c 0x10FFFF && not (between 0xD800 0xDFFF c)
 
 -- the bytes that are written for a code
 pub record EncodingLaws : Type 0 where
   -- what is written for a scalar value is one well-formed character of Table 3-7, whatever follows it, and decodes to the code again
-  pub decodes : (c : ℕ) (rest : List ℕ) → isScalar c ≡ true
+  pub decodes : (c : ℕ) (rest : List ℕ) → IsTrue (isScalar c)
       → (width (encoded c ++ rest) ≡ length (encoded c)) × (codeOf (length (encoded c)) (encoded c ++ rest) ≡ c)
   -- put before well-formed text it gives well-formed text
-  pub encodes-valid : (c : ℕ) → isScalar c ≡ true → (rest : List ℕ) → WellFormed rest → WellFormed (encoded c ++ rest)
+  pub encodes-valid : (c : ℕ) → IsTrue (isScalar c) → (rest : List ℕ) → WellFormed rest → WellFormed (encoded c ++ rest)

@@ -1,5 +1,5 @@
 -- What the code's judgement says, and what a buffer holds that it was lent.
-use Rattle.std.specs.Prelude.{ℕ, ◌≤◌, cond, List, length, ltb, Result, Ok, Err}
+use Rattle.std.specs.Prelude.{ℕ, ◌≤◌, if◌then◌else◌, List, length, nat_lt, Result, Ok, Err}
 use Rattle.chars.specs.computed.Valid.{validPrefix}
 use Rattle.token.specs.computed.Answer.{answer}
 use Rattle.token.specs.paper.Records.{recordBytes, mostBytes}
@@ -25,5 +25,5 @@ pub record Judged (script : List ℕ) (n : Need) : Type 0 where
 -- too long or not UTF-8.
 unfoldable pub scratchOf : List ℕ → List ℕ → List ℕ
 scratchOf script scratch =
-    let checked = cond (ltb (validPrefix script) (length script)) scratch (storedFrom script begun scratch) in
-    cond (ltb mostBytes (length script)) scratch checked
+    let checked = if nat_lt (validPrefix script) (length script) then scratch else storedFrom script begun scratch in
+    if nat_lt mostBytes (length script) then scratch else checked

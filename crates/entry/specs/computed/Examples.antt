@@ -1,5 +1,5 @@
 -- The examples of RULES: by the listing of a script, by what the host sees, and of token text. `HostTheorems` asks for them.
-use Rattle.std.specs.Prelude.{ℕ, ◌≡◌, true, List, [], ◌∷◌, ◌++◌, map, length, replicate, ltb}
+use Rattle.std.specs.Prelude.{ℕ, ◌≡◌, IsTrue, List, [], ◌∷◌, ◌++◌, map, length, replicate, nat_lt}
 use Rattle.words.specs.Words.{blockOf}
 use Rattle.chars.specs.paper.Quoted.{codes}
 use Rattle.chars.specs.computed.Encoded.{script}
@@ -17,9 +17,9 @@ illFormed = (0x61 ∷ 0xC0 ∷ 0x80 ∷ []) ∷ (0xED ∷ 0xA0 ∷ 0x80 ∷ []) 
 
 pub record Examples : Type 0 where
   -- the twelve marked scripts, the listing's example, refusals 1 to 16, ties and traps: by the listing of a script
-  pub scripts-hold : holdBy entered (marked ++ listingExample ++ refusalExamples ++ tieExamples ++ traps) ≡ true
+  pub scripts-hold : IsTrue (holdBy entered (marked ++ listingExample ++ refusalExamples ++ tieExamples ++ traps))
   -- 17, for every script that is so long
-  pub too-long : (s : List ℕ) (room : ℕ) → ltb mostBytes (length s) ≡ true → verdict s room ≡ rejected 17 0
+  pub too-long : (s : List ℕ) (room : ℕ) → IsTrue (nat_lt mostBytes (length s)) → verdict s room ≡ rejected 17 0
   -- 18: the place is the length of the longest valid prefix
   pub not-utf8 : map entered illFormed
       ≡ map codes ("refused 18 at 1\n" ∷ "refused 18 at 0\n" ∷ "refused 18 at 1\n" ∷ "refused 18 at 1\n" ∷ [])

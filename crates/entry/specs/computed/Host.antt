@@ -1,5 +1,5 @@
 -- What the host sees, computed: the verdict in the order of the refusals, and what follows from it.
-use Rattle.std.specs.Prelude.{ℕ, cond, List, ◌++◌, length, drop, eqb, leb, ltb}
+use Rattle.std.specs.Prelude.{ℕ, if◌then◌else◌, List, ◌++◌, length, drop, ◌==◌, nat_le, nat_lt}
 use Rattle.chars.specs.computed.Valid.{validPrefix}
 use Rattle.token.specs.paper.Kinds.{Token}
 use Rattle.token.specs.computed.Answer.{Answer, answer}
@@ -15,15 +15,15 @@ pub data Verdict : Type 0 where
 
 -- 19: records need more than lent
 unfoldable pub byRoom : ℕ → Answer → Verdict
-byRoom room (Answer.tokenized ts) = cond (leb (recordBytes ts) room) (granted ts) (lacking ts)
+byRoom room (Answer.tokenized ts) = if nat_le (recordBytes ts) room then granted ts else lacking ts
 byRoom room (Answer.refused j a) = rejected j a
 
 unfoldable pub verdict : List ℕ → ℕ → Verdict
 verdict script room =
     let valid = validPrefix script in
     let judged = byRoom room (answer script) in
-    let checked = cond (ltb valid (length script)) (rejected 18 valid) judged in
-    cond (ltb mostBytes (length script)) (rejected 17 0) checked
+    let checked = if nat_lt valid (length script) then rejected 18 valid else judged in
+    if nat_lt mostBytes (length script) then rejected 17 0 else checked
 
 -- the number, the buffer and the block that follow from it
 unfoldable pub seenOf : Verdict → List ℕ → Seen
@@ -34,4 +34,4 @@ seenOf (lacking ts) buffer = seen 19 buffer (blockOf 19 0 (tokenCount ts) (recor
 unfoldable pub hostOf : List ℕ → List ℕ → List ℕ → Seen
 hostOf script buffer block =
     let judged = seenOf (verdict script (length buffer)) buffer in
-    cond (eqb (length block) 16) judged (seen 20 buffer block)
+    if length block == 16 then judged else seen 20 buffer block

@@ -1,5 +1,5 @@
 -- What the host sees: RULES, "Refusals of a call", "Order of refusals" and "Answer".
-use Rattle.std.specs.Prelude.{ℕ, ◌≤◌, ◌<◌, ◌≡◌, List, ◌++◌, length, drop}
+use Rattle.std.specs.Prelude.{ℕ, ◌≤◌, ◌<◌, ◌≡◌, ◌≢◌, List, ◌++◌, length, drop}
 use Rattle.chars.specs.paper.Utf8.{WellFormed, LongestValid}
 use Rattle.token.specs.paper.Kinds.{Token}
 use Rattle.token.specs.paper.Reading.{TokensOf}
@@ -37,7 +37,7 @@ pub record Read (script block : List ℕ) (ts : List Token) : Type 0 where
 -- What the host sees, by the refusals and their order. "Every refusal leaves the records buffer as it was."
 pub data Sees (script buffer block : List ℕ) : Seen → Type 0 where
   -- RULES, "Answer": "A block of another length is refused by 20 and keeps its bytes."
-  twenty : (length block ≡ 16 → ⊥) → Sees script buffer block (seen 20 buffer block)
+  twenty : length block ≢ 16 → Sees script buffer block (seen 20 buffer block)
   -- RULES, "Refusals of a call": "the script has more than 16,777,216 bytes"; at 0
   seventeen : length block ≡ 16 → mostBytes < length script → Sees script buffer block (seen 17 buffer (blockOf 17 0 0 0))
   -- "the script is not well-formed UTF-8"; at "the length of the longest valid prefix"

@@ -12,7 +12,7 @@ use native.Mathlib.Omega.{arith}
 use borrow.Author.Tests.{eqb-true, eqb-false}
 use Rattle.chars.specs.paper.Quoted.{between}
 use Rattle.chars.proofs.theorems.Promises.{code_laws}
-use Rattle.lines.specs.computed.Lines.{part, countIn}
+use Rattle.lines.specs.computed.Lines.{part, countIn, lineCount}
 open code_laws use {between-in, between-out}
 
 -- ---- parts
@@ -111,3 +111,8 @@ module _ (low high : ℕ) where
 
 -- for the functions that count
 pub ruleset counting = (count-none, count-next, count-most, count-within, count-append, take-length)
+
+-- a line is a byte at least, but the last
+pub lines_most : (s : List ℕ) → lineCount s ≤ length s + 1
+unfolding lineCount
+lines_most s = let c = count-most 0x0A 0x0A s in omega arith

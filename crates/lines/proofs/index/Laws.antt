@@ -1,19 +1,23 @@
--- Where lines start, byte by byte and eight at a time.
-use Prim.Native.Nat.{ℕ, zero, suc, ◌+◌, ◌-◌, ◌≤◌, ◌<◌}
+-- Where lines start, byte by byte and many at a time.
+use Prim.Native.Nat.{ℕ, zero, suc, ◌+◌, ◌-◌, ◌*◌, ◌/◌, ◌%◌, ◌^◌, ◌≤◌, ◌<◌}
 use mathlib.Core.Path.{◌≡◌, refl, sym, ◌∙◌, ap}
-use mathlib.Core.Bool.{Bool, true, false, cond, not, ◌&&◌}
+use mathlib.Core.Bool.{Bool, true, false, cond}
 use mathlib.Core.List.{List, [], ◌∷◌, ◌++◌, append-nil}
 use lib.ListN.{length, take, drop, get_or, set, length-append, length-set}
 use lib.Seq.{sets, length-sets, take-add, drop-drop, drop-cons}
 use lib.Dec.{eqb}
-use native.Mathlib.Nat.{zero-add, add-zero}
+use native.Mathlib.Nat.{add-zero, mul_comm, pow-suc, div-div-eq-div-mul}
+use lib.Count.{count_trailing_zeros, under}
+use Rattle.std.specs.List.{range_with_len}
+use Rattle.std.proofs.lemmas.List.{take-take, drop-take}
+use Rattle.std.proofs.lemmas.List.FromFn.{length-range_with_len}
 use native.Mathlib.Numerals.{add-one}
 use native.Mathlib.Omega.{arith}
-use borrow.Author.Tests.{eqb-true, eq-eqb, ne_eqb}
+use borrow.Author.Tests.{eq-eqb, ne_eqb}
 use Rattle.words.proofs.Stores.{after, sets-front}
 use Rattle.lines.specs.computed.Lines.{part, countIn, startsIn, startsOf, lineCount}
-use Rattle.lines.specs.code.Index.{noLf}
-use Rattle.lines.proofs.count.Laws.{between-lf, part-more, part-none, part-join, part-all, part-length, count-append, count-one}
+use Rattle.lines.specs.code.Index.{lfMask}
+use Rattle.lines.proofs.count.Laws.{between-lf, part-more, part-none, part-join, part-all, part-length}
 
 -- ---- starts
 
@@ -75,57 +79,205 @@ pub starts-none : (s : List ℕ) (i : ℕ) → startsIn i (part s i i) ≡ []
 unfolding startsIn
 starts-none s i = ap (startsIn i) (part-none s i)
 
--- ---- eight bytes without an LF
+-- ---- bytes by their mask
 
-module _ (s : List ℕ) where
-  no-lf-one : (i : ℕ) → i < length s → noLf s i 1 ≡ not (eqb (get_or s i 0) 0x0A)
-  unfolding noLf
-  no-lf-one i h =
-      let e : take 1 (drop i s) ≡ get_or s i 0 ∷ [] = ap (take 1) (drop-cons s i 0 h) in
-      ap (λ l. eqb (countIn 0x0A 0x0A l) 0) e ∙ ap (λ n. eqb n 0) (count-one 0x0A 0x0A (get_or s i 0)) ∙ rw (between-lf (get_or s i 0)) (go (eqb (get_or s i 0) 0x0A))
+-- no LF is marked
+mask-none : (i : ℕ) (s : List ℕ) → lfMask s ≡ 0 → startsIn i s ≡ []
+unfolding lfMask startsIn
+mask-none i [] e = refl
+mask-none i (b ∷ s) e = go (eqb b 0x0A) e (mask-none (suc i) s)
+  where
+    go : (t : Bool) → cond t 1 0 + 2 * lfMask s ≡ 0 → (lfMask s ≡ 0 → startsIn (suc i) s ≡ []) → cond t (suc i ∷ startsIn (suc i) s) (startsIn (suc i) s) ≡ []
+    go true e f = absurd (omega arith)
+    go false e f = f (omega arith)
+
+-- all are
+mask-all : (i : ℕ) (s : List ℕ) → lfMask s + 1 ≡ 2 ^ length s → startsIn i s ≡ range_with_len (i + 1) (length s)
+unfolding lfMask startsIn
+mask-all i [] e = refl
+mask-all i (b ∷ s) e = go (eqb b 0x0A) (e ∙ pow-suc 2 (length s)) (mask-all (suc i) s)
+  where
+    go : (t : Bool) → cond t 1 0 + 2 * lfMask s + 1 ≡ 2 ^ length s * 2 → (lfMask s + 1 ≡ 2 ^ length s → startsIn (suc i) s ≡ range_with_len (suc i + 1) (length s))
+        → cond t (suc i ∷ startsIn (suc i) s) (startsIn (suc i) s) ≡ (i + 1) ∷ range_with_len (i + 1 + 1) (length s)
+    go true e f = rw (add-one i) (ap (λ l. suc i ∷ l) (f (omega arith)))
+    go false e f = absurd (omega arith)
+
+-- so many of them
+pub starts-all : (n : ℕ) (s : List ℕ) (i : ℕ) → i + n ≤ length s → lfMask (part s i (i + n)) + 1 ≡ 2 ^ n → startsIn i (part s i (i + n)) ≡ range_with_len (i + 1) n
+starts-all n s i h e =
+    let long : length (part s i (i + n)) ≡ n = let l = part-length s i (i + n) h in omega arith in
+    mask-all i (part s i (i + n)) (e ∙ sym (ap (λ n. 2 ^ n) long)) ∙ ap (range_with_len (i + 1)) long
+
+-- the lowest bit, and the others
+low : (t : Bool) (m : ℕ) → ((cond t 1 0 + 2 * m) % 2 ≡ cond t 1 0) × ((cond t 1 0 + 2 * m) / 2 ≡ m)
+low true m = (omega arith, omega arith)
+low false m = (omega arith, omega arith)
+
+-- the first LF of bytes that begin at the place i: there are o others before it
+record First (i o : ℕ) (s : List ℕ) : Type 0 where
+  within : o < length s
+  starts : startsIn i s ≡ suc (i + o) ∷ startsIn (suc (i + o)) (drop (suc o) s)
+  rest : lfMask s / 2 ^ o ≡ 1 + 2 * lfMask (drop (suc o) s)
+
+-- by the lowest bit that is 1
+first-lf : (k i : ℕ) (s : List ℕ) → length s ≤ k → 0 < lfMask s → First i (count_trailing_zeros k (lfMask s)) s
+unfolding count_trailing_zeros lfMask startsIn
+first-lf k i [] h some = absurd (omega arith)
+first-lf zero i (b ∷ s) h some = absurd (omega arith)
+first-lf (suc k) i (b ∷ s) h some =
+    let l = low (eqb b 0x0A) (lfMask s) in rw (l.0, l.1) (go (eqb b 0x0A) refl some (first-lf k (suc i) s (omega arith)))
+  where
+    go : (t : Bool) → eqb b 0x0A ≡ t → 0 < cond t 1 0 + 2 * lfMask s → (0 < lfMask s → First (suc i) (count_trailing_zeros k (lfMask s)) s)
+        → First i (under (cond t 1 0) (count_trailing_zeros k (lfMask s))) (b ∷ s)
+    go true e some f =
+        record {
+          within = omega arith;
+          starts = rw e (ap (λ n. suc n ∷ startsIn (suc n) s) (sym (add-zero i)));
+          rest = rw e (omega arith);
+        }
+    go false e some f =
+        let r = f (omega arith) in
+        let o = count_trailing_zeros k (lfMask s) in
+        let half : (0 + 2 * lfMask s) / 2 ≡ lfMask s = omega arith in
+        record {
+          within = omega (arith, r.within);
+          starts = rw e (r.starts ∙ ap (λ n. suc n ∷ startsIn (suc n) (drop (suc o) s)) (omega arith));
+          rest =
+              rw e (
+              ap (λ d. (0 + 2 * lfMask s) / d) (pow-suc 2 o ∙ mul_comm (2 ^ o) 2) ∙ sym (div-div-eq-div-mul (0 + 2 * lfMask s) 2 (2 ^ o))
+              ∙ ap (λ m. m / 2 ^ o) half ∙ r.rest
+              );
+        }
+
+-- one digit more, a 0
+zeros-double : (k m : ℕ) → count_trailing_zeros (suc k) (2 * m) ≡ suc (count_trailing_zeros k m)
+unfolding count_trailing_zeros
+zeros-double k m =
+    let e : 2 * m % 2 ≡ 0 = omega arith in
+    let f : 2 * m / 2 ≡ m = omega arith in
+    rw (e, f)
+
+zeros-odd : (k m : ℕ) → m % 2 ≡ 1 → count_trailing_zeros (suc k) m ≡ 0
+unfolding count_trailing_zeros
+zeros-odd k m e = rw e refl
+
+-- a part without its first bytes
+part-drop : (s : List ℕ) (i j n : ℕ) → i + n ≤ j → drop n (part s i j) ≡ part s (i + n) j
+part-drop s i j n h =
+    let k : j - i ≡ n + (j - (i + n)) = omega arith in
+    ap (λ m. drop n (take m (drop i s))) k ∙ drop-take n (j - (i + n)) (drop i s) ∙ ap (take (j - (i + n))) (drop-drop n i s)
+
+-- the mask without its first bits
+pub mask-drop : (n : ℕ) (s : List ℕ) → lfMask s / 2 ^ n ≡ lfMask (drop n s)
+unfolding lfMask
+mask-drop zero s = omega arith
+mask-drop (suc n) [] = omega arith
+mask-drop (suc n) (b ∷ s) =
+    let m = (low (eqb b 0x0A) (lfMask s)).1 in
+    ap (λ d. (cond (eqb b 0x0A) 1 0 + 2 * lfMask s) / d) (pow-suc 2 n ∙ mul_comm (2 ^ n) 2)
+    ∙ sym (div-div-eq-div-mul (cond (eqb b 0x0A) 1 0 + 2 * lfMask s) 2 (2 ^ n))
+    ∙ ap (λ d. d / 2 ^ n) m
+    ∙ mask-drop n s
+
+-- of more bytes up to the same place
+pub mask-behind : (s : List ℕ) (i j n : ℕ) → i + n ≤ j → lfMask (part s i j) / 2 ^ n ≡ lfMask (part s (i + n) j)
+mask-behind s i j n h = mask-drop n (part s i j) ∙ ap lfMask (part-drop s i j n h)
+
+-- of the last sixty-four bytes, those before the place i shifted out
+pub mask-last : (s : List ℕ) (i : ℕ) → 64 ≤ length s → i ≤ length s → length s ≤ i + 64
+    → lfMask (part s (length s - 64) (length s - 64 + 64)) / 2 ^ (64 - (length s - i)) ≡ lfMask (part s i (length s))
+mask-last s i h b m =
+    let e : length s - 64 + 64 ≡ length s = omega arith in
+    let f : length s - 64 + (64 - (length s - i)) ≡ i = omega arith in
+    rw e (mask-behind s (length s - 64) (length s) (64 - (length s - i)) (omega arith) ∙ ap (λ k. lfMask (part s k (length s))) f)
+
+-- The starts up to the place j that are left, by x, the lowest bit of which says that a line starts at i: the others are the mask of the bytes from i on.
+unfoldable pub ahead : List ℕ → ℕ → ℕ → ℕ → List ℕ
+ahead s i j x =
+    let rest = startsIn i (part s i j) in
+    cond (eqb (x % 2) 1) (i ∷ rest) rest
+
+-- the first of them, n places on
+pub record Next (s : List ℕ) (i j x n : ℕ) : Type 0 where
+  pub within : i + n ≤ j
+  pub some : 1 ≤ x / 2 ^ n
+  pub starts : ahead s i j x ≡ (i + n) ∷ ahead s (i + n) j (x / 2 ^ n - 1)
+  pub mask : (x / 2 ^ n - 1) / 2 ≡ lfMask (part s (i + n) j)
+  pub less : 2 * (j - (i + n)) + (x / 2 ^ n - 1) % 2 < 2 * (j - i) + x % 2
+
+module _ (s : List ℕ) (i j : ℕ) where
+  pub ahead-all : i < j → j ≤ length s
+      → (lfMask (part s i j) / 2 ≡ lfMask (part s (i + 1) j)) × (ahead s (i + 1) j (lfMask (part s i j)) ≡ startsIn i (part s i j))
+  unfolding ahead startsIn lfMask
+  ahead-all h b =
+      let p = part s (i + 1) j in
+      let e : part s i j ≡ get_or s i 0 ∷ p = part-join s i (i + 1) j (omega arith) (omega arith) ∙ ap (λ l. l ++ p) (part-one s i (omega arith)) in
+      let t = eqb (get_or s i 0) 0x0A in
+      let l = low t (lfMask p) in
+      rw e (l.1, rw (l.0, add-one i) (go t))
     where
-      go : (t : Bool) → eqb (cond t 1 0) 0 ≡ not t
+      go : (t : Bool) → cond (eqb (cond t 1 0) 1) (suc i ∷ startsIn (suc i) (part s (suc i) j)) (startsIn (suc i) (part s (suc i) j))
+          ≡ cond t (suc i ∷ startsIn (suc i) (part s (suc i) j)) (startsIn (suc i) (part s (suc i) j))
       go true = refl
       go false = refl
 
-  no-lf-join : (i m n : ℕ) → noLf s i m && noLf s (i + m) n ≡ noLf s i (m + n)
-  unfolding noLf
-  no-lf-join i m n =
-      let e : countIn 0x0A 0x0A (take (m + n) (drop i s)) ≡ countIn 0x0A 0x0A (take m (drop i s)) + countIn 0x0A 0x0A (take n (drop (i + m) s)) =
-      ap (countIn 0x0A 0x0A) (take-add m n (drop i s))
-      ∙ count-append 0x0A 0x0A (take m (drop i s)) (take n (drop m (drop i s)))
-      ∙ ap (λ l. countIn 0x0A 0x0A (take m (drop i s)) + countIn 0x0A 0x0A (take n l)) (drop-drop m i s)
-      in
-      rw e (sym (sum (countIn 0x0A 0x0A (take m (drop i s))) (countIn 0x0A 0x0A (take n (drop (i + m) s)))))
-    where
-      sum : (a b : ℕ) → eqb (a + b) 0 ≡ eqb a 0 && eqb b 0
-      sum zero b = ap (λ k. eqb k 0) (zero-add b)
-      sum (suc a) b = rw (ne_eqb (suc a + b) 0 (λ z. omega arith), ne_eqb (suc a) 0 (λ z. omega arith))
+  module _ (x : ℕ) (mask : x / 2 ≡ lfMask (part s i j)) where
+    even : x % 2 ≡ 0 → x ≡ 2 * lfMask (part s i j)
+    even e = omega arith
 
-  -- one byte more
-  no-lf-more : (i n : ℕ) → i + n < length s → noLf s i (n + 1) ≡ noLf s i n && not (eqb (get_or s (i + n) 0) 0x0A)
-  no-lf-more i n h = sym (no-lf-join i n 1) ∙ ap (λ b. noLf s i n && b) (no-lf-one (i + n) h)
+    pub ahead-none : x ≡ 0 → ahead s i j x ≡ []
+    unfolding ahead
+    ahead-none z = rw z (mask-none i (part s i j) (omega arith))
 
-  pub no-lf-eight : (i : ℕ) → i + 8 ≤ length s
-      → noLf s i 8
-      ≡ not (eqb (get_or s i 0) 0x0A) && not (eqb (get_or s (i + 1) 0) 0x0A) && not (eqb (get_or s (i + 2) 0) 0x0A) && not (eqb (get_or s (i + 3) 0) 0x0A) && not (eqb (get_or s (i + 4) 0) 0x0A) && not (eqb (get_or s (i + 5) 0) 0x0A) && not (eqb (get_or s (i + 6) 0) 0x0A) && not (eqb (get_or s (i + 7) 0) 0x0A)
-  no-lf-eight i h =
-      rw (no-lf-more i 7 (omega arith), no-lf-more i 6 (omega arith), no-lf-more i 5 (omega arith), no-lf-more i 4 (omega arith), no-lf-more i 3 (omega arith), no-lf-more i 2 (omega arith), no-lf-more i 1 (omega arith), no-lf-one i (omega arith)) refl
+    odd-next : i ≤ j → x % 2 ≡ 1 → Next s i j x 0
+    unfolding ahead
+    odd-next h e =
+        let z : (x / 2 ^ 0 - 1) % 2 ≡ 0 = omega arith in
+        record {
+          within = omega arith;
+          some = omega arith;
+          starts = rw (add-zero i, e, z) refl;
+          mask = rw (add-zero i) (omega arith);
+          less = omega arith;
+        }
 
-  -- no line starts behind them
-  pub starts-free : (i n : ℕ) → noLf s i n ≡ true → startsIn i (part s i (i + n)) ≡ []
-  unfolding noLf
-  starts-free i n e =
-      let k : i + n - i ≡ n = omega arith in
-      let z = eqb-true (countIn 0x0A 0x0A (take n (drop i s))) 0 e in
-      ap (λ m. startsIn i (take m (drop i s))) k ∙ empty (startsIn i (take n (drop i s))) (starts-count i (take n (drop i s)) ∙ z)
-    where
-      empty : (l : List ℕ) → length l ≡ 0 → l ≡ []
-      empty [] q = refl
-      empty (x ∷ l) q = absurd (omega arith)
+    even-next : j ≤ length s → j - i ≤ 63 → (x ≡ 0 → ⊥) → x % 2 ≡ 0 → Next s i j x (suc (count_trailing_zeros 63 (lfMask (part s i j))))
+    unfolding ahead
+    even-next b few some e =
+        let p = part s i j in
+        let o = count_trailing_zeros 63 (lfMask p) in
+        let m = even e in
+        let long = part-length s i j b in
+        let f = first-lf 63 i p (omega arith) (omega arith) in
+        let g : i + suc o ≤ j = omega (arith, f.within) in
+        let h : 2 * lfMask p / 2 ≡ lfMask p = omega arith in
+        let d = part-drop s i j (suc o) g in
+        let r : x / 2 ^ suc o ≡ 1 + 2 * lfMask (part s (i + suc o) j) =
+        ap (λ m. m / 2 ^ suc o) m
+        ∙ ap (λ m. 2 * lfMask p / m) (pow-suc 2 o ∙ mul_comm (2 ^ o) 2)
+        ∙ sym (div-div-eq-div-mul (2 * lfMask p) 2 (2 ^ o))
+        ∙ ap (λ m. m / 2 ^ o) h
+        ∙ f.rest
+        ∙ ap (λ l. 1 + 2 * lfMask l) d in
+        let z : (x / 2 ^ suc o - 1) % 2 ≡ 0 = omega (arith, r) in
+        record {
+          within = g;
+          some = omega (arith, r);
+          starts = rw (e, z) (f.starts ∙ ap (λ n. n ∷ startsIn n (drop (suc o) p)) (omega arith) ∙ ap (λ l. (i + suc o) ∷ startsIn (i + suc o) l) d);
+          mask = omega (arith, r);
+          less = omega (arith, z, g);
+        }
 
--- for the test
-pub ruleset no_lf = (no-lf-eight)
+    pub next-start : i ≤ j → j ≤ length s → j - i ≤ 63 → (x ≡ 0 → ⊥) → Next s i j x (count_trailing_zeros 64 x)
+    next-start h b few some = go (x % 2) refl (omega arith)
+      where
+        go : (r : ℕ) → x % 2 ≡ r → r < 2 → Next s i j x (count_trailing_zeros 64 x)
+        go zero e l =
+            let k : count_trailing_zeros 64 x ≡ suc (count_trailing_zeros 63 (lfMask (part s i j))) =
+            ap (count_trailing_zeros 64) (even e) ∙ zeros-double 63 (lfMask (part s i j)) in
+            rw k (even-next b few some e)
+        go (suc zero) e l = rw (zeros-odd 63 x e) (odd-next h e)
+        go (suc (suc r)) e l = absurd (omega arith)
 
 -- ---- stores
 
@@ -134,6 +286,17 @@ pub starts-stored : (s l : List ℕ) (w i j k : ℕ) → i ≤ j → j ≤ k →
     → sets (sets l w (startsIn i (part s i j))) (w + length (startsIn i (part s i j))) (startsIn j (part s j k)) ≡ sets l w (startsIn i (part s i k))
 starts-stored s l w i j k h g b =
     after (startsIn i (part s i j)) (startsIn j (part s j k)) l _ w _ refl refl ∙ ap (sets l w) (sym (starts-join s i j k h g b))
+
+-- one number more in a row
+range-more : (a n : ℕ) → range_with_len a (n + 1) ≡ range_with_len a n ++ ((a + n) ∷ [])
+range-more a zero = ap (λ k. k ∷ []) (sym (add-zero a))
+range-more a (suc n) =
+    let e : a + 1 + n ≡ a + suc n = omega arith in
+    ap (range_with_len a) (add-one (suc n)) ∙ ap (λ l. a ∷ l) (ap (range_with_len (a + 1)) (sym (add-one n)) ∙ range-more (a + 1) n ∙ ap (λ k. range_with_len (a + 1) n ++ (k ∷ [])) e)
+
+pub stored-next : (l : List ℕ) (w a n : ℕ) → set (sets l w (range_with_len a n)) (w + n) (a + n) ≡ sets l w (range_with_len a (n + 1))
+stored-next l w a n =
+    after (range_with_len a n) ((a + n) ∷ []) l _ w _ refl (let e = length-range_with_len a n in omega arith) ∙ ap (sets l w) (sym (range-more a n))
 
 -- one byte: behind an LF one more is stored, behind another byte none
 module _ (s : List ℕ) (i j : ℕ) (h : i ≤ j) (b : j < length s) where
@@ -173,7 +336,7 @@ starts-front s l h =
     ∙ ap (λ n. (0 ∷ startsIn 0 s) ++ drop (suc n) l) c
 
 -- as many numbers as lines are the first line's start and those behind LFs
-lines-all : (s : List ℕ) → lineCount s ≡ 1 + length (startsIn 0 (part s 0 (length s)))
+pub lines-all : (s : List ℕ) → lineCount s ≡ 1 + length (startsIn 0 (part s 0 (length s)))
 unfolding lineCount
 lines-all s = let c = starts-count 0 s in let e = ap (λ t. length (startsIn 0 t)) (part-all s) in omega arith
 
@@ -196,12 +359,7 @@ pub starts-begin : (i : ℕ) → startsIn i [] ≡ []
 unfolding startsIn
 starts-begin i = refl
 
--- behind eight bytes without an LF it is the same
-pub same-free : (s : List ℕ) (i : ℕ) → i + 8 ≤ length s → noLf s i 8 ≡ true → startsIn 0 (part s 0 (i + 8)) ≡ startsIn 0 (part s 0 i)
-same-free s i h e =
-    starts-join s 0 i (i + 8) (omega arith) (omega arith) (omega arith) ∙ ap (λ l. startsIn 0 (part s 0 i) ++ l) (starts-free s i 8 e) ∙ append-nil (startsIn 0 (part s 0 i))
-
--- and behind others as many more as start there
+-- behind more bytes there are as many more as start there
 module _ (s : List ℕ) (i k : ℕ) (h : i ≤ k) (b : k ≤ length s) where
   pub sum-more : length (startsIn 0 (part s 0 k)) ≡ length (startsIn 0 (part s 0 i)) + length (startsIn i (part s i k))
   sum-more = sym (starts-sum s 0 i k (omega arith) h (omega arith))
@@ -210,5 +368,23 @@ module _ (s : List ℕ) (i k : ℕ) (h : i ≤ k) (b : k ≤ length s) where
       → sets (sets l 1 (startsIn 0 (part s 0 i))) (1 + length (startsIn 0 (part s 0 i))) (startsIn i (part s i k)) ≡ sets l 1 (startsIn 0 (part s 0 k))
   stored-more l = starts-stored s l 1 0 i k (omega arith) h (omega arith)
 
+-- for the loop over the last bytes
+module _ (s : List ℕ) (i j k : ℕ) (h : i ≤ j) (m : j ≤ k) (b : k ≤ length s) where
+  pub few-more : length (startsIn i (part s i k)) ≡ length (startsIn i (part s i j)) + length (startsIn j (part s j k))
+  few-more = sym (starts-sum s i j k h m (omega arith))
+
+  pub few-stored : (l : List ℕ) (w : ℕ)
+      → sets (sets l w (startsIn i (part s i j))) (w + length (startsIn i (part s i j))) (startsIn j (part s j k)) ≡ sets l w (startsIn i (part s i k))
+  few-stored l w = starts-stored s l w i j k h m (omega arith)
+
+pub few-fit : (s : List ℕ) (i j k : ℕ) → i ≤ j → j ≤ k → k ≤ length s
+    → length (startsIn i (part s i j)) + length (startsIn j (part s j k)) ≤ length (startsIn i (part s i (length s)))
+few-fit s i j k h m b =
+    let c = starts-sum s i j k h m (omega arith) in
+    let d = starts-sum s i k (length s) (omega arith) b b in
+    omega arith
+
+pub ruleset each_few = (starts-none, few-more, few-stored, few-fit, length-sets)
+
 -- for the loop over the script
-pub ruleset each_eight = (some_line, starts-begin, starts-fit, same-free, sum-more, stored-more, starts-front, length-sets, length-set)
+pub ruleset each_block = (some_line, starts-begin, starts-fit, sum-more, stored-more, starts-front, length-sets, length-set)

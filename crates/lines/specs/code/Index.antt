@@ -1,7 +1,7 @@
--- What `index` tests: that some bytes hold no LF.
-use Rattle.std.specs.Prelude.{ℕ, Bool, List, take, drop, eqb}
-use Rattle.lines.specs.computed.Lines.{countIn}
+-- What `index` reads of bytes at once.
+use Rattle.std.specs.Prelude.{ℕ, List, map, ◌==◌}
+use Rattle.std.specs.Simd.Lanes.{mask_l}
 
--- no LF is among the n bytes from the place i on
-unfoldable pub noLf : List ℕ → ℕ → ℕ → Bool
-noLf s i n = eqb (countIn 0x0A 0x0A (take n (drop i s))) 0
+-- A bit for each of the bytes, the lowest for the first: 1 where the byte is an LF.
+unfoldable pub lfMask : List ℕ → ℕ
+lfMask s = mask_l (map (λ b. b == 0x0A) s)

@@ -1,5 +1,5 @@
 -- What the host sees of building and of a query, computed.
-use Rattle.std.specs.Prelude.{ℕ, suc, cond, List, ◌++◌, length, drop, get_or, eqb, ltb, Result, Ok, Err}
+use Rattle.std.specs.Prelude.{ℕ, suc, if◌then◌else◌, List, ◌++◌, length, drop, slice_index, ◌==◌, nat_lt, Result, Ok, Err}
 use Rattle.words.specs.Words.{blockOf, Told, told}
 use Rattle.entry.specs.paper.Refusals.{refusalNumber}
 use Rattle.entry.specs.paper.Host.{Seen, seen}
@@ -23,10 +23,10 @@ unfoldable pub builtBy : Result ℕ Refused → List ℕ → List ℕ → Seen
 builtBy (Err e) script index = seen (refusalNumber e.what) index (blockOf (refusalNumber e.what) e.place 0 0)
 builtBy (Ok n) script index =
     let built = seen 0 (startsOf script ++ drop n index) (blockOf 0 0 n 0) in
-    cond (ltb (length index) n) (seen 26 index (blockOf 26 0 n 0)) built
+    if nat_lt (length index) n then seen 26 index (blockOf 26 0 n 0) else built
 
 unfoldable pub indexSeen : List ℕ → List ℕ → List ℕ → Seen
-indexSeen script index block = cond (eqb (length block) 16) (builtBy (checkedOf script) script index) (seen 20 index block)
+indexSeen script index block = if length block == 16 then builtBy (checkedOf script) script index else seen 20 index block
 
 -- ---- a query
 
@@ -34,13 +34,13 @@ indexSeen script index block = cond (eqb (length block) 16) (builtBy (checkedOf 
 unfoldable pub foundIn : ℕ → List ℕ → List ℕ → ℕ → Told
 foundIn n script index a =
     let k = searchOf index n a in
-    told 0 (blockOf 0 0 (suc k) (columnSince script (get_or index k 0) a))
+    told 0 (blockOf 0 0 (suc k) (columnSince script (slice_index index k) a))
 
 unfoldable pub answeredBy : Result ℕ Refused → List ℕ → List ℕ → ℕ → Told
 answeredBy (Err e) script index a = told (refusalNumber e.what) (blockOf (refusalNumber e.what) e.place 0 0)
 answeredBy (Ok n) script index a =
-    let found = cond (ltb (length index) n) (told 26 (blockOf 26 0 0 0)) (foundIn n script index a) in
-    cond (hasText script a a) found (told 25 (blockOf 25 0 0 0))
+    let found = if nat_lt (length index) n then told 26 (blockOf 26 0 0 0) else foundIn n script index a in
+    if hasText script a a then found else told 25 (blockOf 25 0 0 0)
 
 unfoldable pub positionTold : List ℕ → List ℕ → ℕ → List ℕ → Told
-positionTold script index a block = cond (eqb (length block) 16) (answeredBy (checkedOf script) script index a) (told 20 block)
+positionTold script index a block = if length block == 16 then answeredBy (checkedOf script) script index a else told 20 block

@@ -1,5 +1,5 @@
 -- Lines and columns computed over bytes: where lines start, the line and column of a place, and the search in an index.
-use Rattle.std.specs.Prelude.{ℕ, zero, suc, ◌+◌, ◌-◌, ◌/◌, cond, List, [], ◌∷◌, take, drop, get_or, eqb, leb}
+use Rattle.std.specs.Prelude.{ℕ, zero, suc, ◌+◌, ◌-◌, ◌/◌, if◌then◌else◌, List, [], ◌∷◌, take, drop, slice_index, ◌==◌, nat_le}
 use Rattle.chars.specs.paper.Quoted.{between}
 
 -- the bytes from the place i to the place j
@@ -11,7 +11,7 @@ unfoldable pub countIn : ℕ → ℕ → List ℕ → ℕ
 countIn low high [] = 0
 countIn low high (b ∷ s) =
     let rest = countIn low high s in
-    cond (between low high b) (suc rest) rest
+    if between low high b then suc rest else rest
 
 -- ---- lines
 
@@ -20,7 +20,7 @@ unfoldable pub startsIn : ℕ → List ℕ → List ℕ
 startsIn i [] = []
 startsIn i (b ∷ s) =
     let rest = startsIn (suc i) s in
-    cond (eqb b 0x0A) (suc i ∷ rest) rest
+    if b == 0x0A then suc i ∷ rest else rest
 
 unfoldable pub startsOf : List ℕ → List ℕ
 startsOf script = 0 ∷ startsIn 0 script
@@ -38,7 +38,7 @@ lfsBefore script a = countIn 0x0A 0x0A (take a script)
 -- the column behind bytes that begin in column c: an LF brings it back to 1, and a byte 0x80 to 0xBF goes on in a character
 unfoldable pub columnFrom : ℕ → List ℕ → ℕ
 columnFrom c [] = c
-columnFrom c (b ∷ s) = columnFrom (cond (eqb b 0x0A) 1 (cond (between 0x80 0xBF b) c (suc c))) s
+columnFrom c (b ∷ s) = columnFrom (if b == 0x0A then 1 else if between 0x80 0xBF b then c else suc c) s
 
 unfoldable pub lineAt : List ℕ → ℕ → ℕ
 lineAt script a = suc (lfsBefore script a)
@@ -53,9 +53,9 @@ unfoldable pub searchIn : ℕ → List ℕ → ℕ → ℕ → ℕ → ℕ
 searchIn zero index a low size = low
 searchIn (suc most) index a low size =
     let half = size / 2 in
-    let right = leb (get_or index (low + half) 0) a in
-    let on = searchIn most index a (cond right (low + half) low) (cond right (size - half) half) in
-    cond (leb size 1) low on
+    let right = nat_le (slice_index index (low + half)) a in
+    let on = searchIn most index a (if right then low + half else low) (if right then size - half else half) in
+    if nat_le size 1 then low else on
 
 -- of the first `lines` numbers; as many turns are enough
 unfoldable pub searchOf : List ℕ → ℕ → ℕ → ℕ

@@ -1,6 +1,6 @@
 -- REQUESTS, "Building an index" and "Asking for a place": the refusals of building and of a query, in their order, and what the host sees. The number
 -- handed back and the place come first in the block; 20, a block of another length, goes before every other refusal and leaves the block as it was.
-use Rattle.std.specs.Prelude.{ℕ, ◌+◌, ◌≤◌, ◌<◌, ◌≡◌, List, ◌++◌, length, take, drop}
+use Rattle.std.specs.Prelude.{ℕ, ◌+◌, ◌≤◌, ◌<◌, ◌≡◌, ◌≢◌, List, ◌++◌, length, take, drop}
 use Rattle.words.specs.Words.{blockOf, Told, told}
 use Rattle.chars.specs.paper.Utf8.{WellFormed, LongestValid}
 use Rattle.token.specs.paper.Records.{mostBytes}
@@ -18,7 +18,7 @@ pub record Taken (script block : List ℕ) : Type 0 where
 -- REQUESTS, "Building an index": "Building can be refused, in this order, by 20, 17, 18 and 26. Otherwise the starts of all lines stand at the buffer's
 -- start, in order, and numbers behind them keep their values. A refusal leaves the whole buffer as it was."
 pub data Builds (script index block : List ℕ) : Seen → Type 0 where
-  twenty : (length block ≡ 16 → ⊥) → Builds script index block (seen 20 index block)
+  twenty : length block ≢ 16 → Builds script index block (seen 20 index block)
   seventeen : length block ≡ 16 → mostBytes < length script → Builds script index block (seen 17 index (blockOf 17 0 0 0))
   eighteen : {n : ℕ} → length block ≡ 16 → length script ≤ mostBytes → LongestValid script n → n < length script
       → Builds script index block (seen 18 index (blockOf 18 n 0 0))
@@ -32,7 +32,7 @@ pub data Builds (script index block : List ℕ) : Seen → Type 0 where
 
 -- REQUESTS, "Asking for a place": "It can be refused, in this order, by 20, 17, 18, 25 and 26; the place of 25 and 26 is 0."
 pub data Answers (script index : List ℕ) (a : ℕ) (block : List ℕ) : Told → Type 0 where
-  twenty : (length block ≡ 16 → ⊥) → Answers script index a block (told 20 block)
+  twenty : length block ≢ 16 → Answers script index a block (told 20 block)
   seventeen : length block ≡ 16 → mostBytes < length script → Answers script index a block (told 17 (blockOf 17 0 0 0))
   eighteen : {n : ℕ} → length block ≡ 16 → length script ≤ mostBytes → LongestValid script n → n < length script
       → Answers script index a block (told 18 (blockOf 18 n 0 0))

@@ -1,5 +1,5 @@
 -- REQUESTS, "Lines and columns": lines, and line and column by counting from the script's first byte. Everything is said of the script's characters.
-use Rattle.std.specs.Prelude.{ℕ, ◌≤◌, ◌+◌, ◌≡◌, false, List, [], ◌∷◌, length}
+use Rattle.std.specs.Prelude.{ℕ, ◌≤◌, ◌+◌, ◌≡◌, IsFalse, List, [], ◌∷◌, length}
 use Rattle.chars.specs.paper.Text.{Char, Text, from, place}
 use Rattle.token.specs.paper.Tests.{isAny}
 use Rattle.token.specs.paper.Shapes.{LineEnd}
@@ -28,7 +28,7 @@ pub data Counts (script : List ℕ) : Text → ℕ → ℕ → Type 0 where
   -- "Behind a line end the next line begins, at column 1"
   line : {s r : Text} {l c : ℕ} → Counts script s l c → LineEnd s r → Counts script r (l + 1) 1
   -- "behind every character but LF stands the next column of the same line. So the place between CR and LF is one column behind the CR."
-  column : {x : Char} {s : Text} {l c : ℕ} → Counts script (x ∷ s) l c → isAny "\n" (x ∷ s) ≡ false → Counts script s l (c + 1)
+  column : {x : Char} {s : Text} {l c : ℕ} → Counts script (x ∷ s) l c → IsFalse (isAny "\n" (x ∷ s)) → Counts script s l (c + 1)
 
 -- line and column of a place
 pub record Position (script : List ℕ) (a l c : ℕ) : Type 0 where
@@ -39,4 +39,4 @@ pub record Position (script : List ℕ) (a l c : ℕ) : Type 0 where
 -- REQUESTS, "Good place": "A place that is not past the script's end and not inside a character."
 pub record GoodPlace (script : List ℕ) (a : ℕ) : Type 0 where
   pub within : a ≤ length script
-  pub outside : insideCharacter script a ≡ false
+  pub outside : IsFalse (insideCharacter script a)

@@ -1,5 +1,5 @@
 -- REQUESTS, "Stored rolls": what a record holds, the refusals 22 to 24, one record, and the whole roll.
-use Rattle.std.specs.Prelude.{ℕ, ◌+◌, ◌≤◌, ◌<◌, ◌≡◌, ◌⊎◌, List, [], ◌∷◌, length}
+use Rattle.std.specs.Prelude.{ℕ, ◌+◌, ◌≤◌, ◌<◌, ◌≡◌, ◌≢◌, ◌⊎◌, List, [], ◌∷◌, length}
 use Rattle.words.specs.Words.{oneAt, twoAt, fourAt, eightAt}
 use Rattle.token.specs.paper.Kinds.{kindNumber, Token}
 use Rattle.token.specs.paper.Records.{bit, Value, one, four, eight, valuesOf, headLength, recordLength}
@@ -121,7 +121,7 @@ pub data Reads (roll : List ℕ) : ℕ → ℕ → Outcome → Type 0 where
   refuses : {at previous j a : ℕ} → Steps roll at previous (stopped j a) → Reads roll at previous (refused j a)
   -- REQUESTS, "End of a roll": "A roll ends with its only Eof."
   last : {at previous next : ℕ} {t : Token} → Steps roll at previous (yielded t next) → t.kind ≡ tk.Eof → Reads roll at previous (tokens (t ∷ []))
-  more : {at previous next : ℕ} {t : Token} {x : Outcome} → Steps roll at previous (yielded t next) → (t.kind ≡ tk.Eof → ⊥)
+  more : {at previous next : ℕ} {t : Token} {x : Outcome} → Steps roll at previous (yielded t next) → t.kind ≢ tk.Eof
       → Reads roll next t.end x → Reads roll at previous (prepend t x)
 
 -- REQUESTS, "Reading a roll": "Reading a roll is stepping from 0, with the end 0 before it"

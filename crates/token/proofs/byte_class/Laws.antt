@@ -1,23 +1,11 @@
 -- What the class of a byte says of it: each is one computed test at the codes of ASCII.
-use Prim.Native.Nat.{ℕ, zero, suc, ◌+◌, ◌*◌, ◌≤◌, ◌<◌}
-use mathlib.Core.Path.{◌≡◌, refl, sym, ◌∙◌, ap}
-use mathlib.Core.Bool.{Bool, true, false, not, ◌&&◌, ◌||◌}
-use mathlib.Core.List.{List, [], ◌∷◌}
-use native.Mathlib.Omega.{arith}
-use borrow.Author.Tests.{eqb-true, leb-true, leb-false, le-leb, le-ltb, ne_eqb}
-use lib.Dec.{eqb, leb, ltb}
-use lib.ListN.{length, get_or}
 use Prim.Native.String.{String}
-use Rattle.chars.specs.paper.Quoted.{codes, oneOf}
+use Rattle.token.proofs.cursor.Words.{ℕ, zero, suc, ◌+◌, ◌*◌, ◌≤◌, ◌<◌, ◌≡◌, refl, sym, ◌∙◌, ap, Bool, true, false, not, ◌&&◌, ◌||◌, List, [], ◌∷◌, arith, eqb-true, le-leb, le-ltb, ne_eqb, eqb, leb, ltb, length, get_or, codes, oneOf, and-both, every, span, alike, code_laws, class-laws, signOf, signNumber, classOf, blankClass, crClass, tickClass, backtickClass, lfClass, digitClass, keywordClass, quoteClass, wideClass, slashClass, upToBlank, startsWord, inWord, isSign, inRun, cases_lt, inl, inr}
 use Rattle.chars.specs.paper.Classes.{isIdStart, isIdChar, isOpSign, opSigns}
-use Rattle.chars.proofs.Bools.{and-both}
-use Rattle.chars.specs.promises.Codes.{every, span, alike}
 use Rattle.chars.specs.promises.Classes.{lowId, lowStart}
-use Rattle.chars.proofs.theorems.Promises.{code_laws, class-laws}
 use Rattle.token.proofs.Classes.{byte-sign}
-use Rattle.token.specs.computed.Answer.{signOf}
-use Rattle.token.specs.code.Ascii.{signNumber}
-use Rattle.token.specs.code.ByteClass.{classOf, blankClass, crClass, tickClass, backtickClass, lfClass, digitClass, keywordClass, quoteClass, wideClass, slashClass, upToBlank, startsWord, inWord, isSign, inRun, isOrdinary}
+use Rattle.chars.specs.paper.Quoted.{member}
+use Rattle.token.specs.code.ByteClass.{otherClass, startClass, dollarClass, signClass, backslashClass, signKeywordClass, isOrdinary}
 open code_laws use {agree, carry, carry-span, no-member, every-sub}
 open class-laws use {byte-id, byte-start}
 
@@ -45,11 +33,10 @@ unfolding classOf
 past-ascii b h = rw (le-leb 0x80 b h)
 
 says : (f g : ℕ → Bool) → every (λ b. alike (f (classOf b)) (g b)) (span 0 128) ≡ true → ((b : ℕ) → 0x80 ≤ b → f wideClass ≡ g b) → (b : ℕ) → f (classOf b) ≡ g b
-says f g e w b = go (leb 0x80 b) refl
-  where
-    go : (x : Bool) → leb 0x80 b ≡ x → f (classOf b) ≡ g b
-    go true q = let h = leb-true 0x80 b q in ap f (past-ascii b h) ∙ w b h
-    go false q = agree (f (classOf b)) (g b) (carry-span (λ b. alike (f (classOf b)) (g b)) 0 128 b e (omega arith) (leb-false 0x80 b q))
+says f g e w b = elim (cases_lt b 0x80) [
+  | inl h ↦ agree (f (classOf b)) (g b) (carry-span (λ b. alike (f (classOf b)) (g b)) 0 128 b e (omega arith) h)
+  | inr h ↦ ap f (past-ascii b h) ∙ w b h
+]
 
 -- a test that fails past ASCII
 low : (p : ℕ → Bool) (b : ℕ) → 0x80 ≤ b → false ≡ ltb b 0x80 && p b
@@ -57,17 +44,17 @@ low p b h = sym (rw (le-ltb b 0x80 h))
 
 -- a quoted set of ASCII has nothing past it
 none-past : (t : String) → every (λ b. ltb b 0x80) (codes t) ≡ true → (b : ℕ) → 0x80 ≤ b → false ≡ oneOf t b
-none-past t e b h = sym (no-member (λ b. not (ltb b 0x80)) (codes t) b (every-sub (λ b. ltb b 0x80) (λ x. not (not (ltb x 0x80))) (codes t) e twice) (rw (le-ltb b 0x80 h)))
-  where
-    twice : (c : ℕ) → ltb c 0x80 ≡ true → not (not (ltb c 0x80)) ≡ true
-    twice c q = rw q
-
-ordinary-past : (b : ℕ) → 0x80 ≤ b → true ≡ not (oneOf "\n\"$\\" b)
-ordinary-past b h = ap not (none-past "\n\"$\\" refl b h)
+none-past t e b h =
+    sym (no-member (λ b. not (ltb b 0x80)) (codes t) b (every-sub (λ b. ltb b 0x80) (λ x. not (not (ltb x 0x80))) (codes t) e (λ c q. rw q)) (rw (le-ltb b 0x80 h)))
 
 numbers : every (λ b. eqb (classOf b) (2 * signNumber b)) (codes "()[]{},;.") ≡ true
 unfolding classOf signNumber signOf
 numbers = refl
+
+-- the classes but those of signs, blanks and what begins no token
+abbrev pub others : List ℕ
+others =
+    crClass ∷ tickClass ∷ backtickClass ∷ lfClass ∷ digitClass ∷ startClass ∷ dollarClass ∷ keywordClass ∷ quoteClass ∷ wideClass ∷ slashClass ∷ signClass ∷ backslashClass ∷ signKeywordClass ∷ []
 
 module _ (b : ℕ) where
   pub class-start : not (upToBlank (classOf b)) && startsWord (classOf b) ≡ ltb b 0x80 && isIdStart b
@@ -96,7 +83,7 @@ module _ (b : ℕ) where
 
   pub class-ordinary : isOrdinary (classOf b) ≡ not (oneOf "\n\"$\\" b)
   unfolding classOf signNumber signOf
-  class-ordinary = says isOrdinary (λ b. not (oneOf "\n\"$\\" b)) refl (λ b h. ordinary-past b h) b
+  class-ordinary = says isOrdinary (λ b. not (oneOf "\n\"$\\" b)) refl (λ b h. ap not (none-past "\n\"$\\" refl b h)) b
 
   -- the classes of one byte, of blanks, of digits, of signs
   pub class-blank : eqb (classOf b) blankClass ≡ oneOf " \t" b
@@ -140,6 +127,27 @@ module _ (b : ℕ) where
   pub class-keyword : eqb (classOf b) keywordClass ≡ oneOf "cefimrt" b
   unfolding classOf signNumber signOf
   class-keyword = says (λ e. eqb e keywordClass) (oneOf "cefimrt") refl (λ b h. none-past "cefimrt" refl b h) b
+
+  pub class-sign-keyword : eqb (classOf b) signKeywordClass ≡ oneOf ":=#@" b
+  unfolding classOf signNumber signOf
+  class-sign-keyword = says (λ e. eqb e signKeywordClass) (oneOf ":=#@") refl (λ b h. none-past ":=#@" refl b h) b
+
+  -- what begins no token
+  pub class-other : eqb (classOf b) otherClass ≡ ltb b 0x80 && not (oneOf " \t\n\r()[]{},;.0123456789`\"'" b || (lowStart b || oneOf opSigns b))
+  unfolding classOf signNumber signOf
+  class-other =
+      says (λ e. eqb e otherClass) (λ b. ltb b 0x80 && not (oneOf " \t\n\r()[]{},;.0123456789`\"'" b || (lowStart b || oneOf opSigns b))) refl
+      (low (λ b. not (oneOf " \t\n\r()[]{},;.0123456789`\"'" b || (lowStart b || oneOf opSigns b)))) b
+
+  -- no operator sign begins a word
+  pub class-apart : inRun (classOf b) && startsWord (classOf b) ≡ false
+  unfolding classOf signNumber signOf
+  class-apart = says (λ e. inRun e && startsWord e) (λ b. false) refl (λ b h. refl) b
+
+  -- a class is one of these
+  pub class-one : upToBlank (classOf b) || member (otherClass ∷ others) (classOf b) ≡ true
+  unfolding classOf signNumber signOf
+  class-one = says (λ e. upToBlank e || member (otherClass ∷ others) e) (λ b. true) refl (λ b h. refl) b
 
   -- of one of the nine signs: twice its kind's number
   pub class-number : oneOf "()[]{},;." b ≡ true → classOf b ≡ 2 * signNumber b

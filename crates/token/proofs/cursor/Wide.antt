@@ -1,11 +1,5 @@
 -- Where characters past ASCII are passed, one may go byte by byte, also inside them.
-use Prim.Native.Nat.{ℕ, ◌+◌, ◌≤◌, ◌<◌}
-use mathlib.Core.Path.{◌≡◌, refl, sym, ◌∙◌}
-use mathlib.Core.List.{List, ◌∷◌}
-use lib.ListN.{length, get_or}
-use Rattle.chars.specs.paper.Text.{Char, Text, from}
-use Rattle.chars.specs.promises.Texts.{PastWide}
-use Rattle.chars.proofs.theorems.Promises.{text-laws}
+use Rattle.token.proofs.cursor.Words.{ℕ, ◌+◌, ◌≤◌, ◌<◌, ◌≡◌, refl, sym, ◌∙◌, List, ◌∷◌, length, get_or, Char, Text, from, PastWide, text-laws}
 open text-laws use {wide-past}
 
 module _ {A : Type 0} (s : List ℕ) (f : Text → A) (pass : (c : Char) (u : Text) → 0x80 ≤ c.code → f (c ∷ u) ≡ f u) where

@@ -1,40 +1,10 @@
 -- A number of one digit.
-use Prim.Native.Nat.{ℕ, ◌+◌, ◌*◌, ◌%◌, ◌<◌}
-use mathlib.Core.Path.{◌≡◌, refl, sym, ◌∙◌, ap}
-use mathlib.Core.Bool.{Bool, true, false, not, ◌&&◌}
-use mathlib.Core.Logic.{inl}
-use mathlib.Core.List.{List}
-use lib.ListN.{length, get_or}
-use lib.Dec.{eqb}
-use native.Mathlib.Omega.{arith}
-use borrow.Author.Tests.{le-leb, eqb-true}
-use Rattle.chars.specs.paper.Quoted.{between, codes, oneOf}
-use Rattle.chars.specs.paper.Text.{from}
-use Rattle.chars.proofs.Bools.{clash, or-neither}
-use Rattle.chars.specs.promises.Codes.{every, span}
-use Rattle.chars.proofs.theorems.Promises.{code_laws}
-use Rattle.token.specs.paper.Tests.{isDigit, digitValue, hexAhead}
-use Rattle.token.specs.computed.Answer.{numeral, readDigits, numberOf, scan, signOf}
-use Rattle.token.specs.code.Ascii.{signNumber}
-use Rattle.token.specs.code.ByteClass.{classOf, classAt, inWord}
-use Rattle.token.specs.code.Cursor.{cursorAt}
-use Rattle.token.specs.code.Piece.{pieceOf, tokenTo}
-use Rattle.token.specs.code.Digits.{digitIn, intOr}
+use Rattle.token.proofs.cursor.Words.{ℕ, ◌+◌, ◌*◌, ◌<◌, ◌≡◌, refl, sym, ◌∙◌, ap, true, false, not, inl, List, length, get_or, eqb, arith, le-leb, codes, oneOf, from, or-neither, every, span, code_laws, isDigit, digitValue, hexAhead, numeral, readDigits, numberOf, scan, signOf, signNumber, classOf, classAt, inWord, cursorAt, pieceOf, tokenTo, digitIn, intOr}
 use Rattle.token.specs.declared.kinds.TokenKind.TheVariants as tk
 use Rattle.token.proofs.digits.Laws.{digits-ascii, read-next, read-stop, hex_bytes, dec-number, int-piece}
 use Rattle.token.proofs.digits.Runs.{value-under}
 use Rattle.token.proofs.lexer.Laws.{number_at}
 open code_laws use {no-member, carry-span, in-between}
-
--- of a digit of base 10 the value is the byte's low half
-digits-low : every (λ b. eqb (b % 16) (digitValue b)) (span 0x30 10) ≡ true
-digits-low = refl
-
-pub low_value : (b : ℕ) → isDigit b ≡ true → b % 16 ≡ digitValue b
-unfolding isDigit
-low_value b e =
-    let k = in-between 0x30 0x39 b e in
-    eqb-true (b % 16) (digitValue b) (carry-span (λ b. eqb (b % 16) (digitValue b)) 0x30 10 b digits-low k.0 (omega arith))
 
 -- what goes on with no word is neither `x` nor `L` or `l`, nor a digit
 words : every (λ b. not (not (inWord (classOf b)))) (codes "xLl") ≡ true
@@ -51,19 +21,11 @@ module _ (b : ℕ) (e : inWord (classOf b) ≡ false) where
 
   digitless : isDigit b ≡ false
   unfolding isDigit
-  digitless = go (between 0x30 0x39 b) refl
-    where
-      go : (t : Bool) → between 0x30 0x39 b ≡ t → t ≡ false
-      go true q = let k = in-between 0x30 0x39 b q in clash (sym e ∙ carry-span (λ x. inWord (classOf x)) 0x30 10 b digit-words k.0 (omega arith))
-      go false q = refl
+  digitless = let q = carry-span (λ x. inWord (classOf x)) 0x30 10 b digit-words in grind (arith, in-between)
 
 -- where no `x` follows a byte no `0x` begins with it
 no-hex : (s : List ℕ) (at : ℕ) → eqb (get_or s (at + 1) 0) 0x78 ≡ false → hexAhead (from s at) ≡ false
-no-hex s at e = hex_bytes s at ∙ go (eqb (get_or s at 0) 0x30) (digitIn 16 (get_or s (at + 2) 0))
-  where
-    go : (x y : Bool) → x && eqb (get_or s (at + 1) 0) 0x78 && y ≡ false
-    go true y = rw e
-    go false y = refl
+no-hex s at e = grind (arith, hex_bytes)
 
 pub digit-alone : (s : List ℕ) (at : ℕ) → at < length s → isDigit (get_or s at 0) ≡ true → inWord (classAt s (at + 1)) ≡ false
     → tokenTo (tk.IntLit (digitValue (get_or s at 0))) (cursorAt (at + 1)) ≡ pieceOf (length s) (scan (length s) (from s at))

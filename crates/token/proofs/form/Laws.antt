@@ -1,54 +1,24 @@
 -- A record by its form: the bytes are the token's record, its length is one of five, and its two stores are one.
-use Prim.Native.Nat.{ℕ, ◌+◌, ◌*◌, ◌-◌, ◌/◌, ◌%◌, ◌≤◌}
-use mathlib.Core.Path.{◌≡◌, refl, sym, ◌∙◌, ap}
-use mathlib.Core.Bool.{Bool, true, false}
-use mathlib.Core.List.{List, [], ◌∷◌, ◌++◌, append-nil}
-use lib.ListN.{length, take, set, length-append}
-use lib.Seq.{sets, length-take-le}
-use native.Mathlib.Omega.{arith}
-use Rattle.token.specs.paper.Kinds.{kindNumber, Token}
-use Rattle.token.specs.paper.Records.{bit, valuesOf, values, headLength, intLength, longLength, strLength, lineLength, recordLength, fieldsOf, headOf, recordOf}
-use Rattle.token.specs.code.Form.{mostLength, joined, formOf, plainForm, Known, headNumber, headBytes, byForm}
-use Rattle.words.specs.Words.{le4, le8}
-use Rattle.token.specs.declared.kinds.Form.{Form}
-use Rattle.token.specs.declared.kinds.TokenKind.{TokenKind}
+use Rattle.token.proofs.cursor.Words.{ℕ, ◌+◌, ◌*◌, ◌-◌, ◌/◌, ◌%◌, ◌≤◌, ◌≡◌, refl, sym, ◌∙◌, ap, Bool, true, false, List, [], ◌∷◌, ◌++◌, append-nil, length, take, set, length-append, sets, length-take-le, arith, kindNumber, Token, valuesOf, values, headLength, intLength, longLength, lineLength, recordLength, fieldsOf, headOf, recordOf, mostLength, joined, formOf, plainForm, headNumber, headBytes, byForm, le4, le8, Form, TokenKind, after, low-four}
+pub use Rattle.token.specs.code.Form.{Known}
 use Rattle.token.specs.declared.kinds.TokenKind.TheVariants as tk
 use Rattle.token.proofs.form.Stores.{length-fields, head-fields}
-use Rattle.words.proofs.Stores.{after, low-four}
 
 -- ---- lengths
 
 pub known-least : {n : ℕ} → Known n → headLength ≤ n
 known-least Known.bare = omega arith
-known-least Known.line = omega arith
-known-least Known.int = omega arith
-known-least Known.long = omega arith
-known-least Known.str = omega arith
+known-least _ = omega arith
 
 pub known-most : {n : ℕ} → Known n → n ≤ mostLength
 known-most Known.bare = omega arith
-known-most Known.line = omega arith
-known-most Known.int = omega arith
-known-most Known.long = omega arith
-known-most Known.str = omega arith
+known-most _ = omega arith
 
 -- the lengths of the code's constants are among them
 pub known-bare : Known headLength
 known-bare = Known.bare
 
-pub known-line : Known lineLength
-known-line = Known.line
-
-pub known-int : Known intLength
-known-int = Known.int
-
-pub known-long : Known longLength
-known-long = Known.long
-
-pub known-str : Known strLength
-known-str = Known.str
-
-pub ruleset known = (known-bare, known-line, known-int, known-long, known-str)
+pub ruleset known = (Known.bare, Known.line, Known.int, Known.long, Known.str)
 
 length-eight : (x : ℕ) → length (le8 x) ≡ 8
 unfolding le8 le4
@@ -59,10 +29,8 @@ unfolding byForm
 length-form f start end cut h =
     let a = known-least h in
     let b = known-most h in
-    let n = length-eight f.values in
-    let v = length-take-le (f.length - headLength) (le8 f.values) (omega arith) in
-    length-append (fieldsOf f.length f.number start end cut) (take (f.length - headLength) (le8 f.values))
-    ∙ omega (arith, length-fields f.length f.number start end cut, v)
+    let v = length-take-le (f.length - headLength) (le8 f.values) (let n = length-eight f.values in omega arith) in
+    grind (arith, length-append, length-fields)
 
 -- ---- values
 
@@ -73,8 +41,7 @@ two-fours a e =
     let x = a % 4294967296 + e % 4294967296 * 4294967296 in
     let p : x % 4294967296 ≡ a % 4294967296 = omega arith in
     let q : x / 4294967296 ≡ e % 4294967296 = omega arith in
-    ap (λ n. le4 n ++ le4 (x / 4294967296)) p ∙ ap (λ n. le4 (a % 4294967296) ++ le4 n) q
-    ∙ ap (λ l. l ++ le4 (e % 4294967296)) (low-four a) ∙ ap (λ l. le4 a ++ l) (low-four e)
+    rw (p, q, low-four a, low-four e)
 
 pub take-one : (v : ℕ) → take 1 (le8 v) ≡ v % 256 ∷ []
 unfolding le8 le4
@@ -88,57 +55,25 @@ pub take-eight : (v : ℕ) → take 8 (le8 v) ≡ le8 v
 unfolding le8 le4
 take-eight v = refl
 
-mark-value : (mark : Bool) → take 1 (le8 (bit mark)) ≡ bit mark ∷ []
-unfolding le8 le4
-mark-value true = refl
-mark-value false = refl
-
 -- the bytes of the values are those that the form has
 pub form-values : (k : TokenKind) → take (recordLength k - headLength) (le8 (joined (valuesOf k))) ≡ values k
 unfolding recordLength values le4 le8
-form-values tk.Ident = refl
-form-values tk.OpId = refl
-form-values tk.BacktickId = refl
 form-values (tk.IntLit v) = take-four v ∙ low-four v
 form-values (tk.LongLit v) = take-eight v ∙ sym (append-nil (le8 v))
 form-values (tk.Str a e) = take-eight (a % 4294967296 + e % 4294967296 * 4294967296) ∙ two-fours a e
-form-values tk.CharSym = refl
-form-values tk.LParen = refl
-form-values tk.RParen = refl
-form-values tk.LBracket = refl
-form-values tk.RBracket = refl
-form-values tk.LBrace = refl
-form-values tk.RBrace = refl
-form-values tk.Comma = refl
-form-values tk.Semi = refl
-form-values tk.Dot = refl
-form-values (tk.Newline mark) = mark-value mark
-form-values tk.Eof = refl
-form-values (tk.Kw k) = refl
+form-values (tk.Newline true) = refl
+form-values (tk.Newline false) = refl
+form-values _ = refl
 
 -- ---- forms and records
 
 pub form-known : (k : TokenKind) → Known (formOf k).length
 unfolding formOf recordLength values le4 le8
-form-known tk.Ident = Known.bare
-form-known tk.OpId = Known.bare
-form-known tk.BacktickId = Known.bare
 form-known (tk.IntLit v) = Known.int
 form-known (tk.LongLit v) = Known.long
 form-known (tk.Str a e) = Known.str
-form-known tk.CharSym = Known.bare
-form-known tk.LParen = Known.bare
-form-known tk.RParen = Known.bare
-form-known tk.LBracket = Known.bare
-form-known tk.RBracket = Known.bare
-form-known tk.LBrace = Known.bare
-form-known tk.RBrace = Known.bare
-form-known tk.Comma = Known.bare
-form-known tk.Semi = Known.bare
-form-known tk.Dot = Known.bare
 form-known (tk.Newline mark) = Known.line
-form-known tk.Eof = Known.bare
-form-known (tk.Kw k) = Known.bare
+form-known _ = Known.bare
 
 pub form-length : (k : TokenKind) → (formOf k).length ≡ recordLength k
 unfolding formOf

@@ -1,20 +1,5 @@
 -- What is stored is read back, and what is read is stored again: `RecordForm`, for whoever reads stored records.
-use Prim.Native.Nat.{ℕ, zero, suc, ◌+◌, ◌-◌, ◌%◌, ◌^◌, ◌≤◌, ◌<◌}
-use mathlib.Core.Path.{◌≡◌, refl, sym, ◌∙◌, ap}
-use mathlib.Core.Bool.{Bool}
-use mathlib.Core.List.{List, [], ◌∷◌, ◌++◌}
-use lib.Dec.{eqb}
-use lib.ListN.{length, take, drop, length-drop}
-use lib.Seq.{get_or-drop, take-add, drop-drop, drop-cons}
-use native.Mathlib.Nat.{add-zero, mod-eq_of_lt}
-use native.Mathlib.Omega.{arith}
-use Rattle.words.specs.Joins.{Bytes}
-use Rattle.words.specs.Words.{le2, le4, le8, oneAt, twoAt, fourAt, eightAt}
-use Rattle.words.proofs.Stores.{low-four}
-use Rattle.words.proofs.Joins.{drop-bytes, two-from, four-from, eight-from, two-drop, four-drop, two-le2, four-le4, eight-le8, le4-four, le8-eight, Width, twos, fours}
-use Rattle.token.specs.paper.Records.{bit, headLength, fieldsOf}
-use Rattle.token.specs.code.Form.{Known, byForm, valuesAt, heldAt, storedOf, Storable, Whole, RecordForm}
-use Rattle.token.specs.declared.kinds.Form.{Form}
+use Rattle.token.proofs.cursor.Words.{ℕ, ◌+◌, ◌-◌, ◌%◌, ◌^◌, ◌≤◌, ◌<◌, ◌≡◌, refl, sym, ◌∙◌, ap, Bool, List, [], ◌∷◌, ◌++◌, eqb, length, take, drop, length-drop, get_or-drop, take-add, drop-drop, drop-cons, add-zero, mod-eq_of_lt, arith, Bytes, le2, le4, le8, oneAt, twoAt, fourAt, eightAt, low-four, drop-bytes, two-from, four-from, eight-from, two-drop, four-drop, two-le2, four-le4, eight-le8, le4-four, le8-eight, Width, twos, fours, bit, headLength, fieldsOf, Known, byForm, valuesAt, heldAt, storedOf, Storable, Whole, RecordForm, Form}
 use Rattle.token.proofs.form.Laws.{known-least, known-most, take-one, take-four, take-eight}
 
 values-from : (l : List ℕ) (i j size : ℕ) → valuesAt (drop i l) j size ≡ valuesAt l (i + j) size
@@ -33,8 +18,7 @@ unfolding valuesAt le8 le4
 values-back v rest Known.bare h = omega arith
 values-back v rest Known.line h = ap (λ l. oneAt (l ++ rest) 0) (take-one v) ∙ mod-eq_of_lt h
 values-back v rest Known.int h = ap (λ l. fourAt (l ++ rest) 0) (take-four v) ∙ four-le4 (v % 4294967296) rest (omega arith) ∙ omega arith
-values-back v rest Known.long h = ap (λ l. eightAt (l ++ rest) 0) (take-eight v) ∙ eight-le8 v rest h
-values-back v rest Known.str h = ap (λ l. eightAt (l ++ rest) 0) (take-eight v) ∙ eight-le8 v rest h
+values-back v rest _ h = ap (λ l. eightAt (l ++ rest) 0) (take-eight v) ∙ eight-le8 v rest h
 
 -- a record that is stored, whatever follows it, is read as it was.
 pub read-back : (f : Form) (start end : ℕ) (cut : Bool) (rest : List ℕ) → Storable f start end
@@ -58,13 +42,10 @@ values-again l Known.bare h k = refl
 values-again [] Known.line h k = absurd (omega arith)
 values-again (x ∷ l) Known.line h k = take-one x ∙ rw (mod-eq_of_lt (h 0))
 values-again l Known.int h k = take-four (fourAt l 0) ∙ low-four (fourAt l 0) ∙ le4-four l h (omega arith)
-values-again l Known.long h k = take-eight (eightAt l 0) ∙ le8-eight l h (omega arith)
-values-again l Known.str h k = take-eight (eightAt l 0) ∙ le8-eight l h (omega arith)
+values-again l _ h k = take-eight (eightAt l 0) ∙ le8-eight l h (omega arith)
 
 bit-again : (c : ℕ) → c ≤ 1 → bit (eqb c 1) ≡ c
-bit-again zero h = refl
-bit-again (suc zero) h = refl
-bit-again (suc (suc c)) h = absurd (omega arith)
+bit-again c h = grind arith
 
 -- a part, and the part right behind it
 joined : (l a b : List ℕ) (i n m : ℕ) → a ≡ take n (drop i l) → b ≡ take m (drop (i + n) l) → a ++ b ≡ take (n + m) (drop i l)

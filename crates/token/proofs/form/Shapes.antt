@@ -1,19 +1,7 @@
 -- The forms of kinds with values by their parts, and what of them is stored.
-use Prim.Native.Nat.{ℕ, ◌+◌}
-use mathlib.Core.Path.{◌≡◌, refl}
-use mathlib.Core.Bool.{Bool, cond}
-use mathlib.Core.List.{List}
-use lib.ListN.{length}
-use lib.Seq.{sets}
-use lib.Dec.{leb}
-use Rattle.token.specs.paper.Kinds.{kindNumber}
-use Rattle.token.specs.paper.Records.{valuesOf, values, intLength, longLength, strLength, lineLength, recordLength}
-use Rattle.token.specs.code.Form.{joined, formOf}
-use Rattle.token.specs.code.Records.{storedIf}
-use Rattle.words.specs.Words.{le4, le8}
-use Rattle.token.specs.declared.kinds.TokenKind.{TokenKind}
+use Rattle.token.proofs.cursor.Words.{ℕ, ◌+◌, ◌≡◌, refl, Bool, cond, List, length, sets, leb, kindNumber, valuesOf, values, intLength, longLength, strLength, lineLength, recordLength, joined, formOf, storedIf, le4, le8, TokenKind}
 use Rattle.token.specs.declared.kinds.TokenKind.TheVariants as tk
-use Rattle.token.proofs.form.Stores.{head-fields, length-bytes}
+use Rattle.token.proofs.form.Stores.{length-bytes}
 use Rattle.token.proofs.form.Laws.{known, length-form}
 
 -- ---- lengths

@@ -1,28 +1,9 @@
 -- Line ends and comments by where they end: the scanner finds them there.
-use Prim.Native.Nat.{ℕ, ◌+◌, ◌≤◌, ◌<◌}
-use mathlib.Core.Path.{◌≡◌, refl, sym, ◌∙◌, ap}
-use mathlib.Core.Bool.{true, not, ◌&&◌}
-use mathlib.Core.List.{List}
-use mathlib.Core.Option.{Option, none, some}
-use lib.ListN.{length, drop, get_or}
-use lib.Dec.{eqb}
-use native.Mathlib.Omega.{arith}
-use borrow.Author.Tests.{eqb-true}
-use Rattle.chars.specs.paper.Text.{Text, from, place}
-use Rattle.chars.specs.computed.Runs.{afterRun}
-use Rattle.chars.proofs.theorems.Promises.{text-laws}
-use Rattle.token.specs.paper.Tests.{endOfLine, opensLine, opensBlock}
-use Rattle.token.specs.computed.Flags.{GapKind}
-use Rattle.token.specs.computed.Answer.{Found, scan, close, blockOr}
-use Rattle.token.specs.code.Cursor.{cursorAt}
-use Rattle.token.specs.code.Gap.{closedOf}
+use Rattle.token.proofs.cursor.Words.{ℕ, ◌+◌, ◌≤◌, ◌<◌, ◌≡◌, sym, ◌∙◌, ap, true, not, ◌&&◌, List, length, drop, get_or, eqb, arith, Text, from, place, afterRun, text-laws, endOfLine, opensLine, opensBlock, GapKind, Found, scan, close, closedOf, Some, None, Cursor}
 use Rattle.token.proofs.cursor.Bytes.{inside}
 use Rattle.token.proofs.gap.Laws.{pair-at, line-opens, block-opens}
 use Rattle.token.proofs.lexer.Found.{gap-strict, left-at}
 use Rattle.token.proofs.lexer.Laws.{later-place, lf-scan, crlf-scan, line-scan, block-scan}
-use Rattle.std.specs.Prelude.{Some, None}
-use Rattle.std.proofs.lemmas.Option.{same_Some, none-some}
-use Rattle.token.specs.declared.cursor.Cursor.{Cursor}
 open text-laws use {at-char, place-from}
 
 -- a gap piece stands at the place i, and the place j is right behind it
@@ -43,15 +24,10 @@ module _ (s : List ℕ) (i : ℕ) where
   -- ---- line ends
 
   pub lf-found : eqb (get_or s i 0) 0x0A ≡ true → GapTo s GapKind.lineEnd i (i + 1)
-  lf-found e =
-      let z = eqb-true (get_or s i 0) 0x0A e in
-      let h = inside s i (omega arith) in
-      record { found = lf-scan s i h z; on = omega arith; within = omega arith }
+  lf-found e = grind (arith, inside, lf-scan)
 
   pub crlf-found : eqb (get_or s i 0) 0x0D && eqb (get_or s (i + 1) 0) 0x0A ≡ true → GapTo s GapKind.lineEnd i (i + 2)
-  crlf-found e =
-      let p = pair-at s i 0x0D 0x0A (omega arith) (omega arith) (omega arith) (omega arith) e in
-      record { found = crlf-scan s i p; on = omega arith; within = p.within }
+  crlf-found e = let p = pair-at s i 0x0D 0x0A (omega arith) (omega arith) (omega arith) (omega arith) e in record { found = crlf-scan s i p; on = omega arith; within = p.within }
 
   -- ---- comments
 
@@ -64,18 +40,11 @@ module _ (s : List ℕ) (i : ℕ) where
   -- a block comment, where it is closed; and where it is open at the end of script
   pub block-found : (e : Cursor) → opensBlock (from s i) ≡ true → Some e ≡ closedOf (length s) (close 0 0 (drop 2 (from s i))) → GapTo s GapKind.blockComment i e.at
   unfolding closedOf
-  block-found e o q = go (close 0 0 (drop 2 (from s i))) refl q
-    where
-      go : (x : Option Text) → close 0 0 (drop 2 (from s i)) ≡ x → Some e ≡ closedOf (length s) x → GapTo s GapKind.blockComment i e.at
-      go none f q = absurd (none-some e (sym q))
-      go (some r) f q =
-          let d = same_Some e (cursorAt (place (length s) r)) q in
-          rw (ap (λ (c : Cursor). c.at) d) (gap-to GapKind.blockComment r (omega (arith, (block-opens s i o).within)) (block-scan s i o ∙ ap (blockOr (from s i)) f))
+  block-found e o q =
+      let b = block-scan s i o in
+      let g = λ (r : Text) (f : scan (length s) (from s i) ≡ Found.gap GapKind.blockComment r). gap-to GapKind.blockComment r (omega (arith, (block-opens s i o).within)) f in
+      grind arith
 
   pub block-open : opensBlock (from s i) ≡ true → None ≡ closedOf (length s) (close 0 0 (drop 2 (from s i))) → scan (length s) (from s i) ≡ Found.stuck 2 (from s i)
   unfolding closedOf
-  block-open o q = go (close 0 0 (drop 2 (from s i))) refl q
-    where
-      go : (x : Option Text) → close 0 0 (drop 2 (from s i)) ≡ x → None ≡ closedOf (length s) x → scan (length s) (from s i) ≡ Found.stuck 2 (from s i)
-      go none f q = block-scan s i o ∙ ap (blockOr (from s i)) f
-      go (some r) f q = absurd (none-some (cursorAt (place (length s) r)) q)
+  block-open o q = let b = block-scan s i o in grind arith

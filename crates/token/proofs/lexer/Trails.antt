@@ -1,25 +1,10 @@
 -- The walk token by token: one step of it, what it comes to, and the records of what it comes over.
-use Prim.Native.Nat.{ℕ, zero, suc, ◌+◌, ◌-◌, ◌≤◌}
-use mathlib.Core.Path.{◌≡◌, refl, sym, ◌∙◌, ap}
-use mathlib.Core.Bool.{Bool, true, false, cond}
-use mathlib.Core.List.{List, [], ◌∷◌}
-use lib.ListN.{length, drop}
-use lib.Seq.{sets, length-sets}
-use native.Mathlib.Omega.{arith}
-use Rattle.chars.specs.paper.Text.{Char, Text, place}
-use Rattle.chars.specs.computed.Runs.{afterRun}
-use Rattle.token.specs.paper.Tests.{isAny}
-use Rattle.token.specs.paper.Kinds.{Token}
-use Rattle.token.specs.paper.Records.{recordLength, recordOf, records, recordBytes}
-use Rattle.token.specs.computed.Flags.{Gap, GapKind, fresh, push, cutOf}
-use Rattle.token.specs.computed.Answer.{Found, scan, Answer, tokenized, refused, prepend, gapBefore, walk}
-use Rattle.token.specs.code.Records.{Trail, gapGoes, trail, answerOf, tokensOn, stores, storedIf, eofAt}
-use Rattle.token.specs.declared.kinds.TokenKind.{TokenKind}
-use Rattle.token.proofs.Base.{zero-one}
+use Rattle.token.proofs.lexer.Laws.{strict-rest}
+use Rattle.token.proofs.theorems.Runs.{after-next, after-stop}
+use Rattle.token.proofs.lexer.Words.{ℕ, zero, suc, ◌+◌, ◌-◌, ◌≤◌, ◌≡◌, refl, sym, ◌∙◌, ap, Bool, List, [], ◌∷◌, length, drop, sets, length-sets, arith, Char, Text, place, afterRun, isAny, Token, recordLength, recordOf, records, recordBytes, Gap, GapKind, fresh, push, cutOf, Found, scan, Answer, tokenized, refused, prepend, gapBefore, walk, Trail, gapGoes, trail, answerOf, tokensOn, stores, storedIf, eofAt, TokenKind, zero-one, sets-append, by-test, ap₂}
 use Rattle.token.proofs.theorems.Shorter.{Strict}
-use Rattle.token.proofs.lexer.Found.{blank-scan, gap-strict, token-strict}
+use Rattle.token.proofs.lexer.Found.{blank-scan, gap-strict}
 use Rattle.token.proofs.form.Stores.{length-record, stored-in}
-use Rattle.words.proofs.Stores.{sets-append}
 
 -- ---- one step
 
@@ -30,10 +15,7 @@ trail-skip n (suc k) f [] = refl
 trail-skip n (suc k) f (c ∷ s) = trail-skip n k f s
 
 trail-rest : (n : ℕ) (f : Gap) (c : Char) (s r : Text) → Strict r (c ∷ s) → trail n (length s - length r) f s ≡ trail n 0 f r
-trail-rest n f c s r (h, l) =
-    let e : suc (length s) - length r ≡ suc (length s - length r) = omega arith in
-    let q : r ≡ drop (length s - length r) s = h.rest-is ∙ ap (λ k. drop k (c ∷ s)) e in
-    trail-skip n (length s - length r) f s ∙ ap (trail n 0 f) (sym q)
+trail-rest n f c s r v = trail-skip n (length s - length r) f s ∙ ap (trail n 0 f) (sym (strict-rest c s r v))
 
 pub trail-gap : (n : ℕ) (f : Gap) (c : Char) (s r : Text) (g : GapKind) → scan n (c ∷ s) ≡ Found.gap g r → Strict r (c ∷ s)
     → trail n 0 f (c ∷ s) ≡ gapGoes g c.at (place n r) f.comment (trail n 0 (push g f) r)
@@ -57,28 +39,23 @@ trail-end n f = refl
 -- two gaps of which whatever is found makes the same
 pub trail-alike : (n : ℕ) (g h : Gap) (c : Char) (s : Text) → g.comment ≡ h.comment → ((p : GapKind) (r : Text) → scan n (c ∷ s) ≡ Found.gap p r → push p g ≡ push p h)
     → ((t : TokenKind) (r : Text) → scan n (c ∷ s) ≡ Found.token t r → cutOf g ≡ cutOf h) → trail n 0 g (c ∷ s) ≡ trail n 0 h (c ∷ s)
+unfolding trail
 trail-alike n g h c s m gaps cuts = go (scan n (c ∷ s)) refl
   where
     go : (f : Found) → scan n (c ∷ s) ≡ f → trail n 0 g (c ∷ s) ≡ trail n 0 h (c ∷ s)
-    go (Found.gap p r) e =
-        let z = gap-strict n c s p r e in
-        trail-gap n g c s r p e z ∙ ap (λ y. gapGoes p c.at (place n r) y (trail n 0 (push p g) r)) m
-        ∙ ap (λ y. gapGoes p c.at (place n r) h.comment (trail n 0 y r)) (gaps p r e) ∙ sym (trail-gap n h c s r p e z)
+    go (Found.gap p r) e = rw (e, trail) (ap₂ (λ y z. gapGoes p c.at (place n r) y (trail n (length s - length r) z s)) m (gaps p r e))
     go (Found.token t r) e =
-        let z = token-strict n c s t r e in
-        trail-token n g c s r t e z ∙ ap (λ y. Trail.goes (record { kind = t; start = c.at; end = place n r; cut = y }) (trail n 0 fresh r)) (cuts t r e)
-        ∙ sym (trail-token n h c s r t e z)
-    go (Found.stuck j q) e = trail-stuck n g c s q j e ∙ sym (trail-stuck n h c s q j e)
+        rw (e, trail) (ap (λ y. Trail.goes (record { kind = t; start = c.at; end = place n r; cut = y }) (trail n (length s - length r) fresh s)) (cuts t r e))
+    go (Found.stuck j q) e = rw (e, trail)
 
 pub trail-blanks : (n : ℕ) (g : Gap) (s : Text) → trail n 0 g (afterRun (isAny " \t") s) ≡ trail n 0 g s
 unfolding afterRun
 trail-blanks n g [] = refl
-trail-blanks n g (c ∷ s) = go (isAny " \t" (c ∷ s)) refl (trail-blanks n g s)
-  where
-    go : (b : Bool) → isAny " \t" (c ∷ s) ≡ b → trail n 0 g (afterRun (isAny " \t") s) ≡ trail n 0 g s
-        → trail n 0 g (cond b (afterRun (isAny " \t") s) (c ∷ s)) ≡ trail n 0 g (c ∷ s)
-    go true e h = let f = blank-scan n c s e in h ∙ sym (trail-gap n g c s s GapKind.blank f (gap-strict n c s GapKind.blank s f))
-    go false e h = refl
+trail-blanks n g (c ∷ s) =
+    by-test (isAny " \t" (c ∷ s)) (λ e.
+    let f = blank-scan n c s e in
+    ap (trail n 0 g) (after-next (isAny " \t") c s e) ∙ trail-blanks n g s ∙ sym (trail-gap n g c s s GapKind.blank f (gap-strict n c s GapKind.blank s f)))
+    (λ e. ap (trail n 0 g) (after-stop (isAny " \t") c s e))
 
 -- ---- what it comes to
 
@@ -113,16 +90,13 @@ tokens-on (Trail.stops j a) ts e = zero-one (cc)
 
 -- ---- records that are stored one after another
 
-pub stored-record : (out : List ℕ) (w : ℕ) (t : Token) → w + recordLength t.kind ≤ length out → storedIf out w (recordOf t) ≡ sets out w (recordOf t)
-stored-record out w t h = sym (stored-in out w (recordLength t.kind) (recordOf t) (length-record t) _ h refl)
-
 -- where all fit, all are stored
 pub stores-fit : (ts : List Token) (out : List ℕ) (w : ℕ) → w + recordBytes ts ≤ length out → stores out w ts ≡ sets out w (records ts)
 unfolding stores recordBytes records
 stores-fit [] out w h = refl
 stores-fit (t ∷ ts) out w h =
     let l = length-record t in
-    let e = stored-record out w t (omega arith) in
+    let e = sym (stored-in out w (recordLength t.kind) (recordOf t) (length-record t) _ (omega arith) refl) in
     let k = length-sets out w (recordOf t) in
     ap (λ z. stores z (w + recordLength t.kind) ts) e
     ∙ stores-fit ts (sets out w (recordOf t)) (w + recordLength t.kind) (omega arith)

@@ -1,19 +1,6 @@
 -- Where the walk over a script begins, and what is counted and stored at its end.
-use Prim.Native.Nat.{ℕ, ◌+◌, ◌-◌, ◌/◌}
-use mathlib.Core.Path.{◌≡◌, sym, ◌∙◌, ap}
-use mathlib.Core.Bool.{Bool}
-use mathlib.Core.List.{List}
-use lib.ListN.{length}
-use native.Mathlib.Omega.{arith}
-use Rattle.chars.proofs.theorems.Promises.{text-laws}
-use Rattle.token.specs.paper.Kinds.{kindNumber}
-use Rattle.token.specs.paper.Records.{headLength, recordOf}
-use Rattle.token.specs.computed.Answer.{answer}
-use Rattle.token.specs.code.Form.{plainForm, byForm}
-use Rattle.token.specs.code.Records.{storedIf, eofAt, total, measuredOf, Trail, trail, answerOf, measuredFrom, storedFrom, trailFrom, begun}
-use Rattle.token.specs.code.Walk.{beginning, gapAt, stateAt, Steps}
+use Rattle.token.proofs.cursor.Words.{ℕ, ◌+◌, ◌-◌, ◌/◌, ◌≡◌, sym, ◌∙◌, ap, Bool, List, length, arith, text-laws, kindNumber, headLength, recordOf, answer, plainForm, byForm, storedIf, eofAt, total, measuredOf, Trail, trail, answerOf, measuredFrom, storedFrom, trailFrom, begun, beginning, gapAt, stateAt, Steps, Stand}
 use Rattle.token.specs.declared.kinds.TokenKind.TheVariants as tk
-use Rattle.token.specs.declared.walk.Stand.{Stand}
 use Rattle.token.proofs.form.Laws.{form-length, record-by, eof-form}
 use Rattle.token.proofs.lexer.Trails.{trail-end, stores-end}
 use Rattle.token.proofs.lexer.Turns.{or-false}

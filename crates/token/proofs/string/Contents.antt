@@ -1,37 +1,21 @@
 -- The content of a plain string by its opening: one quote at each side of a single one, three at each side of most triples.
-use Prim.Native.Nat.{ℕ, zero, suc, ◌+◌, ◌-◌, ◌≤◌, ◌<◌}
-use mathlib.Core.Path.{◌≡◌, refl, sym, ◌∙◌, ap}
-use mathlib.Core.Bool.{Bool, true, false, ◌&&◌}
-use mathlib.Core.List.{List, []}
-use lib.ListN.{length, drop, get_or, get_or-eq_default}
-use lib.Dec.{eqb, ltb}
-use native.Mathlib.Omega.{arith}
-use borrow.Author.Tests.{eq-eqb, eqb-true, eqb-false, ltb-true, ltb-false}
-use Rattle.chars.specs.paper.Text.{Text, from, place}
-use Rattle.chars.specs.computed.Runs.{afterRun}
-use Rattle.chars.proofs.Bools.{and-both}
-use Rattle.chars.specs.promises.Texts.{Suffix}
-use Rattle.chars.proofs.theorems.Promises.{text-laws}
-use Rattle.token.specs.paper.Tests.{quote, threeQuotes}
-use Rattle.token.specs.computed.Answer.{closed, wrong, closeTriple, closeString, plainContent}
-use Rattle.token.specs.code.String.{closeSingle}
+use Rattle.token.proofs.cursor.Words.{ℕ, ◌+◌, ◌-◌, ◌≤◌, ◌<◌, ◌≡◌, sym, ◌∙◌, ap, Bool, true, false, List, [], length, drop, get_or, arith, eq-eqb, Text, from, place, afterRun, Suffix, text-laws, quote, threeQuotes, closed, wrong, closeTriple, closeString, plainContent, closeSingle, cases_lt, inl, inr, eqb, refl, ◌||◌, Cursor, endAt, endedOf, pieceOf, scanString, tokenTo}
 use Rattle.token.specs.declared.kinds.TokenKind.TheVariants as tk
 use Rattle.token.proofs.Base.{zero-one}
 use Rattle.token.proofs.cursor.Bytes.{inside, past}
+use Rattle.token.proofs.cursor.Runs.{twice}
+use Rattle.chars.proofs.Prefix.{end, stopped}
+use Rattle.std.proofs.lemmas.Bool.{false≢true}
 use Rattle.token.proofs.theorems.Runs.{run-suffix}
 use Rattle.token.proofs.theorems.Shorter.{single-suffix}
 use Rattle.token.proofs.theorems.Strings as strings
 use Rattle.token.proofs.string.Escapes.{same-place}
-use Rattle.token.proofs.string.Laws.{reach, reached, quote-byte, three-byte, no-quote, quote-in, three-in, quotes-next, single-same}
-use Rattle.token.proofs.string.Strips.{Left, left-all, left-end, left-stop, string-tail, Quotes, Ends, left-many}
-open text-laws use {place-from, run-stays}
+use Rattle.token.proofs.string.Laws.{reached, quote-byte, three-each, no-quote, quote-in, three-in, quotes-next, quotes-to, single-same, single-shut, plain-end, plain-ended}
+use Rattle.token.proofs.string.Strips.{left-all, left-end, left-stop, string-tail, Quotes, quotes-each, Ends, left-many}
+open text-laws use {run-stays}
 
 no-wrong : {A : Type 0} (j : ℕ) (t q : Text) → wrong j t ≡ closed q → A
 no-wrong j t q e = zero-one (cc)
-
-suffix-reached : (s : List ℕ) (b : ℕ) → b ≤ length s → (m : Text) → Suffix m (from s b)
-    → (b ≤ place (length s) m) × (place (length s) m ≤ length s) × (from s (place (length s) m) ≡ m)
-suffix-reached s b h m x = reached s b m (rw x.rest-is (reach s (length (from s b) - length m) b h))
 
 -- ---- a single string that is closed: its last quote
 
@@ -49,7 +33,7 @@ single-closed p s b h q c =
   where
     go : (p : Bool) (m : Text) → Suffix m (from s b) → strings.closeOne p m ≡ closed q → strings.SingleEnd p m → SingleClosed s b q
     go p m x z (strings.SingleEnd.closes _ y) =
-        let k = suffix-reached s b h m x in
+        let k = reached s b m h x in
         let i = quote-in s (place (length s) m) (ap quote k.2 ∙ y) in
         let e : closed (drop 1 m) ≡ closed q = sym (strings.single-close p m y) ∙ z in
         let d : drop 1 m ≡ q = cc in
@@ -67,76 +51,12 @@ single-closed p s b h q c =
 
 -- ---- a triple that is closed: the quotes that close it
 
-record QuotesTo (s : List ℕ) (i : ℕ) : Type 0 where
-  end : ℕ
-  on : i ≤ end
-  within : end ≤ length s
-  quotes : Quotes s i end
-  stop : get_or s end 0 ≡ 0x22 → ⊥
-  is : from s end ≡ afterRun quote (from s i)
-
-quotes-to : (s : List ℕ) (n i : ℕ) → i ≤ length s → length s ≤ i + n → QuotesTo s i
-quotes-to s n i h k = go n i h k
-  where
-    stays : (i : ℕ) → i ≤ length s → (get_or s i 0 ≡ 0x22 → ⊥) → QuotesTo s i
-    stays i h m =
-        record {
-          end = i;
-          on = omega arith;
-          within = h;
-          quotes = λ j u v. absurd (omega arith);
-          stop = m;
-          is = sym (run-stays quote (from s i) (no-quote s i m));
-        }
-
-    more : (i : ℕ) → i < length s → get_or s i 0 ≡ 0x22 → QuotesTo s (i + 1) → QuotesTo s i
-    more i h b r =
-        record {
-          end = r.end;
-          on = let o = r.on in omega arith;
-          within = r.within;
-          quotes = λ j u v. first j u v (eqb j i) refl;
-          stop = r.stop;
-          is = r.is ∙ quotes-next s i h b;
-        }
-      where
-        first : (j : ℕ) → i ≤ j → j < r.end → (x : Bool) → eqb j i ≡ x → get_or s j 0 ≡ 0x22
-        first j u v true e = ap (λ k. get_or s k 0) (eqb-true j i e) ∙ b
-        first j u v false e = r.quotes j (past-first (ltb i j) refl) v
-          where
-            past-first : (y : Bool) → ltb i j ≡ y → i + 1 ≤ j
-            past-first true l = let w = ltb-true i j l in omega arith
-            past-first false l = absurd (eqb-false j i e (let w = ltb-false i j l in omega arith))
-
-    go : (n i : ℕ) → i ≤ length s → length s ≤ i + n → QuotesTo s i
-    go zero i h k = stays i h (λ e. let z = get_or-eq_default s 0 (let l : length s ≤ i = omega arith in l) in absurd (omega (arith, e, z)))
-    go (suc n) i h k = by (eqb (get_or s i 0) 0x22) refl (go n (i + 1))
-      where
-        by : (x : Bool) → eqb (get_or s i 0) 0x22 ≡ x → (i + 1 ≤ length s → length s ≤ i + 1 + n → QuotesTo s (i + 1)) → QuotesTo s i
-        by true e below =
-            let b = eqb-true (get_or s i 0) 0x22 e in
-            let l = inside s i (omega arith) in
-            more i l b (below (omega arith) (omega arith))
-        by false e below = stays i h (eqb-false (get_or s i 0) 0x22 e)
-
--- three quotes at a place, one by one
-three-each : (s : List ℕ) (i : ℕ) → threeQuotes (from s i) ≡ true → (get_or s i 0 ≡ 0x22) × (get_or s (i + 1) 0 ≡ 0x22) × (get_or s (i + 2) 0 ≡ 0x22)
-three-each s i e =
-    let a = and-both (eqb (get_or s i 0) 0x22) (eqb (get_or s (i + 1) 0) 0x22 && eqb (get_or s (i + 2) 0) 0x22) (sym (three-byte s i) ∙ e) in
-    let b = and-both (eqb (get_or s (i + 1) 0) 0x22) (eqb (get_or s (i + 2) 0) 0x22) a.1 in
-    (eqb-true (get_or s i 0) 0x22 a.0, eqb-true (get_or s (i + 1) 0) 0x22 b.0, eqb-true (get_or s (i + 2) 0) 0x22 b.1)
+-- a run of quotes that begins with three has three at least
+three-least : (s : List ℕ) (i e : ℕ) → threeQuotes (from s i) ≡ true → i ≤ e → (get_or s e 0 ≡ 0x22 → ⊥) → i + 3 ≤ e
+three-least s i e t l n = let b = three-each s i t in grind arith
 
 three-quotes : (s : List ℕ) (i : ℕ) → threeQuotes (from s i) ≡ true → Quotes s i (i + 3)
-three-quotes s i e j u v = go (eqb j i) (eqb j (i + 1)) refl refl
-  where
-    go : (x y : Bool) → eqb j i ≡ x → eqb j (i + 1) ≡ y → get_or s j 0 ≡ 0x22
-    go true y f g = ap (λ k. get_or s k 0) (eqb-true j i f) ∙ (three-each s i e).0
-    go false true f g = ap (λ k. get_or s k 0) (eqb-true j (i + 1) g) ∙ (three-each s i e).1
-    go false false f g =
-        let m = eqb-false j i f in
-        let n = eqb-false j (i + 1) g in
-        let z : j ≡ i + 2 = omega arith in
-        ap (λ k. get_or s k 0) z ∙ (three-each s i e).2
+three-quotes s i e j u v = let b = three-each s i e in grind arith
 
 record TripleClosed (s : List ℕ) (b : ℕ) (q : Text) : Type 0 where
   at : ℕ
@@ -154,26 +74,14 @@ triple-closed p s b h q c =
   where
     ends : (i : ℕ) → b ≤ i → i ≤ length s → threeQuotes (from s i) ≡ true → afterRun quote (from s i) ≡ q → TripleClosed s b q
     ends i o l t z =
-        let r = quotes-to s (length s) i l (omega arith) in
-        let e = three-each s i t in
-        let u = beyond r i r.on e.0 in
-        let v = beyond r (i + 1) u e.1 in
-        let w = beyond r (i + 2) (omega arith) e.2 in
-        record { at = i; on = o; end = r.end; apart = omega arith; within = r.within; quotes = r.quotes; is = r.is ∙ z }
-      where
-        beyond : (r : QuotesTo s i) (k : ℕ) → k ≤ r.end → get_or s k 0 ≡ 0x22 → k + 1 ≤ r.end
-        beyond r k m b = by (ltb k r.end) refl
-          where
-            by : (x : Bool) → ltb k r.end ≡ x → k + 1 ≤ r.end
-            by true f = let y = ltb-true k r.end f in omega arith
-            by false f =
-                let y = ltb-false k r.end f in
-                let z : r.end ≡ k = omega arith in
-                absurd (r.stop (ap (λ j. get_or s j 0) z ∙ b))
+        let q = λ (b : ℕ). eqb b 0x22 || eqb b 0x22 in
+        let r = quotes-to s i (end q s i) l refl in
+        let n = three-least s i (end q s i) t r.0 (λ e. false≢true (sym (stopped q s i (inside s (end q s i) (omega arith))) ∙ twice _ ∙ eq-eqb _ 0x22 e)) in
+        record { at = i; on = o; end = end q s i; apart = n; within = r.1; quotes = quotes-each s i; is = r.2 ∙ z }
 
     go : (p : Bool) (m : Text) → Suffix m (from s b) → closeTriple p m ≡ closed q → strings.TripleEnd p m → TripleClosed s b q
     go p m x z (strings.TripleEnd.closes _ y) =
-        let k = suffix-reached s b h m x in
+        let k = reached s b m h x in
         let e : closed (afterRun quote m) ≡ closed q = sym (strings.triple-close p m y) ∙ z in
         let d : afterRun quote m ≡ q = cc in
         ends (place (length s) m) k.0 k.1 (ap threeQuotes k.2 ∙ y) (ap (afterRun quote) k.2 ∙ d)
@@ -181,25 +89,15 @@ triple-closed p s b h q c =
     go p m x z (strings.TripleEnd.slash _ y) = no-wrong 10 m q (sym (strings.triple-slash p m y) ∙ z)
     go true m x z (strings.TripleEnd.dollar y) = no-wrong 11 m q (sym (strings.triple-dollar m y) ∙ z)
 
--- a string from i on is closed at e
-record ClosedAt (p : Bool) (s : List ℕ) (i e : ℕ) : Type 0 where
-  on : i < e
-  within : e ≤ length s
-  is : closeString p (from s i) ≡ closed (from s e)
-
 -- the content: n quotes taken off both ends
-content : (s : List ℕ) (i e n : ℕ) → get_or s i 0 ≡ 0x22 → ClosedAt false s i e → Ends s n i e → (get_or s (i + n) 0 ≡ 0x22 → e - n ≤ i + n)
-    → tk.Str (i + n) (e - n) ≡ plainContent (length s) (from s i) (from s e)
-content s i e n b c ends last = go (ltb (i + n) (e - n)) refl
-  where
-    left : Left s i e (i + n) (e - n)
-    left =
-        let o = c.on in
-        left-many s i e n i e ends (left-all s i e (omega arith) c.within (string-tail s i e (quote-byte s i ∙ eq-eqb (get_or s i 0) 0x22 b) c.is))
-
-    go : (x : Bool) → ltb (i + n) (e - n) ≡ x → tk.Str (i + n) (e - n) ≡ plainContent (length s) (from s i) (from s e)
-    go true f = let l = ltb-true (i + n) (e - n) f in left-stop s i e (i + n) (e - n) left l (λ q. let m = last q in absurd (omega arith))
-    go false f = left-end s i e (i + n) (e - n) left (ltb-false (i + n) (e - n) f)
+content : (s : List ℕ) (i e n : ℕ) → get_or s i 0 ≡ 0x22 → i < e → e ≤ length s → closeString false (from s i) ≡ closed (from s e) → Ends s n i e
+    → (get_or s (i + n) 0 ≡ 0x22 → e - n ≤ i + n) → tk.Str (i + n) (e - n) ≡ plainContent (length s) (from s i) (from s e)
+content s i e n b o h c ends last =
+    let left = left-many s i e n i e ends (left-all s i e (omega arith) h (string-tail s i e (quote-byte s i ∙ eq-eqb (get_or s i 0) 0x22 b) c)) in
+    elim (cases_lt (i + n) (e - n)) [
+      | inl l ↦ left-stop s i e (i + n) (e - n) left l (λ q. let m = last q in absurd (omega arith))
+      | inr l ↦ left-end s i e (i + n) (e - n) left l
+    ]
 
 -- ---- three quotes at a place
 
@@ -212,13 +110,15 @@ module _ (s : List ℕ) (i : ℕ) (t : threeQuotes (from s i) ≡ true) where
   three-run =
       let e = three-each s i t in
       let h = (three-in s i t).0 in
-      let two : i + 3 ≡ i + 2 + 1 = omega arith in
-      let one : i + 2 ≡ i + 1 + 1 = omega arith in
-      ap (λ j. afterRun quote (from s j)) two ∙ quotes-next s (i + 2) h e.2
-      ∙ ap (λ j. afterRun quote (from s j)) one ∙ quotes-next s (i + 1) (omega arith) e.1 ∙ quotes-next s i (omega arith) e.0
+      let x = quotes-next s i (omega arith) e.0 in
+      let y = quotes-next s (i + 1) (omega arith) e.1 in
+      let z = quotes-next s (i + 2) h e.2 in
+      grind arith
 
   pub three-alone : (get_or s (i + 3) 0 ≡ 0x22 → ⊥) → from s (i + 3) ≡ afterRun quote (from s i)
   three-alone n = sym (run-stays quote (from s (i + 3)) (no-quote s (i + 3) n)) ∙ three-run
+
+pub ruleset three_closed = (three-run, three-alone)
 
 -- ---- from its opening on
 
@@ -233,72 +133,38 @@ module _ (p : Bool) (s : List ℕ) (i : ℕ) where
 module _ (s : List ℕ) (i e : ℕ) (o : i ≤ e) (h : e ≤ length s) (c : closeString false (from s i) ≡ closed (from s e)) where
   -- the content of a single string
   pub single-content : quote (from s i) ≡ true → threeQuotes (from s i) ≡ false → (i + 1 ≤ e) × (tk.Str (i + 1) (e - 1) ≡ plainContent (length s) (from s i) (from s e))
-  single-content q t = (omega (arith, ends.apart), content s i e 1 b at ends at-once)
-    where
-      b : get_or s i 0 ≡ 0x22
-      b = (quote-in s i q).1
-
-      inner : i < length s
-      inner = (quote-in s i q).0
-
-      body : closeSingle false (from s (i + 1)) ≡ closed (from s e)
-      body = ap (closeSingle false) (sym (past s i inner (omega (arith, b)))) ∙ single-opened false s i q t ∙ c
-
-      k : SingleClosed s (i + 1) (from s e)
-      k = single-closed false s (i + 1) (omega (arith, inner)) (from s e) body
-
-      last : k.at + 1 ≡ e
-      last = let w = k.within in same-place s e (k.at + 1) h (omega arith) k.is
-
-      at : ClosedAt false s i e
-      at = let o = k.on in let l = last in record { on = omega arith; within = h; is = c }
-
-      ends : Ends s 1 i e
-      ends =
-          let o = k.on in
-          let l = last in
-          record {
-            apart = omega arith;
-            first = λ j u v. let y : j ≡ i = omega arith in ap (λ m. get_or s m 0) y ∙ b;
-            last = λ j u v. let y : j ≡ k.at = omega arith in ap (λ m. get_or s m 0) y ∙ k.byte;
-          }
-
-      at-once : get_or s (i + 1) 0 ≡ 0x22 → e - 1 ≤ i + 1
-      at-once f =
-          let l = last in
-          let w = inside s (i + 1) (omega arith) in
-          let z : closed (drop 1 (from s (i + 1))) ≡ closed (from s e) =
-          sym (strings.single-close false (from s (i + 1)) (quote-byte s (i + 1) ∙ eq-eqb (get_or s (i + 1) 0) 0x22 f)) ∙ sym (single-same false (from s (i + 1))) ∙ body in
-          let d : drop 1 (from s (i + 1)) ≡ from s e = cc in
-          let y = same-place s e (i + 1 + 1) h (omega arith) (sym (past s (i + 1) w (omega arith)) ∙ d) in
-          omega arith
+  single-content q t =
+      let b = quote-in s i q in
+      let body : closeSingle false (from s (i + 1)) ≡ closed (from s e) = ap (closeSingle false) (sym (past s i b.0 (omega (arith, b.1)))) ∙ single-opened false s i q t ∙ c in
+      let k = single-closed false s (i + 1) (omega (arith, b.0)) (from s e) body in
+      let on = k.on in
+      let byte = k.byte in
+      let last = same-place s e (k.at + 1) h (let w = k.within in omega arith) k.is in
+      let at-once = λ (f : get_or s (i + 1) 0 ≡ 0x22).
+      let z : closed (from s (i + 1 + 1)) ≡ closed (from s e) = sym (single-shut false s (i + 1) (inside s (i + 1) (omega arith)) f) ∙ body in
+      let w = inside s (i + 1) (omega arith) in
+      same-place s e (i + 1 + 1) h (omega arith) (cc) in
+      let ends : Ends s 1 i e = record { apart = omega arith; first = λ j u v. grind arith; last = λ j u v. grind arith } in
+      (omega arith, content s i e 1 b.1 (omega arith) h c ends (λ f. let y = at-once f in omega arith))
 
   -- the content of a triple with no fourth quote
   pub triple-content : threeQuotes (from s i) ≡ true → (get_or s (i + 3) 0 ≡ 0x22 → ⊥) → (i + 6 ≤ e) × (tk.Str (i + 3) (e - 3) ≡ plainContent (length s) (from s i) (from s e))
-  triple-content t m = (omega (arith, k.on, k.apart, last), content s i e 3 b at ends (λ f. absurd (m f)))
-    where
-      b : get_or s i 0 ≡ 0x22
-      b = (three-each s i t).0
+  triple-content t m =
+      let w = (three-in s i t).0 in
+      let body : closeTriple false (from s (i + 3)) ≡ closed (from s e) = ap (closeTriple false) (sym (three-in s i t).1) ∙ triple-opened false s i t ∙ c in
+      let k = triple-closed false s (i + 3) (omega arith) (from s e) body in
+      let on = k.on in
+      let apart = k.apart in
+      let last = same-place s e k.end h k.within k.is in
+      let ends : Ends s 3 i e = record { apart = omega arith; first = three-quotes s i t; last = λ j u v. k.quotes j (omega arith) (omega arith) } in
+      (omega arith, content s i e 3 (three-each s i t).0 (omega arith) h c ends (λ f. absurd (m f)))
 
-      body : closeTriple false (from s (i + 3)) ≡ closed (from s e)
-      body = ap (closeTriple false) (sym (three-in s i t).1) ∙ triple-opened false s i t ∙ c
-
-      k : TripleClosed s (i + 3) (from s e)
-      k = let w = (three-in s i t).0 in triple-closed false s (i + 3) (omega arith) (from s e) body
-
-      last : k.end ≡ e
-      last = same-place s e k.end h k.within k.is
-
-      at : ClosedAt false s i e
-      at = let o = k.on in let a = k.apart in let l = last in record { on = omega arith; within = h; is = c }
-
-      ends : Ends s 3 i e
-      ends =
-          let o = k.on in
-          let a = k.apart in
-          let l = last in
-          record {
-            apart = omega arith;
-            first = three-quotes s i t;
-            last = λ j u v. k.quotes j (omega arith) (omega arith);
-          }
+-- a plain string, from where its end is found
+module _ (s : List ℕ) (i : ℕ) (e : Cursor) (h : i ≤ length s) where
+  pub single-token : quote (from s i) ≡ true → threeQuotes (from s i) ≡ false → endAt e ≡ endedOf (length s) (closeSingle false (drop 1 (from s i)))
+      → (i + 1 ≤ e.at) × (tokenTo (tk.Str (i + 1) (e.at - 1)) e ≡ pieceOf (length s) (scanString (length s) (from s i)))
+  single-token q t a =
+      let f = a ∙ ap (endedOf (length s)) (single-opened false s i q t) in
+      let p = plain-end s i e h q f in
+      let k = single-content s i e.at p.0 p.1 p.3 q t in
+      (k.0, plain-ended (length s) _ e _ _ f p.3 k.1)

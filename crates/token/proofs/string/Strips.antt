@@ -1,26 +1,8 @@
 -- String content as the code strips it, by bytes: a text's last character is a quote exactly where its last byte is one.
-use Prim.Native.Nat.{ℕ, zero, suc, ◌+◌, ◌-◌, ◌≤◌, ◌<◌}
-use mathlib.Core.Path.{◌≡◌, refl, sym, ◌∙◌, ap}
-use mathlib.Core.Bool.{Bool, true, false, cond, ◌&&◌, ◌||◌, and-false}
-use mathlib.Core.List.{List, [], ◌∷◌, ◌++◌, reverse, reverse_aux, reverse_aux-append, append-nil, append_assoc}
-use lib.ListN.{length, drop, get_or, length-append, take-append-drop}
-use lib.Seq.{drop-append_seam}
-use lib.Dec.{eqb, leb, ltb}
-use native.Mathlib.Nat.{add-zero, sub-zero}
-use native.Mathlib.Omega.{arith}
-use borrow.Author.Tests.{eqb-true, eqb-false, ne_eqb, eq-eqb, le-leb, leb-true, ltb-true, ltb-false, lt-ltb, le-ltb}
-use Rattle.chars.specs.paper.Text.{Char, Text, from, place}
-use Rattle.chars.specs.code.Text.{charEnd}
-use Rattle.chars.proofs.Bools.{and-both}
-use Rattle.token.specs.paper.Tests.{begins, quote}
-use Rattle.token.specs.paper.Shapes.{textOf}
-use Rattle.token.specs.computed.Answer.{closed, closeString, strip, plainContent}
-use Rattle.token.specs.code.String.{lastOff, sixteenAt, blocksOff, spanAt, blockMore, blockLess, blocksTaken}
+use Rattle.token.proofs.cursor.Words.{ℕ, zero, suc, ◌+◌, ◌-◌, ◌≤◌, ◌<◌, ◌≡◌, refl, sym, ◌∙◌, ap, true, false, ◌&&◌, ◌||◌, and-false, List, [], ◌∷◌, ◌++◌, reverse, append-nil, append_assoc, length, drop, get_or, length-append, take-append-drop, drop-append_seam, eqb, leb, add-zero, sub-zero, arith, eqb-true, ne_eqb, eq-eqb, le-leb, leb-true, lt-ltb, le-ltb, Char, Text, from, place, charEnd, begins, quote, textOf, closed, closeString, strip, plainContent, lastOff, sixteenAt, blocksOff, spanAt, blockMore, blockLess, blocksTaken, end, passed, Suffix, ScriptText, text-laws, cases_Bool, cases_lt, ⊎_elim}
+use mathlib.Core.List.{reverse_aux, reverse_aux-append}
 use Rattle.token.specs.declared.string.Span.{Span}
 use Rattle.token.proofs.Loops.{steps-keep}
-use Rattle.chars.proofs.Prefix.{passed}
-use Rattle.chars.specs.promises.Texts.{Suffix, ScriptText}
-use Rattle.chars.proofs.theorems.Promises.{text-laws}
 use Rattle.token.specs.declared.kinds.TokenKind.TheVariants as tk
 use Rattle.token.proofs.cursor.Bytes.{past}
 use Rattle.token.proofs.cursor.Runs.{twice}
@@ -59,12 +41,7 @@ module _ (s : List ℕ) (b : ℕ) (within : b ≤ length s) (d : Char) (stands :
   here = (text-at s d (from s b) stands).0
 
   starts : d.at < length s
-  starts = go (ltb d.at (length s)) refl
-    where
-      go : (x : Bool) → ltb d.at (length s) ≡ x → d.at < length s
-      go true e = ltb-true d.at (length s) e
-      go false e =
-          absurd (let z : ◌≡◌ {A = ℕ} 0 (suc (length (from s b))) = ap length (sym (at-end s d.at (ltb-false d.at (length s) e)) ∙ here) in omega arith)
+  starts = let f = here in grind (arith, at-end)
 
   ends : charEnd s d.at ≡ b
   ends = same-place s b (charEnd s d.at) within (next-on s d.at starts).1 (ap (drop 1) (sym (at-char s d.at starts) ∙ here))
@@ -77,23 +54,12 @@ module _ (s : List ℕ) (b : ℕ) (within : b ≤ length s) (d : Char) (stands :
   last-one q = let n = ascii-next s d.at starts (omega arith) in let e = ends in omega arith
 
   last-byte : quote (d ∷ []) ≡ eqb (get_or s (b - 1) 0) 0x22
-  last-byte = first-byte ∙ go (eqb (get_or s d.at 0) 0x22) refl
-    where
-      off : (x : Bool) → ltb d.at (b - 1) ≡ x → (get_or s d.at 0 ≡ 0x22 → ⊥) → get_or s (b - 1) 0 ≡ 0x22 → ⊥
-      off true e n q =
-          let u = next-on s d.at starts in
-          let v = ends in
-          let w = wide-tail s d.at starts (b - 1) (ltb-true d.at (b - 1) e) (omega arith) in
-          omega (arith, w.0)
-      off false e n q =
-          let u = next-on s d.at starts in
-          let v = ends in
-          let z : d.at ≡ b - 1 = omega (arith, ltb-false d.at (b - 1) e) in
-          n (ap (λ j. get_or s j 0) z ∙ q)
-
-      go : (x : Bool) → eqb (get_or s d.at 0) 0x22 ≡ x → eqb (get_or s d.at 0) 0x22 ≡ eqb (get_or s (b - 1) 0) 0x22
-      go true e = ap (λ j. eqb (get_or s j 0) 0x22) (last-one (eqb-true (get_or s d.at 0) 0x22 e))
-      go false e = e ∙ sym (ne_eqb (get_or s (b - 1) 0) 0x22 (off (ltb d.at (b - 1)) refl (eqb-false (get_or s d.at 0) 0x22 e)))
+  last-byte =
+      let n = next-on s d.at starts in
+      let e = ends in
+      let w = wide-tail s d.at starts (b - 1) in
+      let q = ascii-next s d.at starts in
+      first-byte ∙ grind arith
 
   last-at : quote (d ∷ []) ≡ true → d.at ≡ b - 1
   last-at q = last-one (eqb-true (get_or s d.at 0) 0x22 (sym first-byte ∙ q))
@@ -137,13 +103,10 @@ module _ (s : List ℕ) (start end a b : ℕ) where
   pub left-end : Left s start end a b → b ≤ a → tk.Str a b ≡ plainContent (length s) (from s start) (from s end)
   left-end h k = go h.text h.split h.same
     where
-      z : a ≡ b
-      z = let o = h.ordered in omega arith
-
       go : (t : Text) → from s a ≡ t ++ from s b → strip (length t) (t ++ h.behind) (reverse_aux t h.ahead) b ≡ plainContent (length s) (from s start) (from s end)
           → tk.Str a b ≡ plainContent (length s) (from s start) (from s end)
-      go [] x y = ap (λ j. tk.Str j b) z ∙ sym (strip-none h.behind h.ahead b) ∙ y
-      go (c ∷ v) x y = longer c v (from s b) (ap (from s) (sym z) ∙ x)
+      go [] x y = let o = h.ordered in let z : a ≡ b = omega arith in rw z (sym (strip-none h.behind h.ahead b) ∙ y)
+      go (c ∷ v) x y = longer c v (from s b) (let o = h.ordered in let z : b ≡ a = omega arith in ap (from s) z ∙ x)
 
   pub left-stop : Left s start end a b → a < b → (get_or s a 0 ≡ 0x22 → ⊥) → tk.Str a b ≡ plainContent (length s) (from s start) (from s end)
   left-stop h k n = go h.text h.split h.same
@@ -162,25 +125,9 @@ module _ (s : List ℕ) (start end a b : ℕ) where
 -- ---- a last quote, if one is left
 
 module _ (s : List ℕ) (a b : ℕ) where
-  off-none : b ≤ a → b ≡ lastOff s a b
-  unfolding lastOff
-  off-none h = rw (le-ltb a b h)
-
-  off-quote : a < b → get_or s (b - 1) 0 ≡ 0x22 → b - 1 ≡ lastOff s a b
-  unfolding lastOff
-  off-quote h q = rw (lt-ltb a b h, eq-eqb (get_or s (b - 1) 0) 0x22 q)
-
-  off-other : a < b → (get_or s (b - 1) 0 ≡ 0x22 → ⊥) → b ≡ lastOff s a b
-  unfolding lastOff
-  off-other h n = rw (lt-ltb a b h, ne_eqb (get_or s (b - 1) 0) 0x22 n)
-
   pub off-most : lastOff s a b ≤ b
   unfolding lastOff
-  off-most = go (ltb a b && eqb (get_or s (b - 1) 0) 0x22)
-    where
-      go : (x : Bool) → cond x (b - 1) b ≤ b
-      go true = omega arith
-      go false = omega arith
+  off-most = grind arith
 
 -- one turn: a first quote, and a last one if one is left
 module _ (s : List ℕ) (start end a b : ℕ) (h : Left s start end a b) (k : a < b) (byte : get_or s a 0 ≡ 0x22) where
@@ -201,10 +148,11 @@ module _ (s : List ℕ) (start end a b : ℕ) (h : Left s start end a b) (k : a 
 
   -- the quote was all that was left
   left-last : (c : Char) → from s a ≡ c ∷ from s b → Same (c ∷ []) → LeftBetween (a + 1) (lastOff s (a + 1) b)
+  unfolding lastOff
   left-last c x y =
       let t = tail c [] x in
       let z : a + 1 ≡ b = same-place s b (a + 1) h.within (omega (arith, inner)) t in
-      rw (← off-none s (a + 1) b (omega arith))
+      rw (le-ltb (a + 1) b (omega arith))
       (record {
         ordered = omega arith;
         within = h.within;
@@ -233,23 +181,20 @@ module _ (s : List ℕ) (start end a b : ℕ) (h : Left s start end a b) (k : a 
     stands = rw (← drop-append_seam w (d ∷ from s b), ← rest) (text-drop s (length w) (from s (a + 1)) (a + 1, refl))
 
     further : a + 1 < b
-    further = go (ltb (a + 1) b) refl
-      where
-        go : (l : Bool) → ltb (a + 1) b ≡ l → a + 1 < b
-        go true e = ltb-true (a + 1) b e
-        go false e =
-            let z : a + 1 ≡ b = omega (arith, ltb-false (a + 1) b e) in
-            absurd (let l : length (from s b) ≡ length (w ++ (d ∷ from s b)) = ap length (ap (from s) (sym z) ∙ rest) in let m = length-append w (d ∷ from s b) in omega arith)
+    further = ⊎_elim (λ l. l) (λ g.
+        let z : a + 1 ≡ b = omega arith in
+        absurd (let l : length (from s b) ≡ length (w ++ (d ∷ from s b)) = ap length (ap (from s) (sym z) ∙ rest) in omega (arith, length-append w (d ∷ from s b)))) (cases_lt (a + 1) b)
 
     left-two : quote (d ∷ []) ≡ true → LeftBetween (a + 1) (lastOff s (a + 1) b)
+    unfolding lastOff
     left-two q =
         let at = last-at s b h.within d stands q in
-        let e = eqb-true (get_or s (b - 1) 0) 0x22 (sym (last-byte s b h.within d stands) ∙ q) in
+        let e = sym (last-byte s b h.within d stands) ∙ q in
         let n : suc (length v) - 2 ≡ length w = omega (arith, size) in
         let f = further in
         let g : strip (length w) (w ++ (d ∷ h.behind)) (reverse_aux w (c ∷ h.ahead)) d.at ≡ strip (suc (length v)) (c ∷ (v ++ h.behind)) (reverse_aux v (c ∷ h.ahead)) b =
         sym (rw (turned (c ∷ h.ahead), more h.behind, ← n) (strip-two (length v) c (w ++ (d ∷ h.behind)) b d (reverse_aux w (c ∷ h.ahead)) (omega (arith, size)) (quoted c v _ x) (quote-first d _ [] ∙ q))) in
-        rw (← off-quote s (a + 1) b further e)
+        rw (lt-ltb (a + 1) b further, e)
         (record {
           ordered = omega arith;
           within = let l = h.within in omega arith;
@@ -261,12 +206,13 @@ module _ (s : List ℕ) (start end a b : ℕ) (h : Left s start end a b) (k : a 
         })
 
     left-one : quote (d ∷ []) ≡ false → LeftBetween (a + 1) (lastOff s (a + 1) b)
+    unfolding lastOff
     left-one q =
-        let e = eqb-false (get_or s (b - 1) 0) 0x22 (sym (last-byte s b h.within d stands) ∙ q) in
+        let e = sym (last-byte s b h.within d stands) ∙ q in
         let n : suc (length v) - 1 ≡ length v = omega arith in
         let f = further in
         let back : quote (reverse_aux v (c ∷ h.ahead)) ≡ false = ap quote (turned (c ∷ h.ahead)) ∙ quote-first d _ [] ∙ q in
-        rw (← off-other s (a + 1) b further e)
+        rw (lt-ltb (a + 1) b further, e)
         (record {
           ordered = omega arith;
           within = h.within;
@@ -285,40 +231,13 @@ module _ (s : List ℕ) (start end a b : ℕ) (h : Left s start end a b) (k : a 
       go : (t : Text) → from s a ≡ t ++ from s b → Same t → LeftBetween (a + 1) (lastOff s (a + 1) b)
       go [] x y = absurd (let z = same-place s b a h.within (omega (arith, inner)) x in omega arith)
       go (c ∷ []) x y = left-last c x y
-      go (c ∷ u ∷ v) x y = let n = snoc u v in by (quote (n.1 ∷ [])) refl
-        where
-          by : (q : Bool) → quote ((snoc u v).1 ∷ []) ≡ q → LeftBetween (a + 1) (lastOff s (a + 1) b)
-          by true q = let n = snoc u v in left-two c n.0 n.1 (u ∷ v) n.2 x y q
-          by false q = let n = snoc u v in left-one c n.0 n.1 (u ∷ v) n.2 x y q
+      go (c ∷ u ∷ v) x y =
+          let n = snoc u v in
+          ⊎_elim (left-two c n.0 n.1 (u ∷ v) n.2 x y) (left-one c n.0 n.1 (u ∷ v) n.2 x y) (cases_Bool (quote (n.1 ∷ [])))
 
--- one turn is all where no second quote stands
-pub left-single : (s : List ℕ) (start end a b : ℕ) → Left s start end a b → a < b → get_or s a 0 ≡ 0x22 → (get_or s (a + 1) 0 ≡ 0x22 → ⊥)
-    → tk.Str (a + 1) (lastOff s (a + 1) b) ≡ plainContent (length s) (from s start) (from s end)
-left-single s start end a b h k byte n = go (ltb (a + 1) (lastOff s (a + 1) b)) refl
-  where
-    rest : Left s start end (a + 1) (lastOff s (a + 1) b)
-    rest = left-next s start end a b h k byte
-
-    go : (x : Bool) → ltb (a + 1) (lastOff s (a + 1) b) ≡ x → tk.Str (a + 1) (lastOff s (a + 1) b) ≡ plainContent (length s) (from s start) (from s end)
-    go true e = left-stop s start end (a + 1) (lastOff s (a + 1) b) rest (ltb-true (a + 1) (lastOff s (a + 1) b) e) n
-    go false e = left-end s start end (a + 1) (lastOff s (a + 1) b) rest (ltb-false (a + 1) (lastOff s (a + 1) b) e)
-
--- a plain string, by its first byte and its ends
-module _ (s : List ℕ) (start end : ℕ) (q : quote (from s start) ≡ true) (c : closeString false (from s start) ≡ closed (from s end)) where
-  pub string-tail : Suffix (from s end) (from s start)
-  string-tail = (plain-strict (from s start) (from s end) q c).0
-
-  pub string-byte : get_or s start 0 ≡ 0x22
-  string-byte = eqb-true (get_or s start 0) 0x22 (sym (quote-byte s start) ∙ q)
-
-  pub string-some : start ≤ end → start < end
-  string-some h = go (ltb start end) refl
-    where
-      go : (x : Bool) → ltb start end ≡ x → start < end
-      go true e = ltb-true start end e
-      go false e =
-          let z : start ≡ end = omega (arith, ltb-false start end e) in
-          absurd (let l = (plain-strict (from s start) (from s end) q c).1 in let m : length (from s start) ≡ length (from s end) = ap (λ i. length (from s i)) z in omega arith)
+-- a plain string ends behind its start
+pub string-tail : (s : List ℕ) (start end : ℕ) → quote (from s start) ≡ true → closeString false (from s start) ≡ closed (from s end) → Suffix (from s end) (from s start)
+string-tail s start end q c = (plain-strict (from s start) (from s end) q c).0
 
 -- ---- several turns at once
 
@@ -334,63 +253,48 @@ pub record Ends (s : List ℕ) (n a b : ℕ) : Type 0 where
 module _ (s : List ℕ) (start end n a b : ℕ) where
   -- one turn that takes a quote off both ends
   left-both : Ends s (suc n) a b → Left s start end a b → Left s start end (a + 1) (b - 1)
+  unfolding lastOff
   left-both h l =
       let k = h.apart in
-      let o = off-quote s (a + 1) b (omega arith) (h.last (b - 1) (omega arith) (omega arith)) in
-      rw o (left-next s start end a b l (omega arith) (h.first a (omega arith) (omega arith)))
+      rw (lt-ltb (a + 1) b (omega arith), h.last (b - 1) (omega arith) (omega arith)) at (left-next s start end a b l (omega arith) (h.first a (omega arith) (omega arith)))
 
   ends-next : Ends s (suc n) a b → Ends s n (a + 1) (b - 1)
   ends-next h =
       let k = h.apart in
-      record {
-        apart = omega arith;
-        first = λ m u v. h.first m (omega arith) (omega arith);
-        last = λ m u v. h.last m (omega arith) (omega arith);
-      }
-
-  left-moved : Left s start end (a + 1 + n) (b - 1 - n) → Left s start end (a + suc n) (b - suc n)
-  left-moved l =
-      let x : a + suc n ≡ a + 1 + n = omega arith in
-      let y : b - suc n ≡ b - 1 - n = omega arith in
-      rw (x, y) l
+      record { apart = omega arith; first = λ m u v. h.first m (omega arith) (omega arith); last = λ m u v. h.last m (omega arith) (omega arith) }
 
 -- n such turns
 pub left-many : (s : List ℕ) (start end n a b : ℕ) → Ends s n a b → Left s start end a b → Left s start end (a + n) (b - n)
 left-many s start end zero a b h l = rw (add-zero a, sub-zero b) l
 left-many s start end (suc n) a b h l =
-    let more = left-many s start end n (a + 1) (b - 1) (ends-next s start end n a b h) (left-both s start end n a b h l) in
-    left-moved s start end n a b more
+    let x : a + suc n ≡ a + 1 + n = omega arith in
+    let y : b - suc n ≡ b - 1 - n = omega arith in
+    rw (x, y) (left-many s start end n (a + 1) (b - 1) (ends-next s start end n a b h) (left-both s start end n a b h l))
+
+-- a run of quotes, byte by byte
+pub quotes-each : (s : List ℕ) (i : ℕ) → Quotes s i (end (λ b. eqb b 0x22 || eqb b 0x22) s i)
+quotes-each s i k u v = eqb-true (get_or s k 0) 0x22 (sym (twice _) ∙ passed (λ b. eqb b 0x22 || eqb b 0x22) s i k u v)
 
 module _ (s : List ℕ) where
   sixteen-quotes : (i : ℕ) → sixteenAt s i ≡ true → Quotes s i (i + 16)
-  sixteen-quotes i e k u v =
-      let n = leb-true 16 _ e in
-      eqb-true (get_or s k 0) 0x22 (sym (twice _) ∙ passed (λ b. eqb b 0x22 || eqb b 0x22) s i k u (omega (arith, n)))
+  sixteen-quotes i e k u v = quotes-each s i k u (omega (arith, leb-true 16 _ e))
 
   blocks-ends : (a b : ℕ) → blocksOff s a b ≡ true → Ends s 16 a b
   unfolding blocksOff
   blocks-ends a b e =
-      let f = and-both (leb (a + 32) b) (sixteenAt s a && sixteenAt s (b - 16)) e in
-      let g = and-both (sixteenAt s a) (sixteenAt s (b - 16)) f.1 in
+      let f : (leb (a + 32) b ≡ true) × (sixteenAt s a ≡ true) × (sixteenAt s (b - 16) ≡ true) = grind arith in
       let h = leb-true (a + 32) b f.0 in
-      record {
-        apart = omega arith;
-        first = sixteen-quotes a g.0;
-        last = λ k u v. sixteen-quotes (b - 16) g.1 k u (omega arith);
-      }
+      record { apart = omega arith; first = sixteen-quotes a f.1; last = λ k u v. sixteen-quotes (b - 16) f.2 k u (omega arith) }
 
   pub blocks_apart : (a b : ℕ) → blocksOff s a b ≡ true → a + 32 ≤ b
   blocks_apart a b e = let k = (blocks-ends a b e).apart in omega arith
 
-  -- sixteen turns, and all that can be made so
-  left-blocks : (start end a b : ℕ) → blocksOff s a b ≡ true → Left s start end a b → Left s start end (a + 16) (b - 16)
-  left-blocks start end a b e l = left-many s start end 16 a b (blocks-ends a b e) l
-
+  -- all that can be made by sixteens
   pub left-taken : (start end : ℕ) (c : Span) → c ≡ blocksTaken s start end → Left s start end start end → Left s start end c.start c.end
   unfolding blocksTaken
   left-taken start end c q l =
       rw q
-      (steps-keep (blockMore s) blockLess (λ d. Left s start end d.start d.end) (λ d e k. left-blocks start end d.start d.end e k)
+      (steps-keep (blockMore s) blockLess (λ d. Left s start end d.start d.end) (λ d e k. left-many s start end 16 d.start d.end (blocks-ends d.start d.end e) k)
       (end - start) (spanAt start end) l)
 
 pub ruleset strip_turns = (left-next, off-most)

@@ -2,36 +2,18 @@
 -- record holds its token's numbers, and they are read back (`token-back`). The tokens stand in order (`in-order`), and Eof is the last and no
 -- other (`last-eof`). A refusal's place lies within the script too. `listing_text` cites `all-bounded`, `storable`, `token-back` and
 -- `refused-within`, for the lines of records and of refusals. A reader of stored rolls relies on the order and the last Eof too.
-use Prim.Native.Nat.{ℕ, zero, suc, ◌-◌, ◌^◌, ◌≤◌, ◌<◌}
-use mathlib.Core.Path.{◌≡◌, refl, sym, ◌∙◌, ap}
-use mathlib.Core.Bool.{Bool, true, false}
-use mathlib.Core.Logic.{inl, inr}
-use mathlib.Core.List.{List, [], ◌∷◌, ◌++◌}
-use mathlib.Core.Option.{Option, none, some}
-use lib.ListN.{length, take-append-drop}
-use lib.Dec.{ltb}
-use native.Mathlib.Omega.{arith}
-use borrow.Author.Tests.{ltb-true, ltb-false}
-use Rattle.chars.specs.paper.Text.{Text, from, place}
+use Rattle.std.proofs.Common.{ℕ, zero, suc, ◌-◌, ◌^◌, ◌≤◌, ◌<◌, ◌≡◌, refl, sym, ◌∙◌, ap, Bool, true, false, inl, inr, List, [], ◌∷◌, ◌++◌, length, take-append-drop, ltb, arith, ltb-true, ltb-false}
+use Rattle.token.proofs.theorems.Words.{Option, none, some, Text, from, place, Suffix, ScriptText, text-laws, Kind, TokenType, withoutValues, kindNumber, Token, both, textOf, limit, TokenShape, HasShape, Stands, Piece, Pieces, LastDropped, Content, Valued, Tokens, TokensOf, OnlyLastEof, Opens, InSingle, InTriple, Met, Refused, bit, valuesOf, values, headLength, mostBytes, recordLength, recordOf, TokenKind, by-test}
 use Rattle.chars.specs.code.Text.{charEnd}
-use Rattle.chars.specs.promises.Texts.{Suffix, ScriptText}
-use Rattle.chars.proofs.theorems.Promises.{text-laws}
 use Rattle.words.specs.Words.{le4, le8}
-use Rattle.token.specs.paper.Kinds.{Kind, TokenType, withoutValues, kwNumber, kindNumber, Token}
-use Rattle.token.specs.paper.Shapes.{both, textOf, limit, TokenShape, HasShape, Stands}
-use Rattle.token.specs.paper.Reading.{Piece, Pieces, LastDropped, Content, Valued, Tokens, TokensOf, OnlyLastEof}
-use Rattle.token.specs.paper.Refusals.{Opens, InSingle, InTriple, BadEscape, Met, Refused}
-use Rattle.token.specs.paper.Records.{bit, valuesOf, values, headLength, mostBytes, recordLength, recordOf}
 use Rattle.token.specs.code.Form.{joined, formOf, heldAt, Storable}
-use Rattle.token.specs.declared.kinds.Kw.{Kw}
 use Rattle.token.specs.declared.kinds.Kw.TheVariants as kw
-use Rattle.token.specs.declared.kinds.TokenKind.{TokenKind}
 use Rattle.token.specs.declared.kinds.TokenKind.TheVariants as tk
 use Rattle.token.proofs.form.Laws.{form-known, form-record}
 use Rattle.token.proofs.form.ReadBack.{read-back}
 use Rattle.token.proofs.theorems.Runs.{run-suffix}
 use Rattle.token.proofs.theorems.Numbers.{one-value}
-use Rattle.token.proofs.theorems.Shorter.{one-strict, times-suffix, escape-suffix, prefix-strict, stands-strict}
+use Rattle.token.proofs.theorems.Shorter.{one-strict, times-suffix, escape-suffix, prefix-strict, stands-strict, bad-strict}
 use Rattle.token.proofs.theorems.Mets.{within-suffix}
 open text-laws use {at-char, at-end, next-on, place-from, suffix-refl, suffix-trans, text-suffix, text-place}
 
@@ -45,17 +27,13 @@ Rising e (c ∷ t) = (c.at ≤ place e t) × Rising e t
 -- the text from a place on is rising: a character ends further on, and there the next one starts
 from-rising : (script : List ℕ) (n i : ℕ) → length script - i ≤ n → Rising (length script) (from script i)
 from-rising script zero i h = rw (at-end script i (omega arith)) tt
-from-rising script (suc n) i h = go (ltb i (length script)) refl (from-rising script n (charEnd script i))
-  where
-    go : (b : Bool) → ltb i (length script) ≡ b → (length script - charEnd script i ≤ n → Rising (length script) (from script (charEnd script i)))
-        → Rising (length script) (from script i)
-    go true e onward =
-        let l = ltb-true i (length script) e in
-        let o = next-on script i l in
-        let p = place-from script (charEnd script i) o.1 in
-        let a = o.0 in
-        rw (at-char script i l) (omega arith, onward (omega arith))
-    go false e onward = rw (at-end script i (ltb-false i (length script) e)) tt
+from-rising script (suc n) i h =
+    by-test (ltb i (length script)) (λ e.
+    let l = ltb-true i (length script) e in
+    let o = next-on script i l in
+    let p = place-from script (charEnd script i) o.1 in
+    rw (at-char script i l) (omega arith, from-rising script n (charEnd script i) (omega arith)))
+    (λ e. rw (at-end script i (ltb-false i (length script) e)) tt)
 
 script-rising : (script : List ℕ) → Rising (length script) (from script 0)
 script-rising script = from-rising script (length script) 0 (omega arith)
@@ -81,14 +59,11 @@ split : {r s : Text} → Suffix r s → textOf s r ++ r ≡ s
 split {r} {s} k = ap (λ t. textOf s r ++ t) k.rest-is ∙ take-append-drop (length s - length r) s
 
 module _ (n : ℕ) (s r : Text) (h : Rising n s) (k : Suffix r s) where
-  both-rise : Rising n (textOf s r ++ r)
-  both-rise = rw (split k) h
-
   between : Rising (place n r) (textOf s r)
-  between = rising-front n (textOf s r) r both-rise
+  between = rising-front n (textOf s r) r (rw (split k) h)
 
   behind : Rising n r
-  behind = rising-back n (textOf s r) r both-rise
+  behind = rising-back n (textOf s r) r (rw (split k) h)
 
   startOf : place (place n r) (textOf s r) ≡ place n s
   startOf = sym (place-front n (textOf s r) r) ∙ ap (place n) (split k)
@@ -109,38 +84,18 @@ dropped-order (LastDropped.kept q) h = (omega arith, omega arith, h)
 content-order : {t : Text} {e a b : ℕ} → Content t e a b → Rising e t → (place e t ≤ a) × (a ≤ b) × (b ≤ e)
 content-order {t} {e} (Content.unquoted q p) h = let l = rising-most e t h in (omega arith, omega arith, omega arith)
 content-order (Content.quoted q d w) h =
-    let l = h.0 in
     let i = dropped-order d h.1 in
     let o = content-order w i.2 in
-    let x = i.0 in
-    let y = i.1 in
-    let z = o.0 in
-    let v = o.2 in
-    (omega arith, o.1, omega arith)
+    (omega (arith, h.0, i.0, o.0), o.1, omega (arith, i.1, o.2))
 
 -- ---- tokens
 
 -- the values of a token from a to e: a number's limit; a string's content, not before a and not past e
 abbrev pub ValuesWithin : ℕ → ℕ → TokenKind → Type 0
-ValuesWithin a e tk.Ident = Unit {0}
-ValuesWithin a e tk.OpId = Unit {0}
-ValuesWithin a e tk.BacktickId = Unit {0}
 ValuesWithin a e (tk.IntLit v) = v ≤ limit false
 ValuesWithin a e (tk.LongLit v) = v ≤ limit true
 ValuesWithin a e (tk.Str b c) = (a ≤ b) × (b ≤ c) × (c ≤ e)
-ValuesWithin a e tk.CharSym = Unit {0}
-ValuesWithin a e tk.LParen = Unit {0}
-ValuesWithin a e tk.RParen = Unit {0}
-ValuesWithin a e tk.LBracket = Unit {0}
-ValuesWithin a e tk.RBracket = Unit {0}
-ValuesWithin a e tk.LBrace = Unit {0}
-ValuesWithin a e tk.RBrace = Unit {0}
-ValuesWithin a e tk.Comma = Unit {0}
-ValuesWithin a e tk.Semi = Unit {0}
-ValuesWithin a e tk.Dot = Unit {0}
-ValuesWithin a e (tk.Newline mark) = Unit {0}
-ValuesWithin a e tk.Eof = Unit {0}
-ValuesWithin a e (tk.Kw k) = Unit {0}
+ValuesWithin a e _ = Unit {0}
 
 -- a token of a script of n bytes
 pub record Bounded (n : ℕ) (t : Token) : Type 0 where
@@ -164,22 +119,7 @@ ValuesWithinIf a e (some k) = ValuesWithin a e k
 
 bare-within : (a e : ℕ) (y : TokenType) → ValuesWithinIf a e (withoutValues y)
 bare-within a e TokenType.ident = tt
-bare-within a e TokenType.opId = tt
-bare-within a e TokenType.backtickId = tt
-bare-within a e TokenType.intLit = tt
-bare-within a e TokenType.longLit = tt
-bare-within a e TokenType.str = tt
-bare-within a e TokenType.charSym = tt
-bare-within a e TokenType.lParen = tt
-bare-within a e TokenType.rParen = tt
-bare-within a e TokenType.lBracket = tt
-bare-within a e TokenType.rBracket = tt
-bare-within a e TokenType.lBrace = tt
-bare-within a e TokenType.rBrace = tt
-bare-within a e TokenType.comma = tt
-bare-within a e TokenType.semi = tt
-bare-within a e TokenType.dot = tt
-bare-within a e (TokenType.key k) = tt
+bare-within a e _ = tt
 
 valued-within : {n : ℕ} {s r : Text} {y : TokenType} {k : TokenKind} → Rising n s → Stands (Kind.token y) s r → Valued n s r y k
     → ValuesWithin (place n s) (place n r) k
@@ -192,107 +132,53 @@ valued-within {n} {s} {r} h w (Valued.prefixed q) =
 valued-within {n} {s} {r} h w (Valued.plain q c) =
     let k = (stands-strict (Kind.token TokenType.str) s r w).0 in
     let o = content-order c (between n s r h k) in
-    let x = o.0 in
-    let e = startOf n s r h k in
-    (omega arith, o.1, o.2)
+    (omega (arith, o.0, startOf n s r h k), o.1, o.2)
 valued-within {n} {s} {r} h w (Valued.bare {t} e) = rw e at (bare-within (place n s) (place n r) t)
 
--- keywords are numbered past the other kinds, in two bytes
-kw-number : (k : Kw) → (kindNumber tk.Eof < kwNumber k) × (kwNumber k < 65536)
-kw-number kw.Case = (omega arith, omega arith)
-kw-number kw.Else = (omega arith, omega arith)
-kw-number kw.False = (omega arith, omega arith)
-kw-number kw.Function = (omega arith, omega arith)
-kw-number kw.If = (omega arith, omega arith)
-kw-number kw.Match = (omega arith, omega arith)
-kw-number kw.Return = (omega arith, omega arith)
-kw-number kw.Then = (omega arith, omega arith)
-kw-number kw.True = (omega arith, omega arith)
-kw-number kw.Colon = (omega arith, omega arith)
-kw-number kw.FatArrow = (omega arith, omega arith)
-kw-number kw.Assign = (omega arith, omega arith)
-kw-number kw.Hash = (omega arith, omega arith)
-kw-number kw.At = (omega arith, omega arith)
-
--- a kind that carries nothing is not Eof, by its number
-abbrev numberIf : Option TokenKind → ℕ
-numberIf none = 0
-numberIf (some k) = kindNumber k
-
-bare-number : (y : TokenType) → numberIf (withoutValues y) ≡ kindNumber tk.Eof → ⊥
-bare-number TokenType.ident e = omega arith
-bare-number TokenType.opId e = omega arith
-bare-number TokenType.backtickId e = omega arith
-bare-number TokenType.intLit e = omega arith
-bare-number TokenType.longLit e = omega arith
-bare-number TokenType.str e = omega arith
-bare-number TokenType.charSym e = omega arith
-bare-number TokenType.lParen e = omega arith
-bare-number TokenType.rParen e = omega arith
-bare-number TokenType.lBracket e = omega arith
-bare-number TokenType.rBracket e = omega arith
-bare-number TokenType.lBrace e = omega arith
-bare-number TokenType.rBrace e = omega arith
-bare-number TokenType.comma e = omega arith
-bare-number TokenType.semi e = omega arith
-bare-number TokenType.dot e = omega arith
-bare-number (TokenType.key k) e = let l = (kw-number k).0 in omega arith
-
 -- no token of a piece is Eof
-valued-other : {n : ℕ} {s r : Text} {y : TokenType} {k : TokenKind} → Valued n s r y k → k ≡ tk.Eof → ⊥
-valued-other (Valued.bare {t} w) e = bare-number t (ap numberIf w ∙ ap kindNumber e)
-valued-other (Valued.intLit x) e = let z = ap kindNumber e in omega arith
-valued-other (Valued.longLit x) e = let z = ap kindNumber e in omega arith
-valued-other (Valued.prefixed q) e = let z = ap kindNumber e in omega arith
-valued-other (Valued.plain q c) e = let z = ap kindNumber e in omega arith
+bare-other : (y : TokenType) → withoutValues y ≡ some tk.Eof → ⊥
+bare-other TokenType.ident e = cc
+bare-other _ e = cc
 
--- nor is one of a line end
-newline-other : (mark : Bool) → tk.Newline mark ≡ tk.Eof → ⊥
-newline-other mark e = let z = ap kindNumber e in omega arith
+valued-other : {n : ℕ} {s r : Text} {y : TokenType} {k : TokenKind} → Valued n s r y k → k ≡ tk.Eof → ⊥
+valued-other (Valued.bare {t} w) e = bare-other t (rw e at w)
+valued-other _ e = cc
 
 module _ (script : List ℕ) where
-  tokens-bounded : {ps : List Piece} {ts : List Token} {s r : Text} {gap : List Piece} → ScriptText script s → Rising (length script) s
-      → Pieces (length script) s ps r → Tokens script gap ps ts → AllBounded (length script) ts
-  tokens-bounded t h Pieces.done (Tokens.eof c) = (record { start = omega arith; end = omega arith; values = tt }, tt)
-  tokens-bounded t h (Pieces.piece {k} {s} {m} w v) (Tokens.skip o x) =
+  -- from a text at p or past it on the tokens are bounded, and stand in order
+  tokens-within : {ps : List Piece} {ts : List Token} {s r : Text} {gap : List Piece} (p : ℕ) → p ≤ place (length script) s → ScriptText script s
+      → Rising (length script) s → Pieces (length script) s ps r → Tokens script gap ps ts → AllBounded (length script) ts × InOrder p ts
+  tokens-within {s = s} p l t h Pieces.done (Tokens.eof c) =
+      let a = rising-most (length script) s h in ((record { start = omega arith; end = omega arith; values = tt }, tt), (omega arith, tt))
+  tokens-within p l t h (Pieces.piece {k} {s} {m} w v) (Tokens.skip o x) =
       let z = (stands-strict k s m w).0 in
-      tokens-bounded (text-suffix script m s z t) (behind (length script) s m h z) v x
-  tokens-bounded t h (Pieces.piece {k} {s} {m} w v) (Tokens.lineEnd q o x) =
+      let a = order (length script) s m h z in
+      tokens-within p (omega arith) (text-suffix script m s z t) (behind (length script) s m h z) v x
+  tokens-within p l t h (Pieces.piece {k} {s} {m} w v) (Tokens.lineEnd q o x) =
       let z = (stands-strict k s m w).0 in
-      let l = order (length script) s m h z in
-      (record { start = l.0; end = l.1; values = tt }, tokens-bounded (text-suffix script m s z t) (behind (length script) s m h z) v x)
-  tokens-bounded t h (Pieces.piece {k} {s} {m} w v) (Tokens.token {t = y} {k = i} q u c x) =
+      let a = order (length script) s m h z in
+      let i = tokens-within (place (length script) m) (omega arith) (text-suffix script m s z t) (behind (length script) s m h z) v x in
+      ((record { start = a.0; end = a.1; values = tt }, i.0), (l, i.1))
+  tokens-within p l t h (Pieces.piece {k} {s} {m} w v) (Tokens.token {t = y} {k = n} q u c x) =
       let z = (stands-strict k s m w).0 in
-      let l = order (length script) s m h z in
+      let a = order (length script) s m h z in
       let f = text-suffix script m s z t in
+      let i = tokens-within (place (length script) m) (omega arith) f (behind (length script) s m h z) v x in
       let shape : Stands (Kind.token y) s m = rw q at w in
-      let value : Valued (length script) s m y i = rw (text-place script s t, text-place script m f) at u in
-      (record { start = l.0; end = l.1; values = valued-within h shape value }, tokens-bounded f (behind (length script) s m h z) v x)
+      let value : Valued (length script) s m y n = rw (text-place script s t, text-place script m f) at u in
+      ((record { start = a.0; end = a.1; values = valued-within h shape value }, i.0), (l, i.1))
 
   pub all-bounded : (ts : List Token) → TokensOf script ts → AllBounded (length script) ts
-  all-bounded ts h = tokens-bounded (0, refl) (script-rising script) h.reading h.tokens
-
-  -- a text from p or past it has its tokens in order, from p on
-  tokens-in-order : {ps : List Piece} {ts : List Token} {s r : Text} {gap : List Piece} (p : ℕ) → p ≤ place (length script) s → Rising (length script) s
-      → Pieces (length script) s ps r → Tokens script gap ps ts → InOrder p ts
-  tokens-in-order {s = s} p l h Pieces.done (Tokens.eof c) = let a = rising-most (length script) s h in (omega arith, tt)
-  tokens-in-order p l h (Pieces.piece {k} {s} {m} w v) (Tokens.skip o x) =
-      let z = (stands-strict k s m w).0 in
-      let a = (order (length script) s m h z).0 in
-      tokens-in-order p (omega arith) (behind (length script) s m h z) v x
-  tokens-in-order p l h (Pieces.piece {k} {s} {m} w v) (Tokens.lineEnd q o x) =
-      (l, tokens-in-order (place (length script) m) (omega arith) (behind (length script) s m h (stands-strict k s m w).0) v x)
-  tokens-in-order p l h (Pieces.piece {k} {s} {m} w v) (Tokens.token q u c x) =
-      (l, tokens-in-order (place (length script) m) (omega arith) (behind (length script) s m h (stands-strict k s m w).0) v x)
+  all-bounded ts h = (tokens-within 0 (omega arith) (0, refl) (script-rising script) h.reading h.tokens).0
 
   pub in-order : (ts : List Token) → TokensOf script ts → InOrder 0 ts
-  in-order ts h = tokens-in-order 0 (omega arith) (script-rising script) h.reading h.tokens
+  in-order ts h = (tokens-within 0 (omega arith) (0, refl) (script-rising script) h.reading h.tokens).1
 
   -- whatever the gap, the tokens end with their one Eof
   tokens-last : {gap ps : List Piece} {ts : List Token} → Tokens script gap ps ts → OnlyLastEof ts
   tokens-last (Tokens.eof c) = OnlyLastEof.eof refl
   tokens-last (Tokens.skip o x) = tokens-last x
-  tokens-last (Tokens.lineEnd q o x) = OnlyLastEof.other (newline-other _) (tokens-last x)
+  tokens-last (Tokens.lineEnd q o x) = OnlyLastEof.other (λ e. cc) (tokens-last x)
   tokens-last (Tokens.token q u c x) = OnlyLastEof.other (valued-other u) (tokens-last x)
 
   pub last-eof : (ts : List Token) → TokensOf script ts → OnlyLastEof ts
@@ -300,40 +186,18 @@ module _ (script : List ℕ) where
 
 -- ---- records
 
-bit-byte : (b : Bool) → bit b < 256
-bit-byte true = omega arith
-bit-byte false = omega arith
-
 -- a kind's number fits two bytes, and its values as many as they have
 kind-fits : (a e : ℕ) (k : TokenKind) → ValuesWithin a e k → (kindNumber k < 65536) × (joined (valuesOf k) < 256 ^ (recordLength k - headLength))
 unfolding recordLength values le4 le8
-kind-fits a e tk.Ident h = (omega arith, omega arith)
-kind-fits a e tk.OpId h = (omega arith, omega arith)
-kind-fits a e tk.BacktickId h = (omega arith, omega arith)
-kind-fits a e (tk.IntLit v) h = (omega arith, omega arith)
-kind-fits a e (tk.LongLit v) h = (omega arith, omega arith)
-kind-fits a e (tk.Str b c) h = (omega arith, omega arith)
-kind-fits a e tk.CharSym h = (omega arith, omega arith)
-kind-fits a e tk.LParen h = (omega arith, omega arith)
-kind-fits a e tk.RParen h = (omega arith, omega arith)
-kind-fits a e tk.LBracket h = (omega arith, omega arith)
-kind-fits a e tk.RBracket h = (omega arith, omega arith)
-kind-fits a e tk.LBrace h = (omega arith, omega arith)
-kind-fits a e tk.RBrace h = (omega arith, omega arith)
-kind-fits a e tk.Comma h = (omega arith, omega arith)
-kind-fits a e tk.Semi h = (omega arith, omega arith)
-kind-fits a e tk.Dot h = (omega arith, omega arith)
-kind-fits a e (tk.Newline mark) h = (omega arith, bit-byte mark)
-kind-fits a e tk.Eof h = (omega arith, omega arith)
-kind-fits a e (tk.Kw k) h = ((kw-number k).1, omega arith)
+kind-fits a e (tk.Newline true) h = (omega arith, omega arith)
+kind-fits a e (tk.Kw kw.Case) h = (omega arith, omega arith)
+kind-fits a e _ h = (omega arith, omega arith)
 
 module _ (n : ℕ) (short : n ≤ mostBytes) (t : Token) (h : Bounded n t) where
   pub storable : Storable (formOf t.kind) t.start t.end
   unfolding formOf
   storable =
       let k = kind-fits t.start t.end t.kind h.values in
-      let a = h.start in
-      let e = h.end in
       record { known = form-known t.kind; number = k.0; values = k.1; start = omega arith; end = omega arith }
 
   -- a stored token, whatever follows its record, is read as it was
@@ -356,28 +220,18 @@ single-in p (o, h, e, both a w) = suffix-trans (suffix-trans (within-suffix w) (
 triple-in : (p : Bool) {s q : Text} → InTriple p s q → Suffix q s
 triple-in p (o, h, e, both a w) = suffix-trans (suffix-trans (run-suffix _ w) (times-suffix a)) (opens-suffix p h)
 
-bad-suffix : {b q : Text} {j : ℕ} → BadEscape b j q → Suffix q b
-bad-suffix (BadEscape.e12 o) = (one-strict o).0
-bad-suffix (BadEscape.e13 n l (both a (both b w)) z) = suffix-trans (times-suffix w) (suffix-trans (one-strict b).0 (one-strict a).0)
-bad-suffix (BadEscape.e14 o z) = (one-strict o).0
-
 met-suffix : {s q : Text} {j : ℕ} → Met s j q → Suffix q s
-met-suffix (Met.m1 a b) = suffix-refl _
-met-suffix (Met.m2 a b) = suffix-refl _
-met-suffix (Met.m3 a b d) = suffix-refl _
-met-suffix (Met.m4 a) = suffix-refl _
-met-suffix (Met.m5 a) = suffix-refl _
-met-suffix (Met.m6 a b d) = suffix-refl _
 met-suffix (Met.m7 p a) = single-in p a
 met-suffix (Met.m8 p a b) = single-in p a
 met-suffix (Met.m9 p a) = triple-in p a
 met-suffix (Met.m10 p a b) = triple-in p a
 met-suffix (Met.m11 (inl a) b) = single-in true a
 met-suffix (Met.m11 (inr a) b) = triple-in true a
-met-suffix (Met.m12 (inl a, b) e) = suffix-trans (bad-suffix e) (single-in false a)
-met-suffix (Met.m12 (inr a, b) e) = suffix-trans (bad-suffix e) (one-strict a).0
+met-suffix (Met.m12 (inl a, b) e) = suffix-trans (bad-strict e).0 (single-in false a)
+met-suffix (Met.m12 (inr a, b) e) = suffix-trans (bad-strict e).0 (one-strict a).0
 met-suffix (Met.m15 (both a e) b) = suffix-trans (escape-suffix e) (one-strict a).0
 met-suffix (Met.m16 a b d e) = (one-strict a).0
+met-suffix _ = suffix-refl _
 
 pieces-suffix : {n : ℕ} {s r : Text} {ps : List Piece} → Pieces n s ps r → Suffix r s
 pieces-suffix Pieces.done = suffix-refl _
@@ -386,6 +240,4 @@ pieces-suffix (Pieces.piece {k} {s} {m} w v) = suffix-trans (pieces-suffix v) (s
 pub refused-within : (script : List ℕ) (j a : ℕ) → Refused script j a → a ≤ length script
 refused-within script j a h =
     let k = suffix-trans (met-suffix h.first.met) (pieces-suffix h.up) in
-    let o = (order (length script) (from script 0) h.rest (script-rising script) k).1 in
-    let p = h.place-is in
-    omega arith
+    omega (arith, (order (length script) (from script 0) h.rest (script-rising script) k).1, h.place-is)

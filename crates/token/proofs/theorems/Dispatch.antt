@@ -1,40 +1,11 @@
 -- One piece: what the scanner finds stands, what stands is what it finds, and where nothing stands a refusal is met.
-use Prim.Native.Nat.{ℕ, zero, suc, ◌<◌, ◌+◌, ◌-◌}
+use Rattle.std.proofs.Common.{ℕ, ◌≡◌, refl, sym, ◌∙◌, ap, Bool, true, false, cond, not, ◌||◌, inl, inr, [], ◌∷◌, drop, eqb, arith, eqb-true, List}
 use Prim.Native.String.{String}
-use mathlib.Core.Path.{◌≡◌, refl, sym, ◌∙◌, ap}
-use mathlib.Core.Bool.{Bool, true, false, cond, not, ◌&&◌, ◌||◌}
-use mathlib.Core.Logic.{◌⊎◌, inl, inr}
-use mathlib.Core.List.{[], ◌∷◌}
-use mathlib.Core.Option.{some}
-use lib.ListN.{drop}
-use lib.Dec.{eqb, leb}
-use native.Mathlib.Omega.{arith}
-use borrow.Author.Tests.{eqb-true, leb-true, not-true}
-use Rattle.chars.specs.paper.Quoted.{codes, oneOf}
-use Rattle.chars.specs.paper.Classes.{isIdStart, isOpSign, opSigns}
-use Rattle.chars.specs.paper.Text.{Char, Text, headIs}
-use Rattle.chars.proofs.Bools.{clash, and-both}
-use Rattle.chars.specs.promises.Codes.{every}
-use Rattle.chars.proofs.theorems.Promises.{code_laws, class-laws}
-use Rattle.token.proofs.Classes.{sign-not, start-not}
-use Rattle.token.specs.paper.Tests.{isDigit, isAny, begins, startsWith, opensLine, opensBlock, opensComment, endsLine, quote, digit, opSign, freeSign, apostrophe}
-use Rattle.token.specs.paper.Kinds.{Kind, TokenType, withoutValues}
-use Rattle.token.specs.paper.Shapes.{One, both, Block, TokenShape, HasShape, Stands}
-use Rattle.token.specs.paper.Reading.{Valued}
-use Rattle.token.specs.paper.Refusals.{Met}
-use Rattle.token.specs.computed.Flags.{GapKind}
-use Rattle.token.specs.computed.Answer.{Found, Start, startOf, starts, signOf, scanAs, scan, scanReturn, scanBlock, scanNumber, scanString, plainOf}
-use Rattle.token.specs.declared.kinds.TokenKind.{TokenKind}
+use Rattle.token.proofs.theorems.Words.{some, codes, oneOf, isIdStart, isOpSign, opSigns, Char, Text, headIs, clash, and-both, every, code_laws, class-laws, sign-not, start-not, isDigit, isAny, begins, startsWith, opensLine, opensBlock, opensComment, endsLine, quote, digit, opSign, freeSign, apostrophe, Kind, TokenType, withoutValues, One, both, TokenShape, HasShape, Stands, Valued, Met, GapKind, Found, Start, startOf, starts, signOf, scanAs, scan, scanReturn, scanString, plainOf, TokenKind, by-test, false_from_ne_true, or_parts, no-start, code-is, others, ◌then◌}
 use Rattle.token.specs.declared.kinds.TokenKind.TheVariants as tk
-use Rattle.token.proofs.theorems.Numbers.{number-stands}
-use Rattle.token.proofs.theorems.Operators.{Stood, operator-stands}
-use Rattle.token.proofs.theorems.Ticks.{Fell, tick-stands}
-use Rattle.token.proofs.theorems.Strings.{body-finds, Closed, Wrong}
-use Rattle.token.proofs.theorems.Prefixed.{word-stands, backtick-stands}
-use Rattle.token.proofs.theorems.Contents.{content-is}
-use Rattle.token.proofs.theorems.Gaps.{two-codes, line-stands, block-stands}
-use Rattle.token.proofs.theorems.Heads.{no-start-met}
-open code_laws use {carry}
+use Rattle.token.proofs.theorems.Families.{number-stands, stood, Fell, fell-at, Outcome, operator-stands, head-other, apart, apart', begins-any, one-drop, tick-stands, body-finds, word-stands, backtick-stands, content-is, pair-stands, line-stands, block-stands}
+use Rattle.token.proofs.theorems.Heads.{no-start-met, by-sign, slash}
+open code_laws use {carry-not, carry-span, every-sub, in-between}
 open class-laws use {sign-is, sign-no-start}
 
 -- no comment opens
@@ -74,85 +45,34 @@ start-fact s =
 
 -- ---- one class against another
 
-pub apart : (a : String) (p : ℕ → Bool) → every (λ x. not (p x)) (codes a) ≡ true → (s : Text) → headIs p s ≡ true → isAny a s ≡ false
-apart a p h [] e = clash e
-apart a p h (c ∷ s) e = go (oneOf a c.code) refl
-  where
-    go : (b : Bool) → oneOf a c.code ≡ b → oneOf a c.code ≡ false
-    go true q = clash (sym (not-true (p c.code) (carry (λ x. not (p x)) (codes a) c.code h q)) ∙ e)
-    go false q = q
-
-apart' : (a : String) (p : ℕ → Bool) → every (λ x. not (p x)) (codes a) ≡ true → (s : Text) → isAny a s ≡ true → headIs p s ≡ false
-apart' a p h [] e = refl
-apart' a p h (c ∷ s) e = not-true (p c.code) (carry (λ x. not (p x)) (codes a) c.code h e)
-
 pub quote-any : (s : Text) → quote s ≡ isAny "\"" s
 unfolding begins
-quote-any [] = refl
-quote-any (c ∷ s) = go (eqb c.code 34)
-  where
-    go : (b : Bool) → b && true ≡ b || false
-    go true = refl
-    go false = refl
-
-digit-code : (k : ℕ) → k < 10 → oneOf "0123456789" (48 + k) ≡ true
-digit-code zero l = refl
-digit-code (suc zero) l = refl
-digit-code (suc (suc zero)) l = refl
-digit-code (suc (suc (suc zero))) l = refl
-digit-code (suc (suc (suc (suc zero)))) l = refl
-digit-code (suc (suc (suc (suc (suc zero))))) l = refl
-digit-code (suc (suc (suc (suc (suc (suc zero)))))) l = refl
-digit-code (suc (suc (suc (suc (suc (suc (suc zero))))))) l = refl
-digit-code (suc (suc (suc (suc (suc (suc (suc (suc zero)))))))) l = refl
-digit-code (suc (suc (suc (suc (suc (suc (suc (suc (suc zero))))))))) l = refl
-digit-code (suc (suc (suc (suc (suc (suc (suc (suc (suc (suc k)))))))))) l = absurd (omega arith)
+quote-any s = begins-any 34 s
 
 pub digit-one : (c : ℕ) → isDigit c ≡ true → oneOf "0123456789" c ≡ true
 unfolding isDigit
-digit-one c e =
-    let h = and-both (leb 48 c) (leb c 57) e in
-    let a = leb-true 48 c h.0 in
-    let b = leb-true c 57 h.1 in
-    let q : c ≡ 48 + (c - 48) = omega arith in
-    rw q (digit-code (c - 48) (omega arith))
-
-digit-no-start : (s : Text) → headIs isIdStart s ≡ true → digit s ≡ false
-digit-no-start [] e = clash e
-digit-no-start (c ∷ s) e = go (isDigit c.code) refl
-  where
-    go : (b : Bool) → isDigit c.code ≡ b → isDigit c.code ≡ false
-    go true q =
-        clash (sym (not-true (isIdStart c.code)
-        (carry (λ x. not (isIdStart x)) (codes "0123456789") c.code (start-not "0123456789" refl) (digit-one c.code q))) ∙ e)
-    go false q = q
-
-digit-no-sign : (s : Text) → opSign s ≡ true → digit s ≡ false
-digit-no-sign [] e = clash e
-digit-no-sign (c ∷ s) e =
-    not-true (isDigit c.code) (carry (λ x. not (isDigit x)) (codes opSigns) c.code (unfold isDigit in refl) (sym (sign-is c.code) ∙ e))
-
-start-no-sign : (s : Text) → opSign s ≡ true → headIs isIdStart s ≡ false
-start-no-sign [] e = clash e
-start-no-sign (c ∷ s) e = sign-no-start c.code e
-
-pub or-false : (a b : Bool) → a || b ≡ false → (a ≡ false) × (b ≡ false)
-or-false true b e = clash (sym e)
-or-false false b e = (refl, e)
+digit-one c e = let h = in-between 48 57 c e in carry-span (oneOf "0123456789") 48 10 c refl h.0 (omega arith)
 
 pub clear : (s : Text) → opensComment s ≡ false → Clear s
-clear s e = let h = or-false (opensLine s) (opensBlock s) e in record { line = h.0; block = h.1 }
+clear s e = let h = or_parts (opensLine s) (opensBlock s) e in record { line = h.0; block = h.1 }
 
 pub clear-head : (p : ℕ → Bool) → p 47 ≡ false → (s : Text) → headIs p s ≡ true → Clear s
 unfolding begins
 clear-head p z [] e = clash e
-clear-head p z (c ∷ s) e = go (eqb c.code 47) refl
-  where
-    go : (b : Bool) → eqb c.code 47 ≡ b → Clear (c ∷ s)
-    go true q = clash (sym z ∙ sym (ap p (eqb-true c.code 47 q)) ∙ e)
-    go false q = record { line = rw q; block = rw q }
+clear-head p z (c ∷ s) e =
+    by-test (eqb c.code 47) (λ q. clash (sym z ∙ sym (ap p (eqb-true c.code 47 q)) ∙ e)) (λ q. record { line = rw q; block = rw q })
 
 -- ---- the class that a start has
+
+-- blanks, line ends and the nine signs, and the tests behind theirs
+abbrev early : String
+early = " \t\n\r()[]{},;."
+
+abbrev quotes : Text → Start
+quotes s = cond (isAny "`" s) Start.backtick (cond (quote s) Start.string (cond (apostrophe s) Start.charSym Start.other))
+
+abbrev later : Text → Start
+later s = cond (digit s) Start.number (cond (headIs isIdStart s) Start.word (cond (opSign s) Start.operator (quotes s)))
 
 module _ (s : Text) (z : Clear s) where
   pub starts-blank : isAny " \t" s ≡ true → startOf s ≡ Start.blank
@@ -173,118 +93,75 @@ module _ (s : Text) (z : Clear s) where
       let p = oneOf "()[]{},;." in
       rw (z.line, z.block, apart " \t" p refl s e, apart "\n" p refl s e, apart "\r" p refl s e, e)
 
+  past-early : (p : ℕ → Bool) → every (λ x. not (p x)) (codes early) ≡ true → headIs p s ≡ true → startOf s ≡ later s
+  unfolding startOf
+  past-early p h e = rw (z.line, z.block, none " \t" refl, none "\n" refl, none "\r" refl, none "()[]{},;." refl)
+    where
+      none : (a : String) → every (oneOf early) (codes a) ≡ true → isAny a s ≡ false
+      none a k = apart a p (every-sub (oneOf early) (λ x. not (p x)) (codes a) k (λ c q. rw (carry-not p (codes early) c h q))) s e
+
   pub starts-number : digit s ≡ true → startOf s ≡ Start.number
-  unfolding startOf isDigit
-  starts-number e =
-      rw (
-        z.line,
-        z.block,
-        apart " \t" isDigit refl s e,
-        apart "\n" isDigit refl s e,
-        apart "\r" isDigit refl s e,
-        apart "()[]{},;." isDigit refl s e,
-        e,
-      )
+  unfolding isDigit
+  starts-number e = past-early isDigit refl e ∙ rw e
 
   pub starts-word : headIs isIdStart s ≡ true → startOf s ≡ Start.word
-  unfolding startOf
-  starts-word e =
-      let p = isIdStart in
-      rw (
-        z.line,
-        z.block,
-        apart " \t" p (start-not " \t" refl) s e,
-        apart "\n" p (start-not "\n" refl) s e,
-        apart "\r" p (start-not "\r" refl) s e,
-        apart "()[]{},;." p (start-not "()[]{},;." refl) s e,
-        digit-no-start s e,
-        e,
-      )
+  starts-word e = past-early isIdStart (start-not early refl) e ∙ rw (head-other isIdStart isDigit no-digit s e, e)
+    where
+      no-digit : (c : ℕ) → isIdStart c ≡ true → isDigit c ≡ false
+      no-digit c f = false_from_ne_true (isDigit c) (λ q. clash (sym (no-start "0123456789" refl c (digit-one c q)) ∙ f))
 
   pub starts-operator : opSign s ≡ true → startOf s ≡ Start.operator
-  unfolding startOf
+  unfolding isDigit
   starts-operator e =
-      let p = isOpSign in
-      rw (
-        z.line,
-        z.block,
-        apart " \t" p (sign-not " \t" refl) s e,
-        apart "\n" p (sign-not "\n" refl) s e,
-        apart "\r" p (sign-not "\r" refl) s e,
-        apart "()[]{},;." p (sign-not "()[]{},;." refl) s e,
-        digit-no-sign s e,
-        start-no-sign s e,
-        e,
-      )
+      let d = head-other isOpSign isDigit (λ c f. carry-not isDigit (codes opSigns) c refl (sym (sign-is c) ∙ f)) s e in
+      past-early isOpSign (sign-not early refl) e ∙ rw (d, head-other isOpSign isIdStart sign-no-start s e, e)
+
+  past-words : (a : String) → every (λ x. not (oneOf a x)) (codes early) ≡ true → every (λ x. not (isDigit x)) (codes a) ≡ true
+      → every (oneOf others) (codes a) ≡ true → every (λ x. not (oneOf opSigns x)) (codes a) ≡ true → isAny a s ≡ true → startOf s ≡ quotes s
+  past-words a h i j k e =
+      past-early (oneOf a) h e ∙ rw (apart' a isDigit i s e, apart' a isIdStart (start-not a j) s e, apart' a isOpSign (sign-not a k) s e)
 
   pub starts-backtick : isAny "`" s ≡ true → startOf s ≡ Start.backtick
-  unfolding startOf isDigit
-  starts-backtick e =
-      let p = oneOf "`" in
-      rw (
-        z.line,
-        z.block,
-        apart " \t" p refl s e,
-        apart "\n" p refl s e,
-        apart "\r" p refl s e,
-        apart "()[]{},;." p refl s e,
-        apart' "`" isDigit refl s e,
-        apart' "`" isIdStart (start-not "`" refl) s e,
-        apart' "`" isOpSign (sign-not "`" refl) s e,
-        e,
-      )
+  unfolding isDigit
+  starts-backtick e = past-words "`" refl refl refl refl e ∙ rw e
 
   pub starts-string : quote s ≡ true → startOf s ≡ Start.string
-  unfolding startOf isDigit
-  starts-string e =
-      let p = oneOf "\"" in
-      let q = sym (quote-any s) ∙ e in
-      rw (
-        z.line,
-        z.block,
-        apart " \t" p refl s q,
-        apart "\n" p refl s q,
-        apart "\r" p refl s q,
-        apart "()[]{},;." p refl s q,
-        apart' "\"" isDigit refl s q,
-        apart' "\"" isIdStart (start-not "\"" refl) s q,
-        apart' "\"" isOpSign
-            (sign-not "\"" refl) s q,
-        apart "`" p refl s q,
-        e,
-      )
+  unfolding isDigit
+  starts-string e = let q = sym (quote-any s) ∙ e in past-words "\"" refl refl refl refl q ∙ rw (apart "`" (oneOf "\"") refl s q, e)
 
   pub starts-tick : apostrophe s ≡ true → startOf s ≡ Start.charSym
-  unfolding startOf isDigit
+  unfolding isDigit
   starts-tick e =
-      let p = oneOf "'" in
-      rw (
-        z.line,
-        z.block,
-        apart " \t" p refl s e,
-        apart "\n" p refl s e,
-        apart "\r" p refl s e,
-        apart "()[]{},;." p refl s e,
-        apart' "'" isDigit refl s e,
-        apart' "'" isIdStart (start-not "'" refl) s e,
-        apart' "'" isOpSign
-            (sign-not "'" refl) s e,
-        apart "`" p refl s e,
-        quote-any s,
-        apart "\"" p refl s e,
-        e,
-      )
+      past-words "'" refl refl refl refl e ∙ rw (apart "`" (oneOf "'") refl s e, quote-any s, apart "\"" (oneOf "'") refl s e, e)
+
+-- and where no test holds
+pub starts-other : (s : Text) → starts s ≡ false → startOf s ≡ Start.other
+unfolding startOf begins
+starts-other s e =
+    rw (no-comment (codes "/"), no-comment (codes "*"))
+    (none (isAny " \t" s) (isAny "\n" s) (isAny "\r" s) (isAny "()[]{},;." s) (digit s) (headIs isIdStart s) (opSign s) (isAny "`" s)
+    (quote s) (apostrophe s) e)
+  where
+    no-comment : (t : List ℕ) → startsWith (47 ∷ t) s ≡ false
+    no-comment t = false_from_ne_true (startsWith (47 ∷ t) s) (λ q. clash (sym e ∙ by-sign s (slash t s q)))
+
+    none : (a b d f g h i j k l : Bool) → a || b || d || f || g || h || i || j || k || l ≡ false
+        → cond a Start.blank (cond b Start.lf (cond d Start.cr (cond f Start.sign (cond g Start.number (cond h Start.word (cond i Start.operator
+        (cond j Start.backtick (cond k Start.string (cond l Start.charSym Start.other))))))))) ≡ Start.other
+    none false false false false false false false false false false e = refl
+    none _ _ _ _ _ _ _ _ _ _ e = clash (sym e)
 
 pub starts-line : (s : Text) → opensLine s ≡ true → startOf s ≡ Start.line
 unfolding startOf
 starts-line s e = rw e
 
+block-no-line : {s r : Text} → (One (isAny "/") then One (isAny "*")) s r → opensLine s ≡ false
+unfolding begins
+block-no-line (both (One.one {c = a} e) (One.one {c = b} f)) = rw (code-is 47 a.code e, code-is 42 b.code f)
+
 pub starts-block : (s : Text) → opensBlock s ≡ true → startOf s ≡ Start.block
 unfolding startOf
-starts-block s e = rw (block-no-line s e, e)
-  where
-    block-no-line : (s : Text) → opensBlock s ≡ true → opensLine s ≡ false
-    block-no-line s e = let h = two-codes 47 42 s (unfold begins in e) in unfold begins in (rw h.3 (rw (h.4, h.5)))
+starts-block s e = rw (block-no-line (pair-stands 47 42 s (unfold begins in e)), e)
 
 -- ---- what the scanner's answer says of a kind
 
@@ -304,35 +181,15 @@ pub sign-of : (s : Text) → isAny "()[]{},;." s ≡ true → (y : TokenType) ×
 unfolding signOf TokenShape
 sign-of [] e = clash e
 sign-of (c ∷ s) e =
-    go (oneOf "(" c.code) (oneOf ")" c.code) (oneOf "[" c.code) (oneOf "]" c.code) (oneOf "{" c.code) (oneOf "}" c.code)
-    (oneOf "," c.code) (oneOf ";" c.code) refl refl refl refl refl refl refl refl
-  where
-    Answer : Type 0
-    Answer = (y : TokenType) × TokenShape y (c ∷ s) s × (withoutValues y ≡ some (signOf (c ∷ s)))
-
-    bits : (a b : Bool) → a || b ≡ true → a || false ≡ false → b ≡ true
-    bits true b x y = clash (sym y)
-    bits false b x y = x
-
-    go : (b1 b2 b3 b4 b5 b6 b7 b8 : Bool) → oneOf "(" c.code ≡ b1 → oneOf ")" c.code ≡ b2 → oneOf "[" c.code ≡ b3 → oneOf "]" c.code ≡ b4
-        → oneOf "{" c.code ≡ b5 → oneOf "}" c.code ≡ b6 → oneOf "," c.code ≡ b7 → oneOf ";" c.code ≡ b8 → Answer
-    go true b2 b3 b4 b5 b6 b7 b8 e1 e2 e3 e4 e5 e6 e7 e8 = (TokenType.lParen, One.one e1, rw e1)
-    go false true b3 b4 b5 b6 b7 b8 e1 e2 e3 e4 e5 e6 e7 e8 = (TokenType.rParen, One.one e2, rw (e1, e2))
-    go false false true b4 b5 b6 b7 b8 e1 e2 e3 e4 e5 e6 e7 e8 = (TokenType.lBracket, One.one e3, rw (e1, e2, e3))
-    go false false false true b5 b6 b7 b8 e1 e2 e3 e4 e5 e6 e7 e8 = (TokenType.rBracket, One.one e4, rw (e1, e2, e3, e4))
-    go false false false false true b6 b7 b8 e1 e2 e3 e4 e5 e6 e7 e8 = (TokenType.lBrace, One.one e5, rw (e1, e2, e3, e4, e5))
-    go false false false false false true b7 b8 e1 e2 e3 e4 e5 e6 e7 e8 =
-        (TokenType.rBrace, One.one e6, rw (e1, e2, e3, e4, e5, e6))
-    go false false false false false false true b8 e1 e2 e3 e4 e5 e6 e7 e8 =
-        (TokenType.comma, One.one e7, rw (e1, e2, e3, e4, e5, e6, e7))
-    go false false false false false false false true e1 e2 e3 e4 e5 e6 e7 e8 =
-        (TokenType.semi, One.one e8, rw (e1, e2, e3, e4, e5, e6, e7, e8))
-    go false false false false false false false false e1 e2 e3 e4 e5 e6 e7 e8 =
-        let x = c.code in
-        let d = bits (eqb x 59) _
-        (bits (eqb x 44) _ (bits (eqb x 125) _
-        (bits (eqb x 123) _ (bits (eqb x 93) _ (bits (eqb x 91) _ (bits (eqb x 41) _ (bits (eqb x 40) _ e e1) e2) e3) e4) e5) e6) e7) e8 in
-        (TokenType.dot, One.one d, rw (e1, e2, e3, e4, e5, e6, e7, e8))
+    by-test (eqb c.code 40) (λ a. (TokenType.lParen, One.one (rw a), rw a)) (λ a.
+    by-test (eqb c.code 41) (λ b. (TokenType.rParen, One.one (rw b), rw (a, b))) (λ b.
+    by-test (eqb c.code 91) (λ d. (TokenType.lBracket, One.one (rw d), rw (a, b, d))) (λ d.
+    by-test (eqb c.code 93) (λ f. (TokenType.rBracket, One.one (rw f), rw (a, b, d, f))) (λ f.
+    by-test (eqb c.code 123) (λ g. (TokenType.lBrace, One.one (rw g), rw (a, b, d, f, g))) (λ g.
+    by-test (eqb c.code 125) (λ h. (TokenType.rBrace, One.one (rw h), rw (a, b, d, f, g, h))) (λ h.
+    by-test (eqb c.code 44) (λ i. (TokenType.comma, One.one (rw i), rw (a, b, d, f, g, h, i))) (λ i.
+    by-test (eqb c.code 59) (λ j. (TokenType.semi, One.one (rw j), rw (a, b, d, f, g, h, i, j)))
+    (λ j. (TokenType.dot, One.one (rw (a, b, d, f, g, h, i, j) at e), rw (a, b, d, f, g, h, i, j))))))))))
 
 -- ---- what is found stands
 
@@ -340,94 +197,61 @@ pub data Scanned (n : ℕ) (s : Text) (f : Found) : Type 0 where
   hit : {k : Kind} {r : Text} → Stands k s r → Hit n s r f k → Scanned n s f
   fell : Fell s f → Scanned n s f
 
--- a token that stood, where no comment opens
-from-stood : (n : ℕ) (s : Text) (f : Found) → opensComment s ≡ false → Stood n s f → Scanned n s f
-unfolding Stands HasShape
-from-stood n s f z h = Scanned.hit {k = Kind.token h.type} {r = h.rest} (h.shape, λ e. clash (sym z ∙ e)) (Hit.token h.found h.valued)
-
-from-both : (n : ℕ) (s : Text) (f : Found) → opensComment s ≡ false → Stood n s f ⊎ Fell s f → Scanned n s f
-from-both n s f z (inl h) = from-stood n s f z h
-from-both n s f z (inr h) = Scanned.fell h
-
-plain-scan : (n : ℕ) (s : Text) → quote s ≡ true → Stood n s (scanString n s) ⊎ Fell s (scanString n s)
-unfolding scanString TokenShape
-plain-scan n s q = go (body-finds false s q)
-  where
-    go : Closed false s ⊎ Wrong false s → Stood n s (scanString n s) ⊎ Fell s (scanString n s)
-    go (inl c) =
-        let h = content-is n s c.rest in
-        inl (record {
-          type = TokenType.str;
-          token = tk.Str h.0 h.1;
-          rest = c.rest;
-          found = ap (plainOf n s) c.found ∙ ap (λ k. Found.token k c.rest) h.2;
-          shape = inl c.body;
-          valued = Valued.plain q h.3;
-        })
-    go (inr w) = inr (record { number = w.number; rest = w.rest; found = ap (plainOf n s) w.found; met = w.met s (refl, q) })
-
-return-scan : (n : ℕ) (s : Text) → isAny "\r" s ≡ true
-    → ((r : Text) × (scanReturn s ≡ Found.gap GapKind.lineEnd r) × HasShape Kind.lineEnd s r) ⊎ Fell s (scanReturn s)
-unfolding scanReturn HasShape begins
-return-scan n [] e = clash e
-return-scan n (c ∷ s) e = go (begins "\r\n" (c ∷ s)) refl
-  where
-    cr-alone : (b : Bool) → eqb c.code 13 ≡ b → b || false ≡ true → endsLine (c ∷ s) ≡ begins "\r\n" (c ∷ s)
-    cr-alone true q f = let z = eqb-true c.code 13 q in rw z
-    cr-alone false q f = clash f
-
-    go : (b : Bool) → begins "\r\n" (c ∷ s) ≡ b
-        → ((r : Text) × (scanReturn (c ∷ s) ≡ Found.gap GapKind.lineEnd r) × HasShape Kind.lineEnd (c ∷ s) r) ⊎ Fell (c ∷ s) (scanReturn (c ∷ s))
-    go true b = inl (drop 2 (c ∷ s), rw b, inr (both (One.one e) (second s (and-both (eqb c.code 13) (startsWith (codes "\n") s) b).1)))
-      where
-        second : (s : Text) → startsWith (codes "\n") s ≡ true → One (isAny "\n") s (drop 1 s)
-        second [] e = clash e
-        second (d ∷ s) e = One.one {c = d} {s = s} (rw (and-both (eqb d.code 10) true e).0)
-    go false b = inr (record { number = 1; rest = c ∷ s; found = rw b; met = Met.m1 e (cr-alone (eqb c.code 13) refl e ∙ b) })
-
-clear-by : (s : Text) → opensLine s ≡ false → opensBlock s ≡ false → opensComment s ≡ false
-clear-by s a b = rw (a, b)
-
 comment-clear : (s : Text) → Clear s → opensComment s ≡ false
-comment-clear s z = clear-by s z.line z.block
+comment-clear s z = rw (z.line, z.block)
+
+-- a token, where no comment opens
+from-both : (n : ℕ) (s : Text) (f : Found) → Clear s → Outcome n s f → Scanned n s f
+unfolding Stands HasShape
+from-both n s f z (inl h) =
+    Scanned.hit {k = Kind.token h.type} {r = h.rest} (h.shape, λ e. clash (sym (comment-clear s z) ∙ e)) (Hit.token h.found h.valued)
+from-both n s f z (inr h) = Scanned.fell h
 
 -- a gap piece that is no comment
 gap-hit : (n : ℕ) (k : Kind) (s r : Text) (f : Found) → Clear s → HasShape k s r → Hit n s r f k → Scanned n s f
 unfolding Stands
 gap-hit n k s r f z h w = Scanned.hit {k = k} {r = r} (h, λ e. clash (sym (comment-clear s z) ∙ e)) w
 
+plain-scan : (n : ℕ) (s : Text) → quote s ≡ true → Outcome n s (scanString n s)
+unfolding scanString TokenShape
+plain-scan n s q = elim (body-finds false s q) [
+  | inl c ↦
+      let h = content-is n s c.rest in
+      let x = ap (plainOf n s) c.found ∙ ap (λ k. Found.token k c.rest) h.2 in
+      inl (stood TokenType.str (tk.Str h.0 h.1) c.rest x (inl c.body) (Valued.plain q h.3))
+  | inr w ↦ inr (fell-at w.number w.rest (ap (plainOf n s) w.found) (w.met s (refl, q)))
+]
+
+return-scan : (n : ℕ) (s : Text) → Clear s → isAny "\r" s ≡ true → Scanned n s (scanReturn s)
+unfolding scanReturn HasShape begins
+return-scan n [] z e = clash e
+return-scan n (c ∷ s) z e =
+    by-test (begins "\r\n" (c ∷ s)) (λ b.
+    let o = one-drop (isAny "\n") s (sym (begins-any 10 s) ∙ (and-both (eqb c.code 13) (startsWith (codes "\n") s) b).1) refl in
+    gap-hit n Kind.lineEnd (c ∷ s) (drop 2 (c ∷ s)) _ z (inr (both (One.one e) o)) (Hit.lineEnd (rw b)))
+    (λ b. let q : endsLine (c ∷ s) ≡ begins "\r\n" (c ∷ s) = rw (code-is 13 c.code e) in
+    Scanned.fell (fell-at 1 (c ∷ s) (rw b) (Met.m1 e (q ∙ b))))
+
 as-stands : (n : ℕ) (c : Char) (s : Text) (x : Start) → Fact (c ∷ s) x → Scanned n (c ∷ s) (scanAs n x (c ∷ s))
 unfolding HasShape Stands
 as-stands n c s _ (Fact.line e) =
     let h = line-stands (c ∷ s) e in
     Scanned.hit {k = Kind.lineComment} {r = h.0} (h.2, λ q. refl) (Hit.lineComment h.1)
-as-stands n c s _ (Fact.block e) = go (block-stands (c ∷ s) e)
-  where
-    go : ((r : Text) × (scanBlock (c ∷ s) ≡ Found.gap GapKind.blockComment r) × Block (c ∷ s) r)
-        ⊎ ((scanBlock (c ∷ s) ≡ Found.stuck 2 (c ∷ s)) × ((r : Text) → Block (c ∷ s) r → ⊥)) → Scanned n (c ∷ s) (scanBlock (c ∷ s))
-    go (inl (r, q, w)) = Scanned.hit {k = Kind.blockComment} {r = r} (w, λ q. refl) (Hit.blockComment q)
-    go (inr (q, w)) = Scanned.fell (record { number = 2; rest = c ∷ s; found = q; met = Met.m2 e w })
+as-stands n c s _ (Fact.block e) = elim (block-stands (c ∷ s) e) [
+  | inl (r, q, w) ↦ Scanned.hit {k = Kind.blockComment} {r = r} (w, λ q. refl) (Hit.blockComment q)
+  | inr (q, w) ↦ Scanned.fell (fell-at 2 (c ∷ s) q (Met.m2 e w))
+]
 as-stands n c s _ (Fact.blank z e) = gap-hit n Kind.blank (c ∷ s) s _ z (One.one e) (Hit.blank refl)
 as-stands n c s _ (Fact.lf z e) = gap-hit n Kind.lineEnd (c ∷ s) s _ z (inl (One.one e)) (Hit.lineEnd refl)
-as-stands n c s _ (Fact.cr z e) = go (return-scan n (c ∷ s) e)
-  where
-    go : ((r : Text) × (scanReturn (c ∷ s) ≡ Found.gap GapKind.lineEnd r) × HasShape Kind.lineEnd (c ∷ s) r) ⊎ Fell (c ∷ s) (scanReturn (c ∷ s))
-        → Scanned n (c ∷ s) (scanReturn (c ∷ s))
-    go (inl (r, q, w)) = gap-hit n Kind.lineEnd (c ∷ s) r _ z w (Hit.lineEnd q)
-    go (inr w) = Scanned.fell w
+as-stands n c s _ (Fact.cr z e) = return-scan n (c ∷ s) z e
 as-stands n c s _ (Fact.sign z e) = let h = sign-of (c ∷ s) e in gap-hit n (Kind.token h.0) (c ∷ s) s _ z h.1 (Hit.token refl (Valued.bare h.2))
-as-stands n c s _ (Fact.number z e) = go (number-stands n (c ∷ s) e)
-  where
-    go : Stood n (c ∷ s) (scanNumber (c ∷ s)) ⊎ ((scanNumber (c ∷ s) ≡ Found.stuck 6 (c ∷ s)) × Met (c ∷ s) 6 (c ∷ s))
-        → Scanned n (c ∷ s) (scanNumber (c ∷ s))
-    go (inl h) = from-stood n (c ∷ s) _ (comment-clear _ z) h
-    go (inr (q, m)) = Scanned.fell (record { number = 6; rest = c ∷ s; found = q; met = m })
-as-stands n c s _ (Fact.word z e) = from-both n (c ∷ s) _ (comment-clear _ z) (word-stands n (c ∷ s) e)
-as-stands n c s _ (Fact.operator z e) = from-stood n (c ∷ s) _ (comment-clear _ z) (operator-stands n (c ∷ s) e)
-as-stands n c s _ (Fact.backtick z e) = from-both n (c ∷ s) _ (comment-clear _ z) (backtick-stands n (c ∷ s) e)
-as-stands n c s _ (Fact.string z e) = from-both n (c ∷ s) _ (comment-clear _ z) (plain-scan n (c ∷ s) e)
-as-stands n c s _ (Fact.charSym z e) = from-both n (c ∷ s) _ (comment-clear _ z) (tick-stands n (c ∷ s) e)
-as-stands n c s _ (Fact.other e) = Scanned.fell (record { number = 3; rest = c ∷ s; found = refl; met = no-start-met c s e })
+as-stands n c s _ (Fact.number z e) = from-both n (c ∷ s) _ z (number-stands n (c ∷ s) e)
+as-stands n c s _ (Fact.word z e) = from-both n (c ∷ s) _ z (word-stands n (c ∷ s) e)
+as-stands n c s _ (Fact.operator z e) = from-both n (c ∷ s) _ z (inl (operator-stands n (c ∷ s) e))
+as-stands n c s _ (Fact.backtick z e) = from-both n (c ∷ s) _ z (backtick-stands n (c ∷ s) e)
+as-stands n c s _ (Fact.string z e) = from-both n (c ∷ s) _ z (plain-scan n (c ∷ s) e)
+as-stands n c s _ (Fact.charSym z e) = from-both n (c ∷ s) _ z (tick-stands n (c ∷ s) e)
+as-stands n c s _ (Fact.other e) = Scanned.fell (fell-at 3 (c ∷ s) refl (no-start-met c s e))
 
 -- at every start the scanner finds a piece that stands, or a refusal that is met
 pub scan-stands : (n : ℕ) (c : Char) (s : Text) → Scanned n (c ∷ s) (scan n (c ∷ s))

@@ -1,30 +1,9 @@
 -- Identifiers: the automaton finds the longest one.
-use Prim.Native.Nat.{ℕ, ◌≤◌}
-use mathlib.Core.Path.{◌≡◌, refl, sym, ◌∙◌, ap}
-use mathlib.Core.Bool.{Bool, true, false, cond}
-use mathlib.Core.Logic.{◌⊎◌, inl, inr}
-use mathlib.Core.List.{[], ◌∷◌}
-use mathlib.Core.Option.{Option, none, some}
-use lib.ListN.{length, drop}
-use native.Mathlib.Omega.{arith}
-use Rattle.chars.specs.paper.Quoted.{oneOf}
-use Rattle.chars.specs.paper.Text.{Char, Text, headIs, idChar}
-use Rattle.chars.specs.computed.Runs.{afterRun}
-use Rattle.chars.specs.paper.Classes.{isIdStart, isIdChar}
-use Rattle.chars.proofs.Bools.{clash}
-use Rattle.chars.specs.promises.Texts.{Suffix}
-use Rattle.chars.proofs.theorems.Promises.{text-laws, class-laws}
-use Rattle.token.proofs.Classes.{under-no-id, sign-no-under}
-use Rattle.token.specs.paper.Tests.{isAny, opSign, quote}
-use Rattle.token.specs.paper.Kinds.{TokenType, wordOf}
-use Rattle.token.specs.paper.Shapes.{One, Run, Run1, ◌then◌, both, Chunks, Tail, Ident, codesOf, TokenShape}
-use Rattle.token.specs.paper.Reading.{Valued}
-use Rattle.token.specs.computed.Answer.{Found, afterIdent, codesTo, orPrefixed, wordOr, scanIdent}
-use Rattle.token.specs.declared.kinds.Kw.{Kw}
+use Rattle.std.proofs.Common.{ℕ, ◌≤◌, ◌≡◌, refl, sym, ◌∙◌, ap, Bool, true, false, cond, ◌⊎◌, inl, inr, [], ◌∷◌, length, drop, arith}
+use Rattle.token.proofs.theorems.Words.{Option, none, some, oneOf, Char, Text, headIs, idChar, afterRun, isIdStart, isIdChar, clash, Suffix, text-laws, class-laws, under-no-id, sign-no-under, isAny, opSign, quote, TokenType, wordOf, One, Run, Run1, ◌then◌, both, Chunks, Tail, Ident, codesOf, TokenShape, Valued, Found, afterIdent, codesTo, orPrefixed, wordOr, scanIdent, Kw, no-some, by-test}
 use Rattle.token.specs.declared.kinds.TokenKind.TheVariants as tk
-use Rattle.token.proofs.Base.{no-some}
 use Rattle.token.proofs.theorems.Runs.{run-after, run-suffix, after-least, run1-run}
-use Rattle.token.proofs.theorems.Operators.{Stood}
+use Rattle.token.proofs.theorems.Operators.{Stood, stood}
 open text-laws use {suffix-refl, suffix-trans, suffix-same}
 open class-laws use {sign-no-id}
 
@@ -50,15 +29,12 @@ Rest s r = (Chunks then Tail) s r
 abbrev Under : Text → Type 0
 Under s = (t : Text) → Run1 under t s → Rest t (afterIdent true s)
 
-run-more : (p : Text → Bool) {t s : Text} {c : Char} → Run p t (c ∷ s) → p (c ∷ s) ≡ true → Run p t s
-run-more p {t} {s} {c} h e = go t (c ∷ s) h refl
-  where
-    go : (t r : Text) → Run p t r → r ≡ c ∷ s → Run p t s
-    go t r Run.stop q = rw q (Run.next e Run.stop)
-    go t r (Run.next f w) q = Run.next f (go _ _ w q)
-
 run1-more : (p : Text → Bool) {t s : Text} {c : Char} → Run1 p t (c ∷ s) → p (c ∷ s) ≡ true → Run1 p t s
-run1-more p (Run1.run f w) e = Run1.run f (run-more p w e)
+run1-more p (Run1.run f w) e = Run1.run f (on w (Run.next e Run.stop))
+  where
+    on : {t m s : Text} → Run p t m → Run p m s → Run p t s
+    on Run.stop w = w
+    on (Run.next f v) w = Run.next f (on v w)
 
 -- one more id character in front, after zero or more `_`
 grow : {t s r : Text} {c : Char} → Run under t (c ∷ s) → isIdChar c.code ≡ true → Rest s r → Rest t r
@@ -67,86 +43,65 @@ grow a e (both k w) = both (Chunks.chunk (both a (Run1.run e Run.stop)) k) w
 -- what the automaton finds has the shape, from its start, and from within a run of `_`
 finds : (s : Text) → Rest s (afterIdent false s) × Under s
 finds [] = unfold afterIdent in (both Chunks.done (inl refl), λ t w. both Chunks.done (inr (both w Run.stop)))
-finds (c ∷ s) = (
-  rw after-turn (plain (isIdChar c.code) (isUnder c.code) refl refl (finds s)),
-  λ t w. rw after-turn (inside (isIdChar c.code) (isUnder c.code) refl refl t w (finds s)),
-)
-  where
-    plain : (a b : Bool) → isIdChar c.code ≡ a → isUnder c.code ≡ b → Rest s (afterIdent false s) × Under s → Rest (c ∷ s) (turn a b false c s)
-    plain true b ea eb f = grow Run.stop ea f.0
-    plain false true ea eb f = f.1 (c ∷ s) (Run1.run eb Run.stop)
-    plain false false ea eb f = both Chunks.done (inl refl)
-
-    inside : (a b : Bool) → isIdChar c.code ≡ a → isUnder c.code ≡ b → (t : Text) → Run1 under t (c ∷ s)
-        → Rest s (afterIdent false s) × Under s → Rest t (turn a b true c s)
-    inside true b ea eb t w f = grow (run1-run under w) ea f.0
-    inside false true ea eb t w f = f.1 t (run1-more under w eb)
-    inside false false ea eb t w f = both Chunks.done (inr (both w (run-after opSign (c ∷ s))))
+finds (c ∷ s) =
+    let f = finds s in (
+      rw after-turn (by-test (isIdChar c.code) (λ a. rw a (grow Run.stop a f.0)) (λ a.
+          by-test (isUnder c.code) (λ b. rw (a, b) (f.1 (c ∷ s) (Run1.run b Run.stop))) (λ b. rw (a, b) (both Chunks.done (inl refl))))),
+      λ t w. rw after-turn (by-test (isIdChar c.code) (λ a. rw a (grow (run1-run under w) a f.0)) (λ a.
+          by-test (isUnder c.code) (λ b. rw (a, b) (f.1 t (run1-more under w b)))
+          (λ b. rw (a, b) (both Chunks.done (inr (both w (run-after opSign (c ∷ s)))))))),
+    )
 
 -- how the automaton passes each part
-pass-id : (u : Bool) {s r : Text} → Run idChar s r → (v : Bool) × (afterIdent u s ≡ afterIdent v r)
-pass-id u Run.stop = (u, refl)
-pass-id u (Run.next {c} {s} e w) = let h = pass-id false w in (h.0, after-turn u c s ∙ rw e h.1)
+pass-ids : {s r : Text} → Run idChar s r → afterIdent false s ≡ afterIdent false r
+pass-ids Run.stop = refl
+pass-ids (Run.next {c} {s} e w) = after-turn false c s ∙ rw e (pass-ids w)
 
-pass-under : (u : Bool) {s r : Text} → Run under s r → (v : Bool) × (afterIdent u s ≡ afterIdent v r)
-pass-under u Run.stop = (u, refl)
-pass-under u (Run.next {c} {s} e w) = let h = pass-under true w in (h.0, after-turn u c s ∙ rw (under-no-id c.code e, e) h.1)
+pass-chunk : (u : Bool) {s m : Text} → (Run under then Run1 idChar) s m → afterIdent u s ≡ afterIdent false m
+pass-chunk u (both Run.stop (Run1.run {c} {s} e w)) = after-turn u c s ∙ rw e (pass-ids w)
+pass-chunk u (both (Run.next {c} {s} f v) w) = after-turn u c s ∙ rw (under-no-id c.code f, f) (pass-chunk true (both v w))
 
-pass-chunk : (u : Bool) {s m : Text} → (Run under then Run1 idChar) s m → (v : Bool) × (afterIdent u s ≡ afterIdent v m)
-pass-chunk u (both a w) =
-    let x = pass-under u a in
-    let y = pass-id x.0 (run1-run idChar w) in
-    (y.0, x.1 ∙ y.1)
-
-pass-chunks : (u : Bool) {s r : Text} → Chunks s r → (v : Bool) × (afterIdent u s ≡ afterIdent v r)
-pass-chunks u Chunks.done = (u, refl)
-pass-chunks u (Chunks.chunk a k) =
-    let x = pass-chunk u a in
-    let z = pass-chunks x.0 k in
-    (z.0, x.1 ∙ z.1)
+pass-chunks : {s r : Text} → Chunks s r → afterIdent false s ≡ afterIdent false r
+pass-chunks Chunks.done = refl
+pass-chunks (Chunks.chunk a k) = pass-chunk false a ∙ pass-chunks k
 
 under-keeps : {s r : Text} → Run under s r → afterIdent true s ≡ afterIdent true r
 under-keeps Run.stop = refl
 under-keeps (Run.next {c} {s} e w) = after-turn true c s ∙ rw (under-no-id c.code e, e) (under-keeps w)
 
-under-word : (u : Bool) {s r : Text} → Run1 under s r → afterIdent u s ≡ afterIdent true r
-under-word u (Run1.run {c} {s} e w) = after-turn u c s ∙ rw (under-no-id c.code e, e) (under-keeps w)
+under-word : {s r : Text} → Run1 under s r → afterIdent false s ≡ afterIdent true r
+under-word (Run1.run {c} {s} e w) = after-turn false c s ∙ rw (under-no-id c.code e, e) (under-keeps w)
 
 after-shorter : (u : Bool) (s : Text) → length (afterIdent u s) ≤ length s
 unfolding afterIdent
 after-shorter u [] = omega arith
-after-shorter u (c ∷ s) = rw after-turn (go (isIdChar c.code) (isUnder c.code) u (after-shorter true s) (after-shorter false s))
-  where
-    go : (a b u : Bool) → length (afterIdent true s) ≤ length s → length (afterIdent false s) ≤ length s → length (turn a b u c s) ≤ length (c ∷ s)
-    go true b u h k = omega arith
-    go false true u h k = omega arith
-    go false false true h k = (run-suffix opSign (run-after opSign (c ∷ s))).within
-    go false false false h k = omega arith
+after-shorter u (c ∷ s) =
+    let h = after-shorter true s in
+    let k = after-shorter false s in
+    let r = (run-suffix opSign (run-after opSign (c ∷ s))).within in
+    rw after-turn (by-test (isIdChar c.code) (λ a. rw a (omega arith)) (λ a.
+    by-test (isUnder c.code) (λ b. rw (a, b) (omega arith)) (λ b. by-test u (λ d. rw (a, b, d) r) (λ d. rw (a, b, d) (omega arith)))))
 
 signs-least : {s r : Text} → Run opSign s r → length (afterIdent true s) ≤ length r
 signs-least {s} Run.stop = after-shorter true s
 signs-least (Run.next {c} {s} e w) = rw (after-turn, sign-no-id c.code e, sign-no-under c.code e) (after-least opSign (Run.next e w))
 
-tail-least : (u : Bool) (s r : Text) → Tail s r → length (afterIdent u s) ≤ length r
-tail-least u s r (inl e) = rw (← e) (after-shorter u s)
-tail-least u s r (inr (both w k)) = rw (under-word u w) (signs-least k)
+tail-least : (s r : Text) → Tail s r → length (afterIdent false s) ≤ length r
+tail-least s r (inl e) = rw (← e) (after-shorter false s)
+tail-least s r (inr (both w k)) = rw (under-word w) (signs-least k)
 
 rest-least : (s r : Text) → Rest s r → length (afterIdent false s) ≤ length r
-rest-least s r (both {m} k t) = let x = pass-chunks false k in rw x.1 (tail-least x.0 m r t)
-
-chunk-suffix : {s m : Text} → (Run under then Run1 idChar) s m → Suffix m s
-chunk-suffix (both a w) = suffix-trans (run-suffix idChar (run1-run idChar w)) (run-suffix under a)
+rest-least s r (both {m} k t) = rw (pass-chunks k) (tail-least m r t)
 
 chunks-suffix : {s r : Text} → Chunks s r → Suffix r s
 chunks-suffix Chunks.done = suffix-refl _
-chunks-suffix (Chunks.chunk a k) = suffix-trans (chunks-suffix k) (chunk-suffix a)
-
-tail-suffix : (s r : Text) → Tail s r → Suffix r s
-tail-suffix s r (inl e) = rw e (suffix-refl r)
-tail-suffix s r (inr (both w k)) = suffix-trans (run-suffix opSign k) (run-suffix under (run1-run under w))
+chunks-suffix (Chunks.chunk (both a w) k) =
+    suffix-trans (chunks-suffix k) (suffix-trans (run-suffix idChar (run1-run idChar w)) (run-suffix under a))
 
 pub rest-suffix : (s r : Text) → Rest s r → Suffix r s
-rest-suffix s r (both {m} k t) = suffix-trans (tail-suffix m r t) (chunks-suffix k)
+rest-suffix s r (both k (inl e)) = rw e at (chunks-suffix k)
+rest-suffix s r (both k (inr (both w z))) =
+    suffix-trans (suffix-trans (run-suffix opSign z) (run-suffix under (run1-run under w))) (chunks-suffix k)
 
 -- the shape of an identifier, taken apart
 pub start-rest : (s r : Text) → (One (headIs isIdStart) then Chunks then Tail) s r → (headIs isIdStart s ≡ true) × Rest (drop 1 s) r
@@ -157,13 +112,11 @@ ident-finds [] e = clash e
 ident-finds (c ∷ s) e = (both (One.one e) (finds s).0, λ q h. rest-least s q (start-rest (c ∷ s) q h).1)
 
 pub ident-found : (s r : Text) → Ident s r → (headIs isIdStart s ≡ true) × (r ≡ afterIdent false (drop 1 s))
-ident-found s r h =
-    let a = start-rest s r h.0 in
-    let f = ident-finds s a.0 in
-    let g = start-rest s (afterIdent false (drop 1 s)) f.0 in
-    let x = h.1 (afterIdent false (drop 1 s)) f.0 in
-    let y = rest-least (drop 1 s) r a.1 in
-    (a.0, suffix-same (rest-suffix (drop 1 s) r a.1) (rest-suffix (drop 1 s) (afterIdent false (drop 1 s)) g.1) (omega arith))
+ident-found s r (both (One.one {s = t} e) w, l) =
+    let f = (finds t).0 in
+    let x = l (afterIdent false t) (both (One.one e) f) in
+    let y = rest-least t r w in
+    (e, suffix-same (rest-suffix t r w) (rest-suffix t (afterIdent false t) f) (omega arith))
 
 -- ---- the token
 
@@ -198,22 +151,6 @@ ident-stands n s e o = go (wordOf (codesOf s r)) refl o
     id = ident-finds s e
 
     go : (w : Option Kw) → wordOf (codesOf s r) ≡ w → (quote r ≡ false) ⊎ ((k : Kw) × (wordOf (codesOf s r) ≡ some k)) → Stood n s (scanIdent n s)
-    go none f (inl q) =
-        record {
-          type = TokenType.ident;
-          token = tk.Ident;
-          rest = r;
-          found = scan-ident n s ∙ ap (wordOr n s r) f ∙ rw q;
-          shape = (((id, f), q));
-          valued = Valued.bare refl;
-        }
+    go none f (inl q) = stood TokenType.ident tk.Ident r (scan-ident n s ∙ ap (wordOr n s r) f ∙ rw q) ((id, f), q) (Valued.bare refl)
     go none f (inr k) = no-some (sym f ∙ k.1)
-    go (some k) f o =
-        record {
-          type = TokenType.key k;
-          token = tk.Kw k;
-          rest = r;
-          found = scan-ident n s ∙ ap (wordOr n s r) f;
-          shape = inl (id, f);
-          valued = Valued.bare refl;
-        }
+    go (some k) f o = stood (TokenType.key k) (tk.Kw k) r (scan-ident n s ∙ ap (wordOr n s r) f) (inl (id, f)) (Valued.bare refl)

@@ -1,20 +1,7 @@
--- Operators with their keyword rule: what the scanner finds stands, and what stands is what it finds.
-use Prim.Native.Nat.{ℕ}
-use mathlib.Core.Path.{◌≡◌, refl, sym, ◌∙◌, ap}
-use mathlib.Core.Bool.{Bool, true, false}
-use mathlib.Core.Logic.{◌⊎◌, inl, inr}
-use mathlib.Core.Option.{Option, none, some}
-use Rattle.chars.specs.paper.Text.{Text}
-use Rattle.chars.specs.computed.Runs.{afterRun}
-use Rattle.token.specs.paper.Tests.{opensComment, freeSign}
-use Rattle.token.specs.paper.Kinds.{TokenType, runOf}
-use Rattle.token.specs.paper.Shapes.{Operator, TokenShape, codesOf}
-use Rattle.token.specs.paper.Reading.{Valued}
-use Rattle.token.specs.computed.Answer.{Found, codesTo, runOr, scanOperator}
-use Rattle.token.specs.declared.kinds.Kw.{Kw}
-use Rattle.token.specs.declared.kinds.TokenKind.{TokenKind}
+-- Operators with their keyword rule: what the scanner finds stands, and what stands is what it finds. And the two outcomes of each scanner.
+use Rattle.std.proofs.Common.{ℕ, ◌≡◌, refl, sym, ◌∙◌, ap, true, false, ◌⊎◌, inl, inr, not}
+use Rattle.token.proofs.theorems.Words.{Option, none, some, Text, afterRun, opensComment, freeSign, TokenType, runOf, Operator, TokenShape, codesOf, Valued, Found, codesTo, runOr, scanOperator, Kw, TokenKind, no-some, by-test, Met, and-both, opSign}
 use Rattle.token.specs.declared.kinds.TokenKind.TheVariants as tk
-use Rattle.token.proofs.Base.{no-some}
 use Rattle.token.proofs.theorems.Runs.{run1-finds, run1-found}
 
 -- a token that is found and stands
@@ -26,13 +13,32 @@ pub record Stood (n : ℕ) (s : Text) (f : Found) : Type 0 where
   pub shape : TokenShape type s rest
   pub valued : Valued n s rest type token
 
+pub stood : {n : ℕ} {s : Text} {f : Found} (y : TokenType) (t : TokenKind) (r : Text) → f ≡ Found.token t r → TokenShape y s r → Valued n s r y t → Stood n s f
+stood y t r e h v = record { type = y; token = t; rest = r; found = e; shape = h; valued = v }
+
+-- a refusal that is found and met
+pub record Fell (s : Text) (f : Found) : Type 0 where
+  pub number : ℕ
+  pub rest : Text
+  pub found : f ≡ Found.stuck number rest
+  pub met : Met s number rest
+
+pub fell-at : {s : Text} {f : Found} (j : ℕ) (q : Text) → f ≡ Found.stuck j q → Met s j q → Fell s f
+fell-at j q e m = record { number = j; rest = q; found = e; met = m }
+
+abbrev pub Outcome : ℕ → Text → Found → Type 0
+Outcome n s f = Stood n s f ⊎ Fell s f
+
+pub free-sign : (s : Text) → freeSign s ≡ true → opSign s ≡ true
+free-sign s e = (and-both (opSign s) (not (opensComment s)) e).0
+
 scan-operator : (s : Text) → scanOperator s ≡ runOr (afterRun freeSign s) (runOf (codesOf s (afterRun freeSign s)))
 unfolding scanOperator codesTo
 scan-operator s = refl
 
 pub operator-stands : (n : ℕ) (s : Text) → freeSign s ≡ true → Stood n s (scanOperator s)
 unfolding TokenShape
-operator-stands n s e = go (runOf (codesOf s r)) (opensComment r) refl refl
+operator-stands n s e = go (runOf (codesOf s r)) refl
   where
     r : Text
     r = afterRun freeSign s
@@ -40,34 +46,12 @@ operator-stands n s e = go (runOf (codesOf s r)) (opensComment r) refl refl
     op : Operator s r
     op = run1-finds freeSign s e refl
 
-    go : (o : Option Kw) (b : Bool) → runOf (codesOf s r) ≡ o → opensComment r ≡ b → Stood n s (scanOperator s)
-    go none b eo eb =
-        record {
-          type = TokenType.opId;
-          token = tk.OpId;
-          rest = r;
-          found = scan-operator s ∙ ap (runOr r) eo;
-          shape = (op, inl eo);
-          valued = Valued.bare refl;
-        }
-    go (some k) true eo eb =
-        record {
-          type = TokenType.opId;
-          token = tk.OpId;
-          rest = r;
-          found = scan-operator s ∙ ap (runOr r) eo ∙ rw eb;
-          shape = (op, inr eb);
-          valued = Valued.bare refl;
-        }
-    go (some k) false eo eb =
-        record {
-          type = TokenType.key k;
-          token = tk.Kw k;
-          rest = r;
-          found = scan-operator s ∙ ap (runOr r) eo ∙ rw eb;
-          shape = inr (op, eo, eb);
-          valued = Valued.bare refl;
-        }
+    go : (o : Option Kw) → runOf (codesOf s r) ≡ o → Stood n s (scanOperator s)
+    go none f = stood TokenType.opId tk.OpId r (scan-operator s ∙ ap (runOr r) f) (op, inl f) (Valued.bare refl)
+    go (some k) f =
+        by-test (opensComment r)
+        (λ x. stood TokenType.opId tk.OpId r (scan-operator s ∙ ap (runOr r) f ∙ rw x) (op, inr x) (Valued.bare refl))
+        (λ x. stood (TokenType.key k) (tk.Kw k) r (scan-operator s ∙ ap (runOr r) f ∙ rw x) (inr (op, f, x)) (Valued.bare refl))
 
 pub op-id-found : (s r : Text) → TokenShape TokenType.opId s r → (freeSign s ≡ true) × (scanOperator s ≡ Found.token tk.OpId r)
 unfolding TokenShape

@@ -1,16 +1,6 @@
 -- Every piece takes at least one character, and what follows it is the script's own text.
-use Prim.Native.Nat.{ℕ, suc, ◌≤◌, ◌<◌, ◌+◌}
-use mathlib.Core.Bool.{Bool, true, false, not}
-use mathlib.Core.Logic.{inl, inr}
-use lib.ListN.{length}
-use native.Mathlib.Omega.{arith}
-use Rattle.chars.specs.paper.Text.{Text, headIs}
-use Rattle.chars.specs.paper.Classes.{isIdStart}
-use Rattle.chars.specs.promises.Texts.{Suffix}
-use Rattle.chars.proofs.theorems.Promises.{text-laws}
-use Rattle.token.specs.paper.Tests.{isAny, quote, digit, hexDigit, freeSign, notBacktick, apostrophe, endOfLine}
-use Rattle.token.specs.paper.Kinds.{Kind, TokenType}
-use Rattle.token.specs.paper.Shapes.{One, Run, Run1, Times, UpTo, ◌then◌, both, Block, Item, Items, LineEnd, LineComment, Digits, NumberText, Chunks, Tail, Ident, Operator, Backtick, Escape, Single, Body, Prefix, Str, Character, Name, Symbol, TokenShape, HasShape, Stands}
+use Rattle.std.proofs.Common.{ℕ, suc, ◌≤◌, ◌<◌, ◌+◌, Bool, true, false, inl, inr, length, arith}
+use Rattle.token.proofs.theorems.Words.{Text, Suffix, text-laws, quote, digit, hexDigit, freeSign, notBacktick, Kind, TokenType, One, Run1, Times, UpTo, ◌then◌, both, Block, Item, Items, Digits, NumberText, Ident, Backtick, Escape, Single, Body, Prefix, TokenShape, HasShape, Stands, BadEscape}
 use Rattle.token.proofs.theorems.Runs.{run-suffix}
 use Rattle.token.proofs.theorems.Idents.{rest-suffix}
 open text-laws use {drop-suffix, suffix-refl, suffix-cons, suffix-trans}
@@ -21,9 +11,6 @@ Strict r s = Suffix r s × (length r < length s)
 
 pub strict-then : {r m s : Text} → Strict m s → Suffix r m → Strict r s
 strict-then h k = let a = k.within in let b = h.1 in (suffix-trans k h.0, omega arith)
-
-then-strict : {r m s : Text} → Suffix m s → Strict r m → Strict r s
-then-strict h k = let a = h.within in let b = k.1 in (suffix-trans k.0 h, omega arith)
 
 pub one-strict : {p : Text → Bool} {s r : Text} → One p s r → Strict r s
 one-strict (One.one {c} {s} e) = (suffix-cons c (suffix-refl s), omega arith)
@@ -63,6 +50,11 @@ escape-suffix (Escape.simple (both a b)) = suffix-trans (one-strict b).0 (one-st
 escape-suffix (Escape.digits (both a (both b w))) = suffix-trans (upto-suffix w) (suffix-trans (one-strict b).0 (one-strict a).0)
 escape-suffix (Escape.hexes (both a (both b w))) = suffix-trans (times-suffix w) (suffix-trans (one-strict b).0 (one-strict a).0)
 
+pub bad-strict : {b q : Text} {j : ℕ} → BadEscape b j q → Strict q b
+bad-strict (BadEscape.e12 o) = one-strict o
+bad-strict (BadEscape.e13 n l (both a (both b w)) z) = strict-then (one-strict a) (suffix-trans (times-suffix w) (one-strict b).0)
+bad-strict (BadEscape.e14 o z) = one-strict o
+
 pub single-suffix : {p : Bool} {s r : Text} → Single p s r → Suffix r s
 single-suffix Single.done = suffix-refl _
 single-suffix (Single.char {c} e w) = suffix-cons c (single-suffix w)
@@ -74,19 +66,14 @@ body-strict p (Body.triple e (both a (both w (both b l)))) =
     strict-then (times-strict 2 a) (suffix-trans (suffix-trans (run-suffix quote l.0) (times-suffix b)) (run-suffix _ w))
 
 ident-strict : (s r : Text) → Ident s r → Strict r s
-ident-strict s r h = go h.0
-  where
-    go : (One (headIs isIdStart) then Chunks then Tail) s r → Strict r s
-    go (both {m} o w) = strict-then (one-strict o) (rest-suffix m r w)
-
-operator-strict : (s r : Text) → Operator s r → Strict r s
-operator-strict s r h = run1-strict freeSign h.0
+ident-strict s r (both {m} o w, l) = strict-then (one-strict o) (rest-suffix m r w)
 
 backtick-strict : (s r : Text) → Backtick s r → Strict r s
 backtick-strict s r (both a (both w b)) = strict-then (one-strict a) (suffix-trans (one-strict b).0 (run1-strict notBacktick w).0)
 
 digits-strict : {v : ℕ} {s r : Text} → Digits v s r → Strict r s
-digits-strict (Digits.hex {s} e h) = then-strict (drop-suffix 2 s) (run1-strict hexDigit h.0)
+digits-strict (Digits.hex {s} e h) =
+    let d = drop-suffix 2 s in let k = run1-strict hexDigit h.0 in (suffix-trans k.0 d, omega (arith, d.within, k.1))
 digits-strict (Digits.dec e h) = run1-strict digit h.0
 
 number-strict : (long : Bool) {v : ℕ} (s r : Text) → NumberText long v s r → Strict r s
@@ -97,68 +84,32 @@ pub prefix-strict : (s r : Text) → Prefix s r → Strict r s
 prefix-strict s r (inl h) = ident-strict s r h.0
 prefix-strict s r (inr h) = backtick-strict s r h
 
-str-strict : (s r : Text) → Str s r → Strict r s
-str-strict s r (inl b) = body-strict false b
-str-strict s r (inr (both {m} p b)) = strict-then (prefix-strict s m p) (body-strict true b).0
-
-character-strict : (s r : Text) → Character s r → Strict r s
-character-strict s r (inl (both a (both e b))) = strict-then (one-strict a) (suffix-trans (one-strict b).0 (escape-suffix e))
-character-strict s r (inr (both a (both e b))) = strict-then (one-strict a) (suffix-trans (one-strict b).0 (one-strict e).0)
-
-name-suffix : (s r : Text) → Name s r → Suffix r s
-name-suffix s r (inl h) = (ident-strict s r h).0
-name-suffix s r (inr (inl h)) = (operator-strict s r h).0
-name-suffix s r (inr (inr h)) = (one-strict h.0).0
-
-symbol-strict : (s r : Text) → Symbol s r → Strict r s
-symbol-strict s r h = go h.0
-  where
-    go : (One apostrophe then Name) s r → Strict r s
-    go (both {m} o w) = strict-then (one-strict o) (name-suffix m r w)
-
-line-end-strict : (s r : Text) → LineEnd s r → Strict r s
-line-end-strict s r (inl o) = one-strict o
-line-end-strict s r (inr h) = pair-strict h
-
-line-strict : (s r : Text) → LineComment s r → Strict r s
-line-strict s r h = go h.0
-  where
-    go : (Times (isAny "/") 2 then Run (λ t. not (endOfLine t))) s r → Strict r s
-    go (both a w) = strict-then (times-strict 1 a) (run-suffix _ w)
-
 token-strict : (y : TokenType) (s r : Text) → TokenShape y s r → Strict r s
 unfolding TokenShape
 token-strict TokenType.ident s r h = ident-strict s r h.0.0
-token-strict TokenType.opId s r h = operator-strict s r h.0
+token-strict TokenType.opId s r h = run1-strict freeSign h.0.0
 token-strict TokenType.backtickId s r h = backtick-strict s r h.0
 token-strict TokenType.intLit s r h = number-strict false s r h.1
 token-strict TokenType.longLit s r h = number-strict true s r h.1
-token-strict TokenType.str s r h = str-strict s r h
-token-strict TokenType.charSym s r (inl h) = character-strict s r h
-token-strict TokenType.charSym s r (inr h) = symbol-strict s r h
-token-strict TokenType.lParen s r h = one-strict h
-token-strict TokenType.rParen s r h = one-strict h
-token-strict TokenType.lBracket s r h = one-strict h
-token-strict TokenType.rBracket s r h = one-strict h
-token-strict TokenType.lBrace s r h = one-strict h
-token-strict TokenType.rBrace s r h = one-strict h
-token-strict TokenType.comma s r h = one-strict h
-token-strict TokenType.semi s r h = one-strict h
-token-strict TokenType.dot s r h = one-strict h
+token-strict TokenType.str s r (inl b) = body-strict false b
+token-strict TokenType.str s r (inr (both {m} p b)) = strict-then (prefix-strict s m p) (body-strict true b).0
+token-strict TokenType.charSym s r (inl (inl (both a (both e b)))) = strict-then (one-strict a) (suffix-trans (one-strict b).0 (escape-suffix e))
+token-strict TokenType.charSym s r (inl (inr (both a (both e b)))) = strict-then (one-strict a) (suffix-trans (one-strict b).0 (one-strict e).0)
+token-strict TokenType.charSym s r (inr (both {m} o (inl h), nc, k)) = strict-then (one-strict o) (ident-strict m r h).0
+token-strict TokenType.charSym s r (inr (both o (inr (inl h)), nc, k)) = strict-then (one-strict o) (run1-strict freeSign h.0).0
+token-strict TokenType.charSym s r (inr (both o (inr (inr h)), nc, k)) = strict-then (one-strict o) (one-strict h.0).0
 token-strict (TokenType.key k) s r (inl h) = ident-strict s r h.0
-token-strict (TokenType.key k) s r (inr h) = operator-strict s r h.0
-
-shape-strict : (k : Kind) (s r : Text) → HasShape k s r → Strict r s
-unfolding HasShape
-shape-strict Kind.blank s r h = one-strict h
-shape-strict Kind.lineEnd s r h = line-end-strict s r h
-shape-strict Kind.lineComment s r h = line-strict s r h
-shape-strict Kind.blockComment s r h = block-strict h
-shape-strict (Kind.token y) s r h = token-strict y s r h
+token-strict (TokenType.key k) s r (inr h) = run1-strict freeSign h.0.0
+token-strict _ s r h = one-strict h
 
 pub stands-strict : (k : Kind) (s r : Text) → Stands k s r → Strict r s
-unfolding Stands
-stands-strict k s r h = shape-strict k s r h.0
+unfolding Stands HasShape
+stands-strict Kind.blank s r (h, z) = one-strict h
+stands-strict Kind.lineEnd s r (inl h, z) = one-strict h
+stands-strict Kind.lineEnd s r (inr h, z) = pair-strict h
+stands-strict Kind.lineComment s r ((both a w, h), z) = strict-then (times-strict 1 a) (run-suffix _ w)
+stands-strict Kind.blockComment s r (h, z) = block-strict h
+stands-strict (Kind.token y) s r (h, z) = token-strict y s r h
 
 -- a LongLit and a string take at least two
 body-two : (p : Bool) {s r : Text} → Body p s r → length r + 2 ≤ length s
@@ -170,17 +121,11 @@ body-two p (Body.triple e (both a (both w (both b l)))) =
     let v = (run-suffix quote l.0).within in
     omega arith
 
-str-two : (s r : Text) → Str s r → length r + 2 ≤ length s
-str-two s r (inl b) = body-two false b
-str-two s r (inr (both {m} p b)) = let x = (prefix-strict s m p).1 in let y = (body-strict true b).1 in omega arith
-
-long-two : {v : ℕ} (s r : Text) → NumberText true v s r → length r + 2 ≤ length s
-long-two s r (both d o) = let x = (digits-strict d).1 in let y = (one-strict o).1 in omega arith
-
 pub two-str : (s r : Text) → Stands (Kind.token TokenType.str) s r → length r + 2 ≤ length s
 unfolding Stands HasShape TokenShape
-two-str s r h = str-two s r h.0
+two-str s r (inl b, z) = body-two false b
+two-str s r (inr (both {m} p b), z) = let x = (prefix-strict s m p).1 in let y = (body-strict true b).1 in omega arith
 
 pub two-long : (s r : Text) → Stands (Kind.token TokenType.longLit) s r → length r + 2 ≤ length s
 unfolding Stands HasShape TokenShape
-two-long s r h = long-two s r h.0.1
+two-long s r ((v, both d o, l), z) = let x = (digits-strict d).1 in let y = (one-strict o).1 in omega arith

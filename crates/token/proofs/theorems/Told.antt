@@ -1,21 +1,9 @@
 -- Each refusal of a script has its number, so that what the code answers with tells the number that is met.
-use Prim.Native.Nat.{ℕ, zero, suc, ◌-◌}
-use mathlib.Core.Path.{◌≡◌, refl, subst}
-use mathlib.Core.Bool.{Bool, true, false, cond, not, ◌&&◌}
-use mathlib.Core.List.{List, [], ◌∷◌}
-use lib.ListN.{length, drop}
-use lib.Dec.{leb}
-use Rattle.std.proofs.Math.Option.{Option, none, some}
-use Rattle.chars.specs.paper.Text.{Text, from, place, headIs}
-use Rattle.chars.specs.paper.Classes.{isIdStart}
-use Rattle.token.specs.paper.Tests.{isDigit, isHexDigit, isAny, begins, opensComment, quote, threeQuotes, backslash, dollarBrace, hexAhead, letterL, opSign, freeSign, apostrophe, plainChar}
-use Rattle.token.specs.paper.Kinds.{wordOf, Token}
-use Rattle.token.specs.computed.Flags.{Gap, GapKind, fresh, push, cutOf}
-use Rattle.token.specs.declared.kinds.Kw.{Kw}
-use Rattle.token.specs.declared.kinds.TokenKind.{TokenKind}
+use Rattle.std.proofs.Common.{ℕ, zero, suc, ◌≡◌, refl, subst, Bool, true, false, cond, not, ◌&&◌, List, [], ◌∷◌, drop, leb}
+use Rattle.token.proofs.theorems.Words.{Text, headIs, isIdStart, isDigit, isHexDigit, isAny, begins, opensComment, quote, threeQuotes, backslash, dollarBrace, hexAhead, letterL, opSign, freeSign, apostrophe, plainChar, wordOf, TokenKind, Found, codesTo, scanReturn, scanLine, close, blockOr, scanBlock, numeral, readDigits, numberOf, scanNumber, Esc, unbroken, broken, exactHexes, afterSlash, Closing, closed, wrong, closePlain, closePrefixed, closeTriple, closeString, plainOf, scanString, prefixedOf, orPrefixed, afterIdent, wordOr, scanIdent, runOr, scanOperator, backtickOr, scanBacktick, escapedOf, scanCharSym, Start, startOf, scanAs, scan, refused, answer, runOf, notBacktick, afterRun, Met, BadEscape, none, some}
 use Rattle.token.specs.declared.kinds.TokenKind.TheVariants as tk
-use Rattle.token.specs.computed.Answer.{Found, codesTo, scanReturn, scanLine, close, blockOr, scanBlock, Numeral, numeral, readDigits, numberOf, scanNumber, Esc, unbroken, broken, exactHexes, afterSlash, Closing, closed, wrong, closePlain, closePrefixed, closeTriple, closeString, plainOf, scanString, prefixedOf, orPrefixed, afterIdent, wordOr, scanIdent, runOr, scanOperator, backtickOr, scanBacktick, tickNext, escapedOf, scanCharSym, Start, startOf, scanAs, scan, Answer, tokenized, refused, prepend, gapBefore, walk, answer}
 use Rattle.token.specs.code.Refusal.{refusalBy, OfRefusal, Numbered}
+use Rattle.token.proofs.theorems.Theorems.{refusal}
 
 -- ---- what a scanner gives refuses with the number of a refusal, if it refuses
 
@@ -58,11 +46,11 @@ unfolding closePlain refusalBy
 plain k [] = refl
 plain (suc k) (c ∷ s) = plain k s
 plain zero (c ∷ s) =
-    either ToldEnd (quote (c ∷ s)) tt (either ToldEnd (isAny "\n" (c ∷ s)) refl (either ToldEnd (backslash (c ∷ s)) (go (λ n. plain n s) (afterSlash s) (slash s)) (plain 0 s)))
-  where
-    go : ((n : ℕ) → ToldEnd (closePlain n s)) → (e : Esc) → ToldEscape e → ToldEnd (elim e [ unbroken n ↦ closePlain n s | broken j q ↦ wrong j q ])
-    go more (unbroken n) h = more n
-    go more (broken j q) h = h
+    either ToldEnd (quote (c ∷ s)) tt (either ToldEnd (isAny "\n" (c ∷ s)) refl (either ToldEnd (backslash (c ∷ s)) ((elim (afterSlash s)
+    as (λ e. ToldEscape e → ToldEnd (elim e [ unbroken n ↦ closePlain n s | broken j q ↦ wrong j q ])) [
+      | unbroken n ↦ λ h. plain n s
+      | broken j q ↦ λ h. h
+    ]) (slash s)) (plain 0 s)))
 
 prefixed : (s : Text) → ToldEnd (closePrefixed s)
 unfolding closePrefixed refusalBy
@@ -98,140 +86,80 @@ or-prefixed n k s r = either Told (quote r) (prefixed-told n s (closeString true
 
 -- ---- the other pieces
 
-return : (s : Text) → Told (scanReturn s)
-unfolding scanReturn refusalBy
-return s = either Told (begins "\r\n" s) tt refl
-
-block : (s : Text) → Told (scanBlock s)
-unfolding scanBlock refusalBy
-block s = go (close 0 0 (drop 2 s))
-  where
-    go : (r : Option Text) → Told (blockOr s r)
-    go none = refl
-    go (some r) = tt
-
 number : (s : Text) → Told (scanNumber s)
 unfolding scanNumber refusalBy
-number s = go (cond (hexAhead s) (readDigits isHexDigit 16 0 (drop 2 s)) (readDigits isDigit 10 0 s))
-  where
-    go : (n : Numeral) → Told (numberOf s n)
-    go (numeral v r) =
-        either Told (letterL r) (either Told (leb v 9223372036854775807) tt refl) (either Told (leb v 2147483647) tt refl)
+number s = elim (cond (hexAhead s) (readDigits isHexDigit 16 0 (drop 2 s)) (readDigits isDigit 10 0 s)) as (λ n. Told (numberOf s n)) [
+  | numeral v r ↦ either Told (letterL r) (either Told (leb v 9223372036854775807) tt refl) (either Told (leb v 2147483647) tt refl)
+]
 
 ident : (n : ℕ) (s : Text) → Told (scanIdent n s)
 unfolding scanIdent
-ident n s = let r = afterIdent false (drop 1 s) in go r (wordOf (codesTo s r))
-  where
-    go : (r : Text) (w : Option Kw) → Told (wordOr n s r w)
-    go r none = or-prefixed n tk.Ident s r
-    go r (some k) = tt
+ident n s =
+    let r = afterIdent false (drop 1 s) in
+    elim (wordOf (codesTo s r)) as (λ w. Told (wordOr n s r w)) [ none ↦ or-prefixed n tk.Ident s r | some k ↦ tt ]
 
 operator : (s : Text) → Told (scanOperator s)
 unfolding scanOperator
-operator s = go _ _
-  where
-    go : (r : Text) (w : Option Kw) → Told (runOr r w)
-    go r none = tt
-    go r (some k) = either Told (opensComment r) tt tt
+operator s =
+    let r = afterRun freeSign s in
+    elim (runOf (codesTo s r)) as (λ w. Told (runOr r w)) [ none ↦ tt | some k ↦ either Told (opensComment r) tt tt ]
 
 backtick : (n : ℕ) (s : Text) → Told (scanBacktick n s)
 unfolding scanBacktick refusalBy
-backtick n s = either Told (isAny "`" (drop 1 s)) refl (go _)
-  where
-    go : (r : Text) → Told (backtickOr n s r)
-    go [] = refl
-    go (c ∷ r) = or-prefixed n tk.BacktickId s r
-
-tick : (s : Text) → Told (tickNext s)
-unfolding refusalBy
-tick s = either Told (apostrophe s) tt refl
+backtick n s =
+    either Told (isAny "`" (drop 1 s)) refl
+    (elim (afterRun notBacktick (drop 1 s)) as (λ r. Told (backtickOr n s r)) [ [] ↦ refl | c ∷ r ↦ or-prefixed n tk.BacktickId s r ])
 
 symbol : (s : Text) → Told (scanCharSym s)
 unfolding scanCharSym refusalBy
 symbol s =
     let m = drop 1 s in
-    either Told (backslash m) (go (afterSlash (drop 1 m)) (slash (drop 1 m)))
+    either Told (backslash m) ((elim (afterSlash (drop 1 m)) as (λ e. ToldEscape e → Told (escapedOf (drop 1 m) e)) [
+      | unbroken k ↦ λ h. either Told (apostrophe (drop k (drop 1 m))) tt refl
+      | broken j q ↦ λ h. h
+    ]) (slash (drop 1 m)))
     (either Told (plainChar m && apostrophe (drop 1 m)) tt
     (either Told (headIs isIdStart m) tt (either Told (freeSign m) tt (either Told (isAny ";" m && not (opSign (drop 1 m))) tt refl))))
-  where
-    go : (e : Esc) → ToldEscape e → Told (escapedOf (drop 1 (drop 1 s)) e)
-    go (unbroken k) h = tick (drop k (drop 1 (drop 1 s)))
-    go (broken j q) h = h
 
 piece : (n : ℕ) (s : Text) → Told (scan n s)
-unfolding scan scanLine refusalBy
-piece n s = go (startOf s)
-  where
-    go : (x : Start) → Told (scanAs n x s)
-    go Start.blank = tt
-    go Start.lf = tt
-    go Start.cr = return s
-    go Start.line = tt
-    go Start.block = block s
-    go Start.sign = tt
-    go Start.number = number s
-    go Start.word = ident n s
-    go Start.operator = operator s
-    go Start.backtick = backtick n s
-    go Start.string = string n s
-    go Start.charSym = symbol s
-    go Start.other = refl
+unfolding scan scanLine scanReturn scanBlock refusalBy
+piece n s = elim (startOf s) as (λ x. Told (scanAs n x s)) [
+  | Start.cr ↦ either Told (begins "\r\n" s) tt refl
+  | Start.block ↦ elim (close 0 0 (drop 2 s)) as (λ r. Told (blockOr s r)) [ none ↦ refl | some r ↦ tt ]
+  | Start.number ↦ number s
+  | Start.word ↦ ident n s
+  | Start.operator ↦ operator s
+  | Start.backtick ↦ backtick n s
+  | Start.string ↦ string n s
+  | Start.charSym ↦ symbol s
+  | Start.other ↦ refl
+  | _ ↦ tt
+]
 
--- ---- the whole script
+-- ---- the whole script, which refuses with what is met
 
-abbrev ToldAnswer : Answer → Type 0
-ToldAnswer (tokenized ts) = Unit {0}
-ToldAnswer (refused j a) = OfRefusal j
-
-prepended : (t : Token) (w : Answer) → ToldAnswer w → ToldAnswer (prepend t w)
-prepended t (tokenized ts) h = tt
-prepended t (refused j a) h = h
-
-before : (p : GapKind) (a e : ℕ) (mark : Bool) (w : Answer) → ToldAnswer w → ToldAnswer (gapBefore p a e mark w)
-before GapKind.blank a e mark w h = h
-before GapKind.lineEnd a e mark w h = prepended (record { kind = tk.Newline mark; start = a; end = e; cut = false }) w h
-before GapKind.lineComment a e mark w h = h
-before GapKind.blockComment a e mark w h = h
-
-walked : (n k : ℕ) (g : Gap) (s : Text) → ToldAnswer (walk n k g s)
-unfolding walk
-walked n k g [] = tt
-walked n (suc k) g (c ∷ s) = walked n k g s
-walked n zero g (c ∷ s) = go (λ k g. walked n k g s) (scan n (c ∷ s)) (piece n (c ∷ s))
-  where
-    go : ((k : ℕ) (g : Gap) → ToldAnswer (walk n k g s)) → (x : Found) → Told x
-        → ToldAnswer (elim x [
-          | Found.gap p r ↦ gapBefore p c.at (place n r) g.comment (walk n (length s - length r) (push p g) s)
-          | Found.token t r ↦ prepend (record { kind = t; start = c.at; end = place n r; cut = cutOf g }) (walk n (length s - length r) fresh s)
-          | Found.stuck j q ↦ refused j (place n q)
-        ])
-    go more (Found.gap p r) h = before p c.at (place n r) g.comment _ (more (length s - length r) (push p g))
-    go more (Found.token t r) h = prepended (record { kind = t; start = c.at; end = place n r; cut = cutOf g }) _ (more (length s - length r) fresh)
-    go more (Found.stuck j q) h = h
+met-number : {s q : Text} {j : ℕ} → Met s j q → OfRefusal j
+unfolding refusalBy
+met-number (Met.m12 h (BadEscape.e12 o)) = refl
+met-number (Met.m12 h _) = refl
+met-number _ = refl
 
 -- ---- what the code's contracts ask for
 
-told : (x : Found) {j : ℕ} {q : Text} → Told x → x ≡ Found.stuck j q → OfRefusal j
-told x h e = subst Told e h
-
-told-escape : (x : Esc) {j : ℕ} {q : Text} → ToldEscape x → x ≡ broken j q → OfRefusal j
-told-escape x h e = subst ToldEscape e h
-
 pub refused-number : (script : List ℕ) (j a : ℕ) → answer script ≡ refused j a → OfRefusal j
-unfolding answer
-refused-number script j a e = subst ToldAnswer e (walked (length script) 0 fresh (from script 0))
+refused-number script j a e = met-number ((refusal script j a).0 e).first.met
 
 pub numbered : Numbered
 numbered =
     record {
-      piece = λ n s q j. told (scan n s) (piece n s);
-      number = λ s q j. told (scanNumber s) (number s);
-      ident = λ n s q j. told (scanIdent n s) (ident n s);
-      operator = λ s q j. told (scanOperator s) (operator s);
-      backtick = λ n s q j. told (scanBacktick n s) (backtick n s);
-      string = λ n s q j. told (scanString n s) (string n s);
-      prefixed = λ n s r q j. told (prefixedOf n s (closeString true r)) (prefixed-told n s (closeString true r) (closing true r));
-      symbol = λ s q j. told (scanCharSym s) (symbol s);
-      escape = λ s q j. told-escape (afterSlash s) (slash s);
+      piece = λ n s q j e. subst Told e (piece n s);
+      number = λ s q j e. subst Told e (number s);
+      ident = λ n s q j e. subst Told e (ident n s);
+      operator = λ s q j e. subst Told e (operator s);
+      backtick = λ n s q j e. subst Told e (backtick n s);
+      string = λ n s q j e. subst Told e (string n s);
+      prefixed = λ n s r q j e. subst Told e (prefixed-told n s (closeString true r) (closing true r));
+      symbol = λ s q j e. subst Told e (symbol s);
+      escape = λ s q j e. subst ToldEscape e (slash s);
       script = refused-number;
     }

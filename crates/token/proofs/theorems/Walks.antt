@@ -1,24 +1,9 @@
 -- The whole script: the computed answer is what is declared.
-use Prim.Native.Nat.{ℕ, zero, suc, ◌≤◌, ◌<◌, ◌+◌, ◌*◌, ◌-◌}
-use mathlib.Core.Path.{◌≡◌, refl, sym, ◌∙◌, ap}
-use mathlib.Core.Bool.{Bool, true, false}
-use mathlib.Core.Logic.{◌⊎◌, inl, inr, ◌↔◌}
-use mathlib.Core.List.{List, [], ◌∷◌, ◌++◌}
-use lib.ListN.{length, drop}
-use native.Mathlib.Omega.{arith}
-use Rattle.chars.specs.paper.Text.{Char, Text, from, place}
-use Rattle.chars.specs.promises.Texts.{ScriptText}
-use Rattle.chars.proofs.theorems.Promises.{text-laws}
-use Rattle.token.specs.paper.Kinds.{Kind, TokenType, isComment, Token}
-use Rattle.token.specs.paper.Shapes.{Stands}
-use Rattle.token.specs.paper.Reading.{Piece, Pieces, Valued, Tokens, AfterComment, Cut}
-use Rattle.token.specs.paper.Records.{values, recordLength, perByte, mostNeed, recordBytes}
+use Rattle.std.proofs.Common.{ℕ, zero, suc, ◌≤◌, ◌<◌, ◌+◌, ◌*◌, ◌-◌, ◌≡◌, refl, sym, ◌∙◌, ap, Bool, true, false, ◌⊎◌, inl, inr, ◌↔◌, List, [], ◌∷◌, ◌++◌, length, drop, arith}
+use Rattle.token.proofs.theorems.Words.{Char, Text, from, place, ScriptText, text-laws, Kind, TokenType, isComment, Token, Stands, Piece, Pieces, Valued, Tokens, AfterComment, Cut, values, recordLength, perByte, mostNeed, recordBytes, Gap, GapKind, fresh, push, cutOf, Found, scan, Answer, tokenized, refused, prepend, gapBefore, walk, answer, TokenKind}
 use Rattle.words.specs.Words.{le4, le8}
-use Rattle.token.specs.computed.Flags.{Gap, GapKind, fresh, push, cutOf}
-use Rattle.token.specs.computed.Answer.{Found, scan, Answer, tokenized, refused, prepend, gapBefore, walk, answer}
-use Rattle.token.specs.declared.kinds.TokenKind.{TokenKind}
 use Rattle.token.specs.declared.kinds.TokenKind.TheVariants as tk
-use Rattle.token.proofs.theorems.Ticks.{Fell}
+use Rattle.token.proofs.theorems.Operators.{Fell}
 use Rattle.token.proofs.theorems.Dispatch.{Hit, Scanned, scan-stands}
 use Rattle.token.proofs.theorems.Unique.{bare-kind, fell-none}
 use Rattle.token.proofs.theorems.Shorter.{Strict, stands-strict, two-str, two-long}
@@ -124,47 +109,37 @@ module _ (script : List ℕ) where
 
   pub walk-finds : (fuel : ℕ) (s : Text) (gap : List Piece) (f : Gap) → length s ≤ fuel → ScriptText script s → Knows script gap f s
       → Walked script gap s (walk (length script) 0 f s)
-  walk-finds zero [] gap f l t K =
-      Walked.reads [] _ (walk-end (length script) f) Pieces.done (Tokens.eof (cut-here K end-ends)) (eof-bytes (length script) (cutOf f))
-  walk-finds (suc fuel) [] gap f l t K =
-      Walked.reads [] _ (walk-end (length script) f) Pieces.done (Tokens.eof (cut-here K end-ends)) (eof-bytes (length script) (cutOf f))
   walk-finds zero (c ∷ s) gap f l t K = absurd (omega arith)
-  walk-finds (suc fuel) (c ∷ s) gap f l t K = go (scan-stands (length script) c s) (λ r gap f h t K. walk-finds fuel r gap f h t K)
+  walk-finds (suc fuel) (c ∷ s) gap f l t K = elim (scan-stands (length script) c s) [
+    | Scanned.hit {k} {r} h e ↦
+        let m = stands-strict k (c ∷ s) r h in
+        let u = text-suffix script r (c ∷ s) m.0 t in
+        let a = m.1 in
+        by k r h m u e (λ gap f K. walk-finds fuel r gap f (omega arith) u K)
+    | Scanned.fell h ↦ Walked.stops [] c s h (walk-stuck (length script) f c s h.rest h.number h.found) Pieces.done (fell-none (length script) (c ∷ s) h)
+  ]
     where
-      n : ℕ
-      n = length script
-
-      Below : Type 0
-      Below =
-          (r : Text) (gap : List Piece) (f : Gap) → length r ≤ fuel → ScriptText script r → Knows script gap f r → Walked script gap r
-          (walk (length script) 0 f r)
-
-      shorter : (r : Text) → Strict r (c ∷ s) → length r ≤ fuel
-      shorter r h = let a = h.1 in omega arith
-
-      by : (k : Kind) (r : Text) → Stands k (c ∷ s) r → Strict r (c ∷ s) → ScriptText script r
-          → Hit (length script) (c ∷ s) r (scan (length script) (c ∷ s)) k → Below → Walked script gap (c ∷ s) (walk (length script) 0 f (c ∷ s))
+      by : (k : Kind) (r : Text) → Stands k (c ∷ s) r → Strict r (c ∷ s) → ScriptText script r → Hit (length script) (c ∷ s) r (scan (length script) (c ∷ s)) k
+          → ((gap : List Piece) (f : Gap) → Knows script gap f r → Walked script gap r (walk (length script) 0 f r))
+          → Walked script gap (c ∷ s) (walk (length script) 0 f (c ∷ s))
       by k r h m u (Hit.blank e) below =
-          skipped gap Kind.blank (c ∷ s) r _ _ (walk-gap n f c s r GapKind.blank e m) (inl refl) h
-          (below r _ f (shorter r m) u (knows-blank script gap f (c ∷ s) K _ r refl (blank-same (c ∷ s) r h)))
+          skipped gap Kind.blank (c ∷ s) r _ _ (walk-gap _ f c s r GapKind.blank e m) (inl refl) h
+          (below _ f (knows-blank script gap f (c ∷ s) K _ r refl (blank-same (c ∷ s) r h)))
       by k r h m u (Hit.lineEnd e) below =
-          ended gap f.comment (c ∷ s) r _ _ (walk-gap n f c s r GapKind.lineEnd e m) K.comment h
-          (below r _ (push GapKind.lineEnd f) (shorter r m) u (knows-end script gap f (c ∷ s) K _ r refl (line-end-ends (c ∷ s) r h)))
+          ended gap f.comment (c ∷ s) r _ _ (walk-gap _ f c s r GapKind.lineEnd e m) K.comment h
+          (below _ (push GapKind.lineEnd f) (knows-end script gap f (c ∷ s) K _ r refl (line-end-ends (c ∷ s) r h)))
       by k r h m u (Hit.lineComment e) below =
-          skipped gap Kind.lineComment (c ∷ s) r _ _ (walk-gap n f c s r GapKind.lineComment e m) (inr refl) h
-          (below r _ (push GapKind.lineComment f) (shorter r m) u (knows-line script gap f (c ∷ s) K _ r refl (other-ends n (c ∷ s) (ap spaces e))))
+          skipped gap Kind.lineComment (c ∷ s) r _ _ (walk-gap _ f c s r GapKind.lineComment e m) (inr refl) h
+          (below _ (push GapKind.lineComment f) (knows-line script gap f (c ∷ s) K _ r refl (other-ends _ (c ∷ s) (ap spaces e))))
       by k r h m u (Hit.blockComment e) below =
-          skipped gap Kind.blockComment (c ∷ s) r _ _ (walk-gap n f c s r GapKind.blockComment e m) (inr refl) h
-          (below r _ (push GapKind.blockComment f) (shorter r m) u
-          (knows-block script gap f (c ∷ s) K _ r refl (other-ends n (c ∷ s) (ap spaces e)) (text-place script r u)))
+          skipped gap Kind.blockComment (c ∷ s) r _ _ (walk-gap _ f c s r GapKind.blockComment e m) (inr refl) h
+          (below _ (push GapKind.blockComment f)
+          (knows-block script gap f (c ∷ s) K _ r refl (other-ends _ (c ∷ s) (ap spaces e)) (text-place script r u)))
       by k r h m u (Hit.token {y} {t = x} e v) below =
-          tokened gap y x (cutOf f) (c ∷ s) r _ _ (walk-token n f c s r x e m) (cut-here K (other-ends n (c ∷ s) (ap spaces e)))
-          (rw (text-place script (c ∷ s) t, text-place script r u) v) h (below r [] fresh (shorter r m) u (knows-fresh script r))
-
-      go : Scanned (length script) (c ∷ s) (scan (length script) (c ∷ s)) → Below → Walked script gap (c ∷ s) (walk (length script) 0 f (c ∷ s))
-      go (Scanned.hit {k} {r} h e) below = let m = stands-strict k (c ∷ s) r h in by k r h m (text-suffix script r (c ∷ s) m.0 t) e below
-      go (Scanned.fell h) below =
-          Walked.stops [] c s h (walk-stuck (length script) f c s h.rest h.number h.found) Pieces.done (fell-none (length script) (c ∷ s) h)
+          tokened gap y x (cutOf f) (c ∷ s) r _ _ (walk-token _ f c s r x e m) (cut-here K (other-ends _ (c ∷ s) (ap spaces e)))
+          (rw (text-place script (c ∷ s) t, text-place script r u) v) h (below [] fresh (knows-fresh script r))
+  walk-finds _ [] gap f l t K =
+      Walked.reads [] _ (walk-end (length script) f) Pieces.done (Tokens.eof (cut-here K end-ends)) (eof-bytes (length script) (cutOf f))
 
   pub answer-finds : Walked script [] (from script 0) (answer script)
   unfolding answer

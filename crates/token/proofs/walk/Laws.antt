@@ -1,29 +1,10 @@
 -- The steps of a walk over a script: each keeps that the state is good, and comes over just what the scanner finds.
-use Prim.Native.Nat.{ℕ, ◌+◌, ◌-◌, ◌*◌, ◌/◌, ◌≤◌, ◌<◌}
-use mathlib.Core.Path.{◌≡◌, refl, sym, ◌∙◌, ap, subst}
-use mathlib.Core.Bool.{Bool, true, false}
-use mathlib.Core.List.{List}
-use lib.ListN.{length}
-use lib.Dec.{eqb}
-use native.Mathlib.Omega.{arith}
-use borrow.Author.Tests.{eq-eqb, ne_eqb}
-use Rattle.std.specs.Prelude.{Err}
-use Rattle.chars.specs.paper.Text.{Text, from, place}
-use Rattle.token.specs.computed.Answer.{Found, scan}
-use Rattle.token.specs.paper.Kinds.{Token}
-use Rattle.token.specs.paper.Records.{headLength, lineLength, recordLength, recordOf}
-use Rattle.token.specs.computed.Flags.{fresh}
-use Rattle.token.specs.code.ByteClass.{classAt}
-use Rattle.token.specs.code.Records.{storedIf, lineEndAt, trail, answerOf, State, trailFrom, Reaches}
-use Rattle.token.specs.code.Refusal.{refusalBy}
-use Rattle.token.specs.code.Names.{hereOf}
-use Rattle.token.specs.code.Walk.{gapOf, gapAt, countAt, stateAt, Good, movedTo, lineBehind, Refuses, Steps}
-use Rattle.token.specs.declared.walk.Stand.{Stand}
-use Rattle.token.specs.declared.refusal.Refused.{Refused}
+use Rattle.token.proofs.lexer.Words.{ℕ, ◌+◌, ◌-◌, ◌*◌, ◌/◌, ◌≤◌, ◌<◌, ◌≡◌, refl, sym, ◌∙◌, ap, subst, Bool, true, false, List, length, eqb, arith, eq-eqb, ne_eqb, Err, Text, from, place, Found, scan, Token, headLength, lineLength, recordLength, recordOf, fresh, classAt, storedIf, lineEndAt, trail, answerOf, State, trailFrom, Reaches, refusalBy, hereOf, gapOf, gapAt, countAt, stateAt, Good, movedTo, lineBehind, Refuses, Steps, Stand, Refused, text-laws}
 use Rattle.token.proofs.lexer.Trails.{stores-stop}
 use Rattle.token.proofs.lexer.Turns.{Turn, turn-stop}
 use Rattle.token.proofs.records.Measures.{newline-length, measured-stop}
 use Rattle.token.proofs.records.Reach.{reach-start, reach-trans, reach-same, reach-turn}
+open text-laws use {place-from}
 
 pub at-is : {y z : Stand} → y ≡ z → y.at ≡ z.at
 at-is e = ap (λ (w : Stand). w.at) e
@@ -104,3 +85,6 @@ module _ {s : List ℕ} {x : Stand} (h : x.at < length s) where
         counted = sym (measured-stop _ j (place (length s) q) (countAt x) x.bytes (ap answerOf w)) ∙ ap (λ z. Err z) (sym r);
         stored = sym (stores-stop _ j (place (length s) q) out x.bytes w);
       }
+
+  pub refuses-here : (j : ℕ) → scan (length s) (from s x.at) ≡ Found.stuck j (from s x.at) → (out : List ℕ) → Refuses s x out (record { what = refusalBy j; place = x.at })
+  refuses-here j f out = refuses j (from s x.at) f _ (ap (λ p. record { what = refusalBy j; place = p }) (sym (place-from s x.at (omega arith)))) out

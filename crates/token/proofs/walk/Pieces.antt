@@ -1,57 +1,23 @@
 -- What stands where a walk stands, by the class of its byte and by what the readers found there: the step past it.
-use Prim.Native.Nat.{ℕ, ◌+◌, ◌-◌, ◌*◌, ◌≤◌, ◌<◌}
-use mathlib.Core.Path.{◌≡◌, refl, sym, ◌∙◌, ap, subst}
-use mathlib.Core.Bool.{Bool, true, false, not, ◌||◌}
-use mathlib.Core.List.{List, [], append-nil}
-use lib.ListN.{length, drop, get_or}
-use lib.Dec.{eqb}
-use native.Mathlib.Nat.{add-zero}
-use native.Mathlib.Omega.{arith}
-use Rattle.chars.specs.paper.Quoted.{oneOf}
-use Rattle.chars.specs.paper.Text.{from}
-use Rattle.chars.specs.computed.Runs.{afterRun}
-use Rattle.chars.proofs.theorems.Promises.{text-laws}
-use Rattle.token.specs.paper.Tests.{isAny, opensLine, opensBlock, opensComment}
-use Rattle.token.specs.paper.Kinds.{Token, kindNumber}
-use Rattle.token.specs.paper.Records.{values, headLength, recordLength}
-use Rattle.token.specs.computed.Flags.{Gap, GapKind, fresh, push}
-use Rattle.token.specs.computed.Answer.{scan, close}
-use Rattle.token.specs.code.Ascii.{AsciiToken, signNumber}
-use Rattle.token.specs.code.ByteClass.{classAt, blankClass, lfClass, crClass, upToBlank, inLineEnd}
-use Rattle.token.specs.code.Cursor.{cursorAt}
-use Rattle.token.specs.code.Form.{headNumber, headBytes, formOf, plainForm, byForm}
-use Rattle.token.specs.code.Names.{hereOf}
-use Rattle.token.specs.code.Piece.{pieceOf, pieceNumber, PieceAnswer, tokenTo}
-use Rattle.token.specs.code.Records.{storedIf, lineEndAt, gapGoes, trail}
-use Rattle.token.specs.code.Walk.{gapOf, gapAt, Good, movedTo, plainBehind, valuesBehind, lineBehind, commentBehind, blockBehind, Refuses, Steps}
-use Rattle.token.specs.declared.kinds.TokenKind.{TokenKind}
+use Rattle.token.proofs.lexer.Words.{ℕ, ◌+◌, ◌-◌, ◌*◌, ◌≤◌, ◌<◌, ◌≡◌, refl, sym, ◌∙◌, ap, subst, Bool, true, false, not, ◌||◌, List, [], append-nil, length, drop, get_or, eqb, add-zero, arith, oneOf, from, afterRun, text-laws, isAny, opensLine, opensBlock, opensComment, Token, kindNumber, values, headLength, recordLength, Gap, GapKind, fresh, push, scan, close, classAt, blankClass, lfClass, crClass, upToBlank, inLineEnd, cursorAt, headNumber, headBytes, formOf, plainForm, byForm, hereOf, pieceOf, PieceAnswer, tokenTo, storedIf, lineEndAt, gapGoes, trail, gapOf, gapAt, Good, movedTo, plainBehind, valuesBehind, lineBehind, commentBehind, blockBehind, Refuses, Steps, TokenKind, Stand, eqb-true, eq-eqb, ne_eqb, Cursor, Form, Refused, closedOf, refusalBy, None, Err, and-both, ap₂, signOf}
 use Rattle.token.specs.declared.kinds.TokenKind.TheVariants as tk
-use Rattle.token.specs.declared.walk.Stand.{Stand}
-use Rattle.token.proofs.names.Ascii.{told, bare-length, bare-record, sign-low, sign-number}
+use Rattle.token.proofs.names.Ascii.{sign-bare, sign-found, bare-length, bare-record, sign-low, sign-number}
 use Rattle.token.proofs.byte_class.Laws.{class-signs, class-blank, class-lf, class-cr, class-number}
-use borrow.Author.Tests.{eqb-true, eqb-false, eq-eqb, ne_eqb}
 use Rattle.token.proofs.cursor.Blanks.{one-blank, two-blanks}
 use Rattle.token.proofs.cursor.Bytes.{inside, any-byte}
 use Rattle.token.proofs.form.Laws.{form-record, length-by}
 use Rattle.token.proofs.records.Measures.{record-least}
-use Rattle.token.specs.declared.cursor.Cursor.{Cursor}
-use Rattle.token.specs.declared.kinds.Form.{Form}
-use Rattle.token.specs.declared.refusal.Refused.{Refused}
 use Rattle.token.proofs.form.Stores.{head-fields}
 use Rattle.token.proofs.gap.Scans.{GapTo, lf-found, crlf-found, block-open}
 use Rattle.token.proofs.gap.Laws.{opens-line, opens-block, block-opens}
-use Rattle.token.proofs.names.Laws.{comment-bytes}
-use Rattle.token.specs.code.Gap.{closedOf}
-use Rattle.token.specs.code.Refusal.{refusalBy}
+use Rattle.token.proofs.ident.Laws.{comment_bytes}
 use Rattle.token.specs.declared.refusal.Refusal.TheVariants as refusal
-use Rattle.std.specs.Prelude.{None, Err}
-use Rattle.chars.proofs.Bools.{and-both}
-use Rattle.token.proofs.lexer.Laws.{cr-byte, lone-scan, no-line-end, piece-stuck}
-use Rattle.token.proofs.lexer.Found.{gap-strict, blanks-done}
+use Rattle.token.proofs.lexer.Laws.{lone-scan, piece-stuck}
+use Rattle.token.proofs.lexer.Found.{gap-strict}
 use Rattle.token.proofs.lexer.Trails.{trail-gap, trail-blanks}
 use Rattle.token.proofs.lexer.Turns.{Turn, turn-token, or-false, settled}
-use Rattle.token.proofs.walk.Laws.{step-token, step-line, step-same, step-comment, refuses}
-open text-laws use {at-char, place-from}
+use Rattle.token.proofs.walk.Laws.{step-token, step-line, step-same, step-comment, refuses, refuses-here}
+open text-laws use {run-done, at-char, place-from}
 
 -- ---- gap pieces
 
@@ -66,9 +32,6 @@ gap-trail s p i j g f =
     let e = ap (scan (length s)) (sym t) ∙ f.found in
     ap (trail (length s) 0 g) t ∙ trail-gap (length s) g _ _ (from s j) p e (gap-strict (length s) _ _ p (from s j) e)
     ∙ ap (λ k. gapGoes p i k g.comment (trail (length s) 0 (push p g) (from s j))) (place-from s j w)
-
-pub line-end-turn : (s : List ℕ) (i j : ℕ) (g : Gap) → GapTo s GapKind.lineEnd i j → Turn s i g (lineEndAt i j g.comment) j (push GapKind.lineEnd g)
-line-end-turn s i j g f = record { walked = gap-trail s GapKind.lineEnd i j g f; on = f.on; within = f.within }
 
 -- ---- tokens
 
@@ -96,34 +59,12 @@ module _ {s : List ℕ} {x : Stand} (g : Good s x) (h : x.at < length s) where
       subst (λ n. Steps s x out (record { at = e; class = record { number = classAt s e }; bytes = x.bytes + headLength; values = n; line = x.line; mark = x.mark; cut = false }) next) (add-zero x.values)
       (step-token g (found-here s x e k h f) 0 (bare-length k v) out next (q ∙ ap (storedIf out x.bytes) (sym (bare-record t v))))
 
-  -- recognised from its ASCII bytes
-  pub step-ascii : (e : ℕ) → AsciiToken s x.at e → (n : ℕ) → n ≡ pieceNumber (pieceOf (length s) (scan (length s) (from s x.at))) → (out next : List ℕ)
-      → next ≡ storedIf out x.bytes (byForm (plainForm n) x.at e x.cut) → Steps s x out (plainBehind x (hereOf s e)) next
-  step-ascii e a n r out next q =
-      let t = told s x.at e h a in
-      let z : n ≡ kindNumber t.kind = r ∙ sym (ap pieceNumber t.found) in
-      step-bare t.kind e t.found t.bare out next (q ∙ ap (λ m. storedIf out x.bytes (byForm (plainForm m) x.at e x.cut)) z)
-
 -- ---- by the class
 
 -- an LF or CR, by its class
 line-class : (s : List ℕ) (k : ℕ) → isAny "\n\r" (from s k) ≡ inLineEnd (classAt s k)
-line-class s k = any-byte "\n\r" refl s k ∙ sym (ap (λ b. b || eqb (classAt s k) crClass) (class-lf (get_or s k 0)) ∙ ap (λ b. (eqb (get_or s k 0) 0x0A || false) || b) (class-cr (get_or s k 0)) ∙ go (eqb (get_or s k 0) 0x0A))
-  where
-    go : (b : Bool) → (b || false) || (eqb (get_or s k 0) 0x0D || false) ≡ b || (eqb (get_or s k 0) 0x0D || false)
-    go true = refl
-    go false = refl
-
-sign-inside : (s : List ℕ) (i : ℕ) → oneOf "()[]{},;." (get_or s i 0) ≡ true → i < length s
-sign-inside s i e = inside s i (sign-low (get_or s i 0) e).0
-
-pub or-first : (a b : Bool) → a || b ≡ true → b ≡ false → a ≡ true
-or-first true b e f = refl
-or-first false b e f = sym f ∙ e
-
-pub plain-head : (h k start end : ℕ) (cut : Bool) → h ≡ headNumber headLength k → headBytes h start end cut ≡ byForm (plainForm k) start end cut
-unfolding byForm
-plain-head h k start end cut e = head-fields h headLength k start end cut (omega arith) e ∙ sym (append-nil _)
+line-class s k =
+    any-byte "\n\r" refl s k ∙ ap₂ ◌||◌ (sym (or-false (eqb (get_or s k 0) 0x0A)) ∙ sym (class-lf (get_or s k 0))) (sym (class-cr (get_or s k 0)))
 
 module _ {s : List ℕ} {x : Stand} (g : Good s x) where
   -- one of the nine signs
@@ -131,18 +72,20 @@ module _ {s : List ℕ} {x : Stand} (g : Good s x) where
   sign-here a b =
       let u = sym (class-signs (get_or s x.at 0)) ∙ ap upToBlank (sym g.class) ∙ a in
       let v = sym (class-blank (get_or s x.at 0)) ∙ ap (λ e. eqb e blankClass) (sym g.class) ∙ b in
-      or-first (oneOf "()[]{},;." (get_or s x.at 0)) (oneOf " \t" (get_or s x.at 0)) u v
+      sym (or-false _) ∙ ap (λ z. oneOf "()[]{},;." (get_or s x.at 0) || z) (sym v) ∙ u
 
   pub step-sign : upToBlank x.class.number ≡ true → eqb x.class.number blankClass ≡ false → (out next : List ℕ)
       → next ≡ storedIf out x.bytes (headBytes (headLength + 32768 * x.class.number) x.at (x.at + 1) x.cut) → Steps s x out (plainBehind x (hereOf s (x.at + 1))) next
+  unfolding byForm
   step-sign a b out next q =
       let o = sign-here a b in
-      let h = sign-inside s x.at o in
+      let h = inside s x.at (sign-low (get_or s x.at 0) o).0 in
       let n = class-number (get_or s x.at 0) o in
       let c = g.class in
-      let m = signNumber (get_or s x.at 0) in
-      let z : headLength + 32768 * x.class.number ≡ headNumber headLength m = omega (arith, n, c) in
-      step-ascii g h (x.at + 1) (AsciiToken.sign o refl) m (sign-number s x.at (x.at + 1) h o) out next (q ∙ ap (storedIf out x.bytes) (plain-head _ m x.at (x.at + 1) x.cut z))
+      let m = sign-number s x.at h o in
+      let k = signOf (from s x.at) in
+      let z : headLength + 32768 * x.class.number ≡ headNumber headLength (kindNumber k) = omega (arith, n, c, m) in
+      step-bare g h k (x.at + 1) (sign-found s x.at h o) (sign-bare _) out next (q ∙ ap (storedIf out x.bytes) (head-fields _ headLength (kindNumber k) x.at (x.at + 1) x.cut (omega arith) z ∙ sym (append-nil _)))
 
   -- blanks
   pub step-blanks : (k : ℕ) → x.at ≤ k → k ≤ length s → from s k ≡ afterRun (isAny " \t") (from s x.at) → (out : List ℕ) → Steps s x out (movedTo x (hereOf s k)) out
@@ -153,7 +96,7 @@ module _ {s : List ℕ} {x : Stand} (g : Good s x) where
       → next ≡ storedIf out x.bytes (byForm (formOf (tk.Newline (eqb x.mark x.bytes))) x.at e false) → Steps s x out (lineBehind s x e) next
   step-line-end e f out next q =
       let t = lineEndAt x.at e (eqb x.mark x.bytes) in
-      step-line g (line-end-turn s x.at e (gapAt x) f) out next (q ∙ ap (storedIf out x.bytes) (form-record t))
+      step-line g (record { walked = gap-trail s GapKind.lineEnd x.at e (gapAt x) f; on = f.on; within = f.within }) out next (q ∙ ap (storedIf out x.bytes) (form-record t))
 
   -- a line comment
   pub step-line-comment : (e : ℕ) → GapTo s GapKind.lineComment x.at e → (out : List ℕ) → Steps s x out (commentBehind s x e) out
@@ -176,7 +119,7 @@ module _ {s : List ℕ} {x : Stand} (g : Good s x) where
       let o = f.on in
       let c = x.cut || not (isAny "\n\r" (from s k)) in
       let y : push GapKind.blockComment (gapAt x) ≡ record { newline = true; comment = true; pending = true; cut = x.cut } = rw (n, or-false x.cut) in
-      let z = settled (length s) true true x.cut (from s k) (ap (isAny " \t") b ∙ blanks-done (from s e)) in
+      let z = settled (length s) true true x.cut (from s k) (ap (isAny " \t") b ∙ run-done (isAny " \t") refl (from s e)) in
       let p : gapOf true true c ≡ gapOf (eqb x.line x.bytes) true c = ap (λ d. gapOf d true c) (sym n) in
       subst (λ d. Steps s x out (record { at = k; class = record { number = classAt s k }; bytes = x.bytes; values = x.values; line = x.line; mark = x.bytes; cut = x.cut || not d }) out)
       (line-class s k)
@@ -192,27 +135,24 @@ module _ {s : List ℕ} {x : Stand} (g : Good s x) where
   blank-here : eqb x.class.number blankClass ≡ true → oneOf " \t" (get_or s x.at 0) ≡ true
   blank-here e = sym (class-blank (get_or s x.at 0)) ∙ by-class (λ z. eqb z blankClass) e
 
-  pub step-one-blank : eqb x.class.number blankClass ≡ true → (classAt s (x.at + 1) ≡ blankClass → ⊥) → (out : List ℕ) → Steps s x out (movedTo x (hereOf s (x.at + 1))) out
+  pub step-one-blank : eqb x.class.number blankClass ≡ true → eqb (classAt s (x.at + 1)) blankClass ≡ false → (out : List ℕ) → Steps s x out (movedTo x (hereOf s (x.at + 1))) out
   step-one-blank e n out =
-      let o = one-blank s x.at (blank-here e) (sym (class-blank (get_or s (x.at + 1) 0)) ∙ ne_eqb (classAt s (x.at + 1)) blankClass n) in
+      let o = one-blank s x.at (blank-here e) (sym (class-blank (get_or s (x.at + 1) 0)) ∙ n) in
       step-blanks (x.at + 1) (omega arith) o.0 o.1 out
 
-  blank-next : classAt s (x.at + 1) ≡ blankClass → oneOf " \t" (get_or s (x.at + 1) 0) ≡ true
-  blank-next e = sym (class-blank (get_or s (x.at + 1) 0)) ∙ eq-eqb (classAt s (x.at + 1)) blankClass e
+  pub two-here : eqb x.class.number blankClass ≡ true → eqb (classAt s (x.at + 1)) blankClass ≡ true → x.at + 2 ≤ length s
+  two-here e f = (two-blanks s x.at (blank-here e) (sym (class-blank (get_or s (x.at + 1) 0)) ∙ f)).0
 
-  pub two-here : eqb x.class.number blankClass ≡ true → classAt s (x.at + 1) ≡ blankClass → x.at + 2 ≤ length s
-  two-here e f = (two-blanks s x.at (blank-here e) (blank-next f)).0
-
-  pub step-more-blanks : eqb x.class.number blankClass ≡ true → classAt s (x.at + 1) ≡ blankClass → (k : ℕ) → k ≤ length s → x.at + 2 ≤ k
+  pub step-more-blanks : eqb x.class.number blankClass ≡ true → eqb (classAt s (x.at + 1)) blankClass ≡ true → (k : ℕ) → k ≤ length s → x.at + 2 ≤ k
       → from s k ≡ afterRun (isAny " \t") (from s (x.at + 2)) → (out : List ℕ) → Steps s x out (movedTo x (hereOf s k)) out
-  step-more-blanks e f k w l q out = step-blanks k (omega arith) w (q ∙ (two-blanks s x.at (blank-here e) (blank-next f)).1) out
+  step-more-blanks e f k w l q out = step-blanks k (omega arith) w (q ∙ (two-blanks s x.at (blank-here e) (sym (class-blank (get_or s (x.at + 1) 0)) ∙ f)).1) out
 
   -- line ends
   pub lf-here : eqb x.class.number lfClass ≡ true → GapTo s GapKind.lineEnd x.at (x.at + 1)
-  lf-here e = lf-found s x.at (or-first (eqb (get_or s x.at 0) 0x0A) false (sym (class-lf (get_or s x.at 0)) ∙ by-class (λ z. eqb z lfClass) e) refl)
+  lf-here e = lf-found s x.at (sym (or-false _) ∙ sym (class-lf (get_or s x.at 0)) ∙ by-class (λ z. eqb z lfClass) e)
 
   cr-byte-here : eqb x.class.number crClass ≡ true → eqb (get_or s x.at 0) 0x0D ≡ true
-  cr-byte-here e = or-first (eqb (get_or s x.at 0) 0x0D) false (sym (class-cr (get_or s x.at 0)) ∙ by-class (λ z. eqb z crClass) e) refl
+  cr-byte-here e = sym (or-false _) ∙ sym (class-cr (get_or s x.at 0)) ∙ by-class (λ z. eqb z crClass) e
 
   pub cr-here : eqb x.class.number crClass ≡ true → get_or s (x.at + 1) 0 ≡ 0x0A → GapTo s GapKind.lineEnd x.at (x.at + 2)
   cr-here e n = crlf-found s x.at (rw (cr-byte-here e, eq-eqb (get_or s (x.at + 1) 0) 0x0A n))
@@ -224,29 +164,28 @@ module _ {s : List ℕ} {x : Stand} (g : Good s x) where
       let c = cr-byte-here e in
       let z : get_or s x.at 0 ≡ 0x0D = eqb-true (get_or s x.at 0) 0x0D c in
       let h = inside s x.at (omega (arith, z)) in
-      let r : isAny "\r" (from s x.at) ≡ true = cr-byte s x.at ∙ rw c in
-      refuses h 1 (from s x.at) (lone-scan s x.at r (rw (c, ne_eqb (get_or s (x.at + 1) 0) 0x0A n))) _
-      (ap (λ p. record { what = refusal.LoneCr; place = p }) (sym (place-from s x.at (omega arith)))) out
+      let r : isAny "\r" (from s x.at) ≡ true = any-byte "\r" refl s x.at ∙ rw c in
+      refuses-here h 1 (lone-scan s x.at r (rw (c, ne_eqb (get_or s (x.at + 1) 0) 0x0A n))) out
 
   -- a block comment that is open at the end of script
   pub refuses-open : opensBlock (from s x.at) ≡ true → None ≡ closedOf (length s) (close 0 0 (drop 2 (from s x.at))) → (out : List ℕ) → Refuses s x out (record { what = refusal.OpenComment; place = x.at })
   unfolding refusalBy
   refuses-open o q out =
       let h : x.at < length s = omega (arith, (block-opens s x.at o).within) in
-      refuses h 2 (from s x.at) (block-open s x.at o q) _ (ap (λ p. record { what = refusal.OpenComment; place = p }) (sym (place-from s x.at (omega arith)))) out
+      refuses-here h 2 (block-open s x.at o q) out
 
 -- ---- comments
 
 -- which comment is opened, by its second byte
 module _ (s : List ℕ) (i : ℕ) (o : opensComment (from s i) ≡ true) where
   slash-byte : (eqb (get_or s i 0) 0x2F ≡ true) × (oneOf "*/" (get_or s (i + 1) 0) ≡ true)
-  slash-byte = and-both (eqb (get_or s i 0) 0x2F) (oneOf "*/" (get_or s (i + 1) 0)) (sym (comment-bytes s i) ∙ o)
+  slash-byte = and-both (eqb (get_or s i 0) 0x2F) (oneOf "*/" (get_or s (i + 1) 0)) (sym (comment_bytes s i) ∙ o)
 
   pub opens-line-here : get_or s (i + 1) 0 ≡ 0x2F → opensLine (from s i) ≡ true
   opens-line-here e = opens-line s i ∙ rw (slash-byte.0, eq-eqb (get_or s (i + 1) 0) 0x2F e)
 
   pub opens-block-here : (get_or s (i + 1) 0 ≡ 0x2F → ⊥) → opensBlock (from s i) ≡ true
-  opens-block-here n = opens-block s i ∙ rw (slash-byte.0, or-first (eqb (get_or s (i + 1) 0) 0x2A) (eqb (get_or s (i + 1) 0) 0x2F || false) slash-byte.1 (rw (ne_eqb (get_or s (i + 1) 0) 0x2F n)))
+  opens-block-here n = opens-block s i ∙ rw (slash-byte.0, sym (or-false _) ∙ (rw (ne_eqb (get_or s (i + 1) 0) 0x2F n) at slash-byte.1))
 
 -- ---- a piece that was read
 
@@ -266,15 +205,3 @@ module _ {s : List ℕ} {x : Stand} (g : Good s x) (h : x.at < length s) where
   pub refuses-piece : (e : Refused) → opensComment (from s x.at) ≡ false → isAny " \t\n\r" (from s x.at) ≡ false → ◌≡◌ {A = PieceAnswer} (Err e) (pieceOf (length s) (scan (length s) (from s x.at)))
       → (out : List ℕ) → Refuses s x out e
   refuses-piece e a b q out = let p = piece-stuck s x.at h e a b q in refuses h p.0 p.1 p.2 e p.3 out
-
--- no gap piece stands where the class is of none
-pub no-gap-here : {s : List ℕ} {x : Stand} → Good s x → eqb x.class.number crClass ≡ false → eqb x.class.number blankClass ≡ false → eqb x.class.number lfClass ≡ false → isAny " \t\n\r" (from s x.at) ≡ false
-no-gap-here {s} {x} g a b c =
-    let u = any-byte " \t" refl s x.at ∙ sym (class-blank (get_or s x.at 0)) ∙ by-class g (λ z. eqb z blankClass) b in
-    let v = or-none _ _ (sym (class-lf (get_or s x.at 0)) ∙ by-class g (λ z. eqb z lfClass) c) in
-    let w = or-none _ _ (sym (class-cr (get_or s x.at 0)) ∙ by-class g (λ z. eqb z crClass) a) in
-    no-line-end s x.at u (eqb-false _ _ v) (eqb-false _ _ w)
-  where
-    or-none : (p q : Bool) → p || q ≡ false → p ≡ false
-    or-none true q e = e
-    or-none false q e = refl

@@ -1,5 +1,5 @@
 -- What `charsym` answers: characters and symbols, by what follows the `'`.
-use Rattle.std.specs.Prelude.{ℕ, false, cond, not, ◌&&◌, drop, Option, Some, None}
+use Rattle.std.specs.Prelude.{ℕ, false, if◌then◌else◌, not, ◌&&◌, drop, Option, Some, None}
 use Rattle.chars.specs.paper.Classes.{isIdStart}
 use Rattle.chars.specs.paper.Text.{Text, place, headIs}
 use Rattle.chars.specs.computed.Runs.{afterRun}
@@ -18,14 +18,14 @@ unfoldable pub symbolOf : Text → Found
 symbolOf m =
     let word = Found.token tk.CharSym (afterIdent false (drop 1 m)) in
     let run = Found.token tk.CharSym (afterRun freeSign m) in
-    cond (headIs isIdStart m) word
-    (cond (freeSign m) run
-    (cond (isAny ";" m && not (opSign (drop 1 m))) (Found.token tk.CharSym (drop 1 m))
-    (Found.stuck 16 m)))
+    if headIs isIdStart m then word
+    else if freeSign m then run
+    else if isAny ";" m && not (opSign (drop 1 m)) then Found.token tk.CharSym (drop 1 m)
+    else Found.stuck 16 m
 
 -- a character that is no escape, or a symbol, or refusal 16
 unfoldable pub plainOf : Text → Found
-plainOf m = cond (plainChar m && apostrophe (drop 1 m)) (Found.token tk.CharSym (drop 2 m)) (symbolOf m)
+plainOf m = if plainChar m && apostrophe (drop 1 m) then Found.token tk.CharSym (drop 2 m) else symbolOf m
 
 -- where what is found ends; none, where nothing is
 abbrev pub endOf : ℕ → Found → Option Cursor
@@ -35,4 +35,4 @@ endOf n (Found.gap g r) = None
 
 -- where a run of operator signs ends; none, where a comment begins
 unfoldable pub runSymbolEnd : ℕ → Text → Option Cursor
-runSymbolEnd n m = cond (opensComment m) None (Some (cursorAt (place n (afterRun freeSign m))))
+runSymbolEnd n m = if opensComment m then None else Some (cursorAt (place n (afterRun freeSign m)))

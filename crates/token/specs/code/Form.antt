@@ -1,5 +1,5 @@
 -- A record by its form: what it has of its kind, as the code hands it on.
-use Rattle.std.specs.Prelude.{ℕ, ◌+◌, ◌*◌, ◌-◌, ◌%◌, ◌^◌, ◌≤◌, ◌<◌, ◌≡◌, Bool, cond, List, [], ◌∷◌, ◌++◌, eqb, length, take, drop}
+use Rattle.std.specs.Prelude.{ℕ, ◌+◌, ◌*◌, ◌-◌, ◌%◌, ◌^◌, ◌≤◌, ◌<◌, ◌≡◌, Bool, if◌then◌else◌, List, [], ◌∷◌, ◌++◌, ◌==◌, length, take, drop}
 use Rattle.token.specs.paper.Kinds.{kindNumber}
 use Rattle.token.specs.paper.Records.{bit, Value, one, four, eight, valuesOf, headLength, intLength, longLength, strLength, lineLength, recordLength, fieldsOf}
 use Rattle.words.specs.Joins.{Bytes}
@@ -52,7 +52,10 @@ byForm f start end cut = fieldsOf f.length f.number start end cut ++ take (f.len
 -- the values as one number: as many bytes of them as the record's length has
 unfoldable pub valuesAt : List ℕ → ℕ → ℕ → ℕ
 valuesAt bytes at size =
-    cond (eqb size lineLength) (oneAt bytes at) (cond (eqb size intLength) (fourAt bytes at) (cond (eqb size longLength) (eightAt bytes at) 0))
+    if size == lineLength then oneAt bytes at
+    else if size == intLength then fourAt bytes at
+    else if size == longLength then eightAt bytes at
+    else 0
 
 -- the record at a place: length (2 bytes, whole record), kind (2), start (4), end (4), cut (1), then the values
 unfoldable pub heldAt : List ℕ → ℕ → Held
@@ -76,7 +79,7 @@ pub record Storable (f : Form) (a e : ℕ) : Type 0 where
 
 -- the bytes that are stored for what was read
 abbrev pub storedOf : Held → List ℕ
-storedOf h = byForm (record { number = h.number; length = h.length; values = h.values }) h.start h.end (eqb h.cut 1)
+storedOf h = byForm (record { number = h.number; length = h.length; values = h.values }) h.start h.end (h.cut == 1)
 
 -- a whole record stands at the start of these bytes
 pub record Whole (l : List ℕ) : Type 0 where

@@ -1,5 +1,5 @@
 -- What `gap` answers.
-use Rattle.std.specs.Prelude.{ℕ, ◌+◌, ◌-◌, ◌*◌, Bool, ◌&&◌, List, length, get_or, eqb, leb, Option, Some, None}
+use Rattle.std.specs.Prelude.{ℕ, ◌+◌, ◌-◌, ◌*◌, Bool, ◌&&◌, List, length, slice_index, ◌==◌, nat_le, Option, Some, None}
 use Rattle.std.proofs.Math.Option as math
 use Rattle.std.proofs.Math.Option.{none, some}
 use Rattle.chars.specs.paper.Text.{Text, place}
@@ -15,10 +15,10 @@ closedOf n (some r) = Some (cursorAt (place n r))
 
 -- `/*` at the place i, its two bytes as one number; and four in a row
 abbrev pub opensAt : List ℕ → ℕ → Bool
-opensAt s i = eqb (get_or s i 0 + 256 * get_or s (i + 1) 0) 0x2A2F
+opensAt s i = slice_index s i + 256 * slice_index s (i + 1) == 0x2A2F
 
 unfoldable pub fourOpen : List ℕ → ℕ → Bool
-fourOpen s i = leb (i + 8) (length s) && (opensAt s i && ((opensAt s (i + 2) && opensAt s (i + 4)) && opensAt s (i + 6)))
+fourOpen s i = nat_le (i + 8) (length s) && (opensAt s i && ((opensAt s (i + 2) && opensAt s (i + 4)) && opensAt s (i + 6)))
 
 -- a place inside nested comments, and how many are open there besides the outermost
 abbrev pub nestAt : ℕ → ℕ → Nest

@@ -1,5 +1,5 @@
 -- What `keyword` answers, and `keyword_of` of `kinds`.
-use Rattle.std.specs.Prelude.{ℕ, ◌+◌, Bool, true, cond, ◌&&◌, List, [], ◌∷◌, ◌++◌, length, get_or, eqb, Option, Some, None}
+use Rattle.std.specs.Prelude.{ℕ, ◌+◌, Bool, true, if◌then◌else◌, ◌&&◌, List, [], ◌∷◌, ◌++◌, length, slice_index, ◌==◌, Option, Some, None}
 use Rattle.std.proofs.Math.Option as math
 use Rattle.std.proofs.Math.Option.{none, some}
 use Rattle.chars.specs.paper.Quoted.{codes}
@@ -19,7 +19,7 @@ numberOr n (some k) = kwNumber k
 -- the keyword among these whose kind has the number n, or none
 unfoldable pub keywordAmong : List Word → ℕ → Option Kw
 keywordAmong [] n = None
-keywordAmong (word w k ∷ ws) n = cond (eqb n (kwNumber k)) (Some k) (keywordAmong ws n)
+keywordAmong (word w k ∷ ws) n = if n == kwNumber k then Some k else keywordAmong ws n
 
 -- the keyword whose kind has the number n, or none
 unfoldable pub keywordBy : ℕ → Option Kw
@@ -28,9 +28,9 @@ keywordBy n = keywordAmong (wordKeywords ++ symbolKeywords) n
 -- these bytes stand at the place i
 unfoldable pub standsAt : List ℕ → List ℕ → ℕ → Bool
 standsAt [] s i = true
-standsAt (x ∷ w) s i = eqb (get_or s i 0) x && standsAt w s (i + 1)
+standsAt (x ∷ w) s i = slice_index s i == x && standsAt w s (i + 1)
 
 -- the keyword of n bytes whose text stands at the place i
 unfoldable pub keywordAt : List Word → ℕ → List ℕ → ℕ → math.Option Kw
 keywordAt [] n s i = none
-keywordAt (word w k ∷ ws) n s i = cond (eqb n (length (codes w)) && standsAt (codes w) s i) (some k) (keywordAt ws n s i)
+keywordAt (word w k ∷ ws) n s i = if n == length (codes w) && standsAt (codes w) s i then some k else keywordAt ws n s i

@@ -1,7 +1,6 @@
 -- What `piece` answers: a piece by the places of its texts.
-use Rattle.std.specs.Prelude.{ℕ, Result, Ok, Err}
+use Rattle.std.specs.Prelude.{ℕ, Result, Ok}
 use Rattle.chars.specs.paper.Text.{place}
-use Rattle.token.specs.paper.Kinds.{kindNumber}
 use Rattle.token.specs.computed.Answer.{Found}
 use Rattle.token.specs.declared.cursor.Cursor.{Cursor}
 use Rattle.token.specs.declared.kinds.TokenKind.{TokenKind}
@@ -24,8 +23,3 @@ unfoldable pub pieceOf : ℕ → Found → PieceAnswer
 pieceOf n (Found.token k r) = tokenTo k (cursorAt (place n r))
 pieceOf n (Found.stuck j q) = refusedBy j (place n q)
 pieceOf n (Found.gap g r) = refusedFor refusal.NoPiece (place n r)
-
--- the number of a token's kind
-abbrev pub pieceNumber : PieceAnswer → ℕ
-pieceNumber (Ok t) = kindNumber t.0
-pieceNumber (Err e) = 0

@@ -1,5 +1,5 @@
 -- What measuring and writing make of the answer.
-use Rattle.std.specs.Prelude.{ℕ, zero, suc, ◌+◌, ◌-◌, ◌*◌, ◌≤◌, ◌≡◌, Bool, true, false, cond, List, [], ◌∷◌, length, take, leb, Result, Ok}
+use Rattle.std.specs.Prelude.{ℕ, zero, suc, ◌+◌, ◌-◌, ◌*◌, ◌≤◌, ◌≡◌, Bool, true, IsTrue, false, if◌then◌else◌, List, [], ◌∷◌, length, take, nat_le, Result, Ok}
 use Rattle.std.proofs.lemmas.List.Edits.{sets}
 use Rattle.chars.specs.paper.Text.{Text, from, place}
 use Rattle.token.specs.paper.Kinds.{Token}
@@ -14,7 +14,7 @@ use Rattle.token.specs.code.Refusal.{refusedBy}
 
 -- a buffer with these bytes stored at w, where they fit
 unfoldable pub storedIf : List ℕ → ℕ → List ℕ → List ℕ
-storedIf out w bytes = cond (leb (w + length bytes) (length out)) (sets out w bytes) out
+storedIf out w bytes = if nat_le (w + length bytes) (length out) then sets out w bytes else out
 
 -- a line end's token, and the end's
 abbrev pub lineEndAt : ℕ → ℕ → Bool → Token
@@ -45,7 +45,7 @@ tokensIn (refused j a) = []
 
 -- the answer has tokens, and this is how many, and how many bytes their records have
 pub record Needs (w : Answer) (n : Need) : Type 0 where
-  pub is-tokenized : isTokenized w ≡ true
+  pub is-tokenized : IsTrue (isTokenized w)
   pub tokens : n.tokens ≡ length (tokensIn w)
   pub bytes : n.bytes ≡ recordBytes (tokensIn w)
 
@@ -55,7 +55,7 @@ Held w n out = n.bytes ≤ length out → take n.bytes out ≡ records (tokensIn
 
 -- the answer has tokens, and their records fit into so many bytes
 pub record Fits (w : Answer) (room : ℕ) : Type 0 where
-  pub is-tokenized : isTokenized w ≡ true
+  pub is-tokenized : IsTrue (isTokenized w)
   pub fits : recordBytes (tokensIn w) ≤ room
 
 -- ---- the walk, token by token

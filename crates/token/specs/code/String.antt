@@ -1,5 +1,5 @@
 -- What `string` answers.
-use Rattle.std.specs.Prelude.{ℕ, ◌+◌, ◌-◌, Bool, cond, not, ◌&&◌, ◌||◌, List, [], ◌∷◌, length, drop, get_or, eqb, leb, ltb, Result, Ok}
+use Rattle.std.specs.Prelude.{ℕ, ◌+◌, ◌-◌, Bool, if◌then◌else◌, not, ◌&&◌, ◌||◌, List, [], ◌∷◌, length, drop, slice_index, ◌==◌, nat_le, nat_lt, Result, Ok}
 use Rattle.std.specs.List.{prefix_len}
 use Rattle.chars.specs.paper.Quoted.{oneOf}
 use Rattle.chars.specs.paper.Text.{Text, from, place}
@@ -45,7 +45,7 @@ unfoldable pub closeSingle : Bool → Text → Closing
 closeSingle p s =
     let prefixed = closePrefixed s in
     let plain = closePlain 0 s in
-    cond p prefixed plain
+    if p then prefixed else plain
 
 -- what stands for itself in every string
 unfoldable pub isOrdinary : ℕ → Bool
@@ -53,25 +53,28 @@ isOrdinary c = not (oneOf "\n\"$\\" c)
 
 -- a `$` in a prefixed string
 unfoldable pub dollarOf : ℕ → Text → EndAnswer
-dollarOf n s = cond (dollarBrace s) (refusedFor refusal.DollarBrace (place n s)) (endAt (cursorAt (place n (drop 1 s))))
+dollarOf n s = if dollarBrace s then refusedFor refusal.DollarBrace (place n s) else endAt (cursorAt (place n (drop 1 s)))
 
 -- one step in a single string, by the byte at the place i: an LF is refused, a `$` of a prefixed string is judged by what follows it, a backslash of a
 -- plain one is passed with its escape, and all else is passed as one byte
 unfoldable pub singleItem : Bool → List ℕ → ℕ → EndAnswer
 singleItem p s i =
-    let byte = get_or s i 0 in
+    let byte = slice_index s i in
     let dollar = dollarOf (length s) (from s i) in
     let escape = escapeOf (length s) (from s (i + 1)) in
     let next = endAt (cursorAt (i + 1)) in
-    cond (eqb byte 0x0A) (refusedFor refusal.LineFeed i) (cond (p && eqb byte 0x24) dollar (cond (not p && eqb byte 0x5C) escape next))
+    if byte == 0x0A then refusedFor refusal.LineFeed i
+    else if p && byte == 0x24 then dollar
+    else if not p && byte == 0x5C then escape
+    else next
 
 -- one step in a triple string: a backslash is refused, a `$` of a prefixed string is judged by what follows it, and all else is passed as one byte
 unfoldable pub tripleItem : Bool → List ℕ → ℕ → EndAnswer
 tripleItem p s i =
-    let byte = get_or s i 0 in
+    let byte = slice_index s i in
     let dollar = dollarOf (length s) (from s i) in
     let next = endAt (cursorAt (i + 1)) in
-    cond (eqb byte 0x5C) (refusedFor refusal.BackslashInTriple i) (cond (p && eqb byte 0x24) dollar next)
+    if byte == 0x5C then refusedFor refusal.BackslashInTriple i else if p && byte == 0x24 then dollar else next
 
 -- past the backtick with which the text r begins, of the name that s begins; refused, where none is left
 abbrev pub tickEnd : ℕ → Text → Text → EndAnswer
@@ -80,22 +83,22 @@ tickEnd n s (c ∷ r) = endAt (cursorAt (place n r))
 
 -- a backtick's end, from its opening on
 unfoldable pub backtickOf : ℕ → Text → EndAnswer
-backtickOf n s = cond (isAny "`" (drop 1 s)) (refusedFor refusal.EmptyBacktick (place n s)) (tickEnd n s (afterRun notBacktick (drop 1 s)))
+backtickOf n s = if isAny "`" (drop 1 s) then refusedFor refusal.EmptyBacktick (place n s) else tickEnd n s (afterRun notBacktick (drop 1 s))
 
 -- the end of the bytes from a to b without a last quote, if one is left
 unfoldable pub lastOff : List ℕ → ℕ → ℕ → ℕ
-lastOff s a b = cond (ltb a b && eqb (get_or s (b - 1) 0) 0x22) (b - 1) b
+lastOff s a b = if nat_lt a b && slice_index s (b - 1) == 0x22 then b - 1 else b
 
 abbrev pub spanKind : Span → TokenKind
 spanKind c = tk.Str c.start c.end
 
 -- sixteen quotes stand at the place i
 abbrev pub sixteenAt : List ℕ → ℕ → Bool
-sixteenAt s i = leb 16 (prefix_len (λ b. eqb b 0x22 || eqb b 0x22) (drop i s))
+sixteenAt s i = nat_le 16 (prefix_len (λ b. b == 0x22 || b == 0x22) (drop i s))
 
 -- sixteen quotes at each end of the bytes from a to b, thirty-two in all
 unfoldable pub blocksOff : List ℕ → ℕ → ℕ → Bool
-blocksOff s a b = leb (a + 32) b && (sixteenAt s a && sixteenAt s (b - 16))
+blocksOff s a b = nat_le (a + 32) b && (sixteenAt s a && sixteenAt s (b - 16))
 
 -- the bytes from a to b
 abbrev pub spanAt : ℕ → ℕ → Span

@@ -1,15 +1,18 @@
 -- Where a walk over a script stands, and what a step of it is.
-use Rattle.std.specs.Prelude.{ℕ, ◌+◌, ◌-◌, ◌*◌, ◌/◌, ◌≤◌, ◌<◌, ◌≡◌, Bool, false, cond, not, ◌&&◌, ◌||◌, List, Err, length, get_or, eqb}
+use Rattle.std.specs.Prelude.{ℕ, ◌+◌, ◌-◌, ◌*◌, ◌/◌, ◌≤◌, ◌<◌, ◌≡◌, Bool, false, IsFalse, if◌then◌else◌, not, ◌&&◌, ◌||◌, List, Err, IsErr, IsTrue, length, slice_index, ◌==◌}
 use Rattle.token.specs.computed.Flags.{Gap}
 use Rattle.token.specs.paper.Records.{headLength, lineLength}
+use Rattle.chars.specs.paper.Quoted.{oneOf}
 use Rattle.chars.specs.paper.Text.{from}
 use Rattle.chars.specs.promises.Texts.{Suffix}
 use Rattle.token.specs.paper.Kinds.{wordOf, runOf}
-use Rattle.token.specs.computed.Answer.{codesTo, orPrefixed, scan}
-use Rattle.token.specs.code.ByteClass.{classAt, keywordClass, slashClass, upToBlank, startsWord, inLineEnd}
+use Rattle.token.specs.computed.Answer.{codesTo, orPrefixed, scan, scanNumber}
+use Rattle.token.specs.code.ByteClass.{classAt, lfClass, digitClass, keywordClass, signKeywordClass, slashClass, upToBlank, startsWord, inWord, asksMore, inOperator, isSign, inRun, inLineEnd}
 use Rattle.token.specs.code.Keyword.{numberOr}
 use Rattle.token.specs.declared.kinds.TokenKind.{TokenKind}
 use Rattle.token.specs.code.Records.{State, Standing, Reaches, measuredFrom, storedFrom}
+use Rattle.token.specs.code.Names.{runTo, lowBefore}
+use Rattle.token.specs.code.Piece.{pieceOf}
 use Rattle.token.specs.declared.names.Here.{Here}
 use Rattle.token.specs.declared.refusal.Refused.{Refused}
 use Rattle.token.specs.declared.walk.Stand.{Stand}
@@ -20,7 +23,7 @@ gapOf newline comment cut = record { newline = newline; comment = comment; pendi
 
 -- a line end, or a comment, came since the last token exactly if no record came behind it
 abbrev pub gapAt : Stand → Gap
-gapAt x = gapOf (eqb x.line x.bytes) (eqb x.mark x.bytes) x.cut
+gapAt x = gapOf (x.line == x.bytes) (x.mark == x.bytes) x.cut
 
 -- every record has a head, and the rest of the bytes are values
 abbrev pub countAt : Stand → ℕ
@@ -81,26 +84,41 @@ pub record Refuses (s : List ℕ) (x : Stand) (out : List ℕ) (e : Refused) : T
 
 -- ---- names and operators
 
+-- What stands behind a word that begins at i and ends at e may make more of it: a quote, a character past ASCII, or a sign where a `_` came last.
+abbrev pub goesOn : List ℕ → ℕ → ℕ → Bool
+goesOn s i e = asksMore (classAt s e) && (not (isSign (classAt s e)) || lowBefore s i e)
+
+-- What stands behind a run of signs at e may make more of it: a character past ASCII, or a `/` with which no comment begins.
+abbrev pub runGoesOn : List ℕ → ℕ → Bool
+runGoesOn s e = inOperator (classAt s e) && not (classAt s e == slashClass && oneOf "*/" (slice_index s (e + 1)))
+
+-- What the walk over words leaves: neither a blank, a single sign nor a line end; a word or a run of signs only where more may be made of it, and a
+-- number only where it is refused.
+pub record Left (s : List ℕ) (y : Stand) : Type 0 where
+  pub no-sign : IsFalse (upToBlank y.class.number)
+  pub no-line : IsFalse (y.class.number == lfClass)
+  pub word : IsTrue (startsWord y.class.number) → IsTrue (goesOn s y.at (runTo inWord s (y.at + 1)))
+  pub run : IsTrue (inRun y.class.number) → IsTrue (runGoesOn s (runTo inRun s (y.at + 1)))
+  pub number : IsTrue (y.class.number == digitClass) → IsErr (pieceOf (length s) (scanNumber (from s y.at)))
+
 -- from the place e on stands what is left of the text from i on
 abbrev pub LeftTo : List ℕ → ℕ → ℕ → Type 0
 LeftTo s i e = (i ≤ e) × (e ≤ length s) × Suffix (from s e) (from s i)
 
--- an id start, by its class
-abbrev pub beginsName : ℕ → Bool
-beginsName e = not (upToBlank e) && startsWord e
-
 -- the kind's number of the word from i to e, whose first byte has the class k
 unfoldable pub nameNumber : List ℕ → ℕ → ℕ → ℕ → ℕ
-nameNumber s k i e = cond (eqb k keywordClass) (numberOr 1 (wordOf (codesTo (from s i) (from s e)))) 1
+nameNumber s k i e = if k == keywordClass then numberOr 1 (wordOf (codesTo (from s i) (from s e))) else 1
 
--- the kind's number of the operator from i to its end: before a comment it is no keyword
-unfoldable pub operatorNumber : List ℕ → ℕ → Here → ℕ
-operatorNumber s i end = cond (eqb end.class.number slashClass) 2 (numberOr 2 (runOf (codesTo (from s i) (from s end.at))))
+-- the kind's number of the operator from i to its end, whose first byte has the class k: before a comment it is no keyword
+unfoldable pub operatorNumber : List ℕ → ℕ → ℕ → Here → ℕ
+operatorNumber s k i end =
+    if not (k == signKeywordClass) || end.class.number == slashClass then 2
+    else numberOr 2 (runOf (codesTo (from s i) (from s end.at)))
 
 -- what stands from i to q prefixes the string whose opening stands at q
 pub record Prefixes (s : List ℕ) (i q : ℕ) : Type 0 where
   pub kind : TokenKind
   pub on : i < q
   pub within : q ≤ length s
-  pub byte : get_or s q 0 ≡ 0x22
+  pub byte : slice_index s q ≡ 0x22
   pub is : scan (length s) (from s i) ≡ orPrefixed (length s) kind (from s i) (from s q)

@@ -2,7 +2,7 @@
 -- script as a text and a text's place (`from`, `place`); the character classes; the tests of what a text begins with, and a digit's value
 -- (`Tests`); the keywords' texts (`wordOf`, `runOf`); what a token is (`Token`). Of shapes, readings, values, marks, cuts and refusals it shares
 -- nothing. With the code it shares the enums `Kw` and `TokenKind`.
-use Rattle.std.specs.Prelude.{ℕ, zero, suc, ◌+◌, ◌*◌, ◌-◌, Bool, true, false, cond, not, ◌&&◌, ◌||◌, List, [], ◌∷◌, map, reverse, length, take, drop, eqb, leb}
+use Rattle.std.specs.Prelude.{ℕ, zero, suc, ◌+◌, ◌*◌, ◌-◌, Bool, true, false, if◌then◌else◌, not, ◌&&◌, ◌||◌, List, [], ◌∷◌, map, reverse, length, take, drop, ◌==◌, nat_le}
 use Rattle.std.proofs.Math.Option.{Option, none, some}
 use Rattle.chars.specs.paper.Text.{Char, Text, from, place, headIs}
 use Rattle.chars.specs.computed.Runs.{afterRun}
@@ -27,7 +27,7 @@ codesTo s r = map (λ (c : Char). c.code) (take (length s - length r) s)
 -- ---- gap pieces
 
 unfoldable pub scanReturn : Text → Found
-scanReturn s = cond (begins "\r\n" s) (Found.gap GapKind.lineEnd (drop 2 s)) (Found.stuck 1 s)
+scanReturn s = if begins "\r\n" s then Found.gap GapKind.lineEnd (drop 2 s) else Found.stuck 1 s
 
 unfoldable pub scanLine : Text → Found
 scanLine s = Found.gap GapKind.lineComment (afterRun (λ t. not (endOfLine t)) (drop 2 s))
@@ -40,7 +40,7 @@ close d zero (c ∷ s) =
     let closed : Option Text = elim d [ zero ↦ some (drop 1 s) | suc e ↦ close e 1 s ] in
     let opened = close (suc d) 1 s in
     let next = close d 0 s in
-    cond (closesBlock (c ∷ s)) closed (cond (opensBlock (c ∷ s)) opened next)
+    if closesBlock (c ∷ s) then closed else if opensBlock (c ∷ s) then opened else next
 
 abbrev pub blockOr : Text → Option Text → Found
 blockOr s none = Found.stuck 2 s
@@ -59,19 +59,19 @@ unfoldable pub readDigits : (ℕ → Bool) → ℕ → ℕ → Text → Numeral
 readDigits p b v [] = numeral v []
 readDigits p b v (c ∷ s) =
     let more = readDigits p b (v * b + digitValue c.code) s in
-    cond (p c.code) more (numeral v (c ∷ s))
+    if p c.code then more else numeral v (c ∷ s)
 
 abbrev pub numberOf : Text → Numeral → Found
 numberOf s (numeral v r) =
-    cond (letterL r)
-    (cond (leb v 9223372036854775807) (Found.token (tk.LongLit v) (drop 1 r)) (Found.stuck 6 s))
-    (cond (leb v 2147483647) (Found.token (tk.IntLit v) r) (Found.stuck 6 s))
+    if letterL r then (if nat_le v 9223372036854775807 then Found.token (tk.LongLit v) (drop 1 r) else Found.stuck 6 s)
+    else if nat_le v 2147483647 then Found.token (tk.IntLit v) r
+    else Found.stuck 6 s
 
 unfoldable pub scanNumber : Text → Found
 scanNumber s =
     let hex = readDigits isHexDigit 16 0 (drop 2 s) in
     let dec = readDigits isDigit 10 0 s in
-    numberOf s (cond (hexAhead s) hex dec)
+    numberOf s (if hexAhead s then hex else dec)
 
 -- ---- escapes: from behind the backslash, how many characters the escape has, or its refusal
 
@@ -85,7 +85,7 @@ exactHexes zero k s = unbroken k
 exactHexes (suc n) k [] = broken 13 []
 exactHexes (suc n) k (c ∷ s) =
     let more = exactHexes n (suc k) s in
-    cond (isHexDigit c.code) more (broken 13 (c ∷ s))
+    if isHexDigit c.code then more else broken 13 (c ∷ s)
 
 -- at most n digits more, after k characters
 unfoldable pub digitsUpTo : ℕ → ℕ → Text → ℕ
@@ -93,14 +93,17 @@ digitsUpTo zero k s = k
 digitsUpTo (suc n) k [] = k
 digitsUpTo (suc n) k (c ∷ s) =
     let more = digitsUpTo n (suc k) s in
-    cond (isDigit c.code) more k
+    if isDigit c.code then more else k
 
 unfoldable pub afterSlash : Text → Esc
 afterSlash [] = broken 12 []
 afterSlash (c ∷ s) =
     let number = unbroken (digitsUpTo 2 1 s) in
     let unicode = exactHexes 4 1 s in
-    cond (isAny "btnfr'\"]" (c ∷ s)) (unbroken 1) (cond (isDigit c.code) number (cond (isAny "u" (c ∷ s)) unicode (broken 14 (c ∷ s))))
+    if isAny "btnfr'\"]" (c ∷ s) then unbroken 1
+    else if isDigit c.code then number
+    else if isAny "u" (c ∷ s) then unicode
+    else broken 14 (c ∷ s)
 
 -- ---- strings: from behind the opening, what follows the string, or its refusal
 
@@ -115,14 +118,20 @@ closePlain (suc k) (c ∷ s) = closePlain k s
 closePlain zero (c ∷ s) =
     let escape : Closing = elim (afterSlash s) [ unbroken n ↦ closePlain n s | broken j q ↦ wrong j q ] in
     let next = closePlain 0 s in
-    cond (quote (c ∷ s)) (closed s) (cond (isAny "\n" (c ∷ s)) (wrong 8 (c ∷ s)) (cond (backslash (c ∷ s)) escape next))
+    if quote (c ∷ s) then closed s
+    else if isAny "\n" (c ∷ s) then wrong 8 (c ∷ s)
+    else if backslash (c ∷ s) then escape
+    else next
 
 -- a prefixed single string
 unfoldable pub closePrefixed : Text → Closing
 closePrefixed [] = wrong 7 []
 closePrefixed (c ∷ s) =
     let next = closePrefixed s in
-    cond (quote (c ∷ s)) (closed s) (cond (isAny "\n" (c ∷ s)) (wrong 8 (c ∷ s)) (cond (dollarBrace (c ∷ s)) (wrong 11 (c ∷ s)) next))
+    if quote (c ∷ s) then closed s
+    else if isAny "\n" (c ∷ s) then wrong 8 (c ∷ s)
+    else if dollarBrace (c ∷ s) then wrong 11 (c ∷ s)
+    else next
 
 -- a triple; p: it is prefixed
 unfoldable pub closeTriple : Bool → Text → Closing
@@ -130,7 +139,10 @@ closeTriple p [] = wrong 9 []
 closeTriple p (c ∷ s) =
     let end = closed (afterRun quote (c ∷ s)) in
     let next = closeTriple p s in
-    cond (threeQuotes (c ∷ s)) end (cond (backslash (c ∷ s)) (wrong 10 (c ∷ s)) (cond (p && dollarBrace (c ∷ s)) (wrong 11 (c ∷ s)) next))
+    if threeQuotes (c ∷ s) then end
+    else if backslash (c ∷ s) then wrong 10 (c ∷ s)
+    else if p && dollarBrace (c ∷ s) then wrong 11 (c ∷ s)
+    else next
 
 -- from the opening on
 unfoldable pub closeString : Bool → Text → Closing
@@ -138,7 +150,7 @@ closeString p s =
     let triple = closeTriple p (drop 3 s) in
     let plain = closePlain 0 (drop 1 s) in
     let prefixed = closePrefixed (drop 1 s) in
-    cond (threeQuotes s) triple (cond p prefixed plain)
+    if threeQuotes s then triple else if p then prefixed else plain
 
 -- the content of a text of k characters that ends at e; t is the text and what was dropped behind it, back the text turned round
 unfoldable pub strip : ℕ → Text → Text → ℕ → TokenKind
@@ -146,7 +158,7 @@ strip k [] back e = tk.Str e e
 strip k (c ∷ t) back e =
     let both = strip (k - 2) t (drop 1 back) (place e back) in
     let front = strip (k - 1) t back e in
-    cond (eqb k 0) (tk.Str e e) (cond (quote (c ∷ t)) (cond (leb 2 k && quote back) both front) (tk.Str c.at e))
+    if k == 0 then tk.Str e e else if quote (c ∷ t) then (if nat_le 2 k && quote back then both else front) else tk.Str c.at e
 
 unfoldable pub plainContent : ℕ → Text → Text → TokenKind
 plainContent n s r =
@@ -169,7 +181,7 @@ prefixedOf n s (wrong j q) = Found.stuck j q
 unfoldable pub orPrefixed : ℕ → TokenKind → Text → Text → Found
 orPrefixed n k s r =
     let string = prefixedOf n s (closeString true r) in
-    cond (quote r) string (Found.token k r)
+    if quote r then string else Found.token k r
 
 -- ---- identifiers and operators
 
@@ -180,7 +192,10 @@ afterIdent u (c ∷ s) =
     let id = afterIdent false s in
     let under = afterIdent true s in
     let signs = afterRun opSign (c ∷ s) in
-    cond (isIdChar c.code) id (cond (isAny "_" (c ∷ s)) under (cond u signs (c ∷ s)))
+    if isIdChar c.code then id
+    else if isAny "_" (c ∷ s) then under
+    else if u then signs
+    else c ∷ s
 
 abbrev pub wordOr : ℕ → Text → Text → Option Kw → Found
 wordOr n s r none = orPrefixed n tk.Ident s r
@@ -193,7 +208,7 @@ scanIdent n s =
 
 abbrev pub runOr : Text → Option Kw → Found
 runOr r none = Found.token tk.OpId r
-runOr r (some k) = cond (opensComment r) (Found.token tk.OpId r) (Found.token (tk.Kw k) r)
+runOr r (some k) = if opensComment r then Found.token tk.OpId r else Found.token (tk.Kw k) r
 
 unfoldable pub scanOperator : Text → Found
 scanOperator s =
@@ -209,12 +224,12 @@ backtickOr n s (c ∷ r) = orPrefixed n tk.BacktickId s r
 unfoldable pub scanBacktick : ℕ → Text → Found
 scanBacktick n s =
     let name = backtickOr n s (afterRun notBacktick (drop 1 s)) in
-    cond (isAny "`" (drop 1 s)) (Found.stuck 5 s) name
+    if isAny "`" (drop 1 s) then Found.stuck 5 s else name
 
 -- ---- characters and symbols, from the `'` on
 
 abbrev pub tickNext : Text → Found
-tickNext r = cond (apostrophe r) (Found.token tk.CharSym (drop 1 r)) (Found.stuck 15 r)
+tickNext r = if apostrophe r then Found.token tk.CharSym (drop 1 r) else Found.stuck 15 r
 
 abbrev pub escapedOf : Text → Esc → Found
 escapedOf m (unbroken k) = tickNext (drop k m)
@@ -226,12 +241,12 @@ scanCharSym s =
     let escaped = escapedOf (drop 1 m) (afterSlash (drop 1 m)) in
     let word = Found.token tk.CharSym (afterIdent false (drop 1 m)) in
     let run = Found.token tk.CharSym (afterRun freeSign m) in
-    cond (backslash m) escaped
-    (cond (plainChar m && apostrophe (drop 1 m)) (Found.token tk.CharSym (drop 2 m))
-    (cond (headIs isIdStart m) word
-    (cond (freeSign m) run
-    (cond (isAny ";" m && not (opSign (drop 1 m))) (Found.token tk.CharSym (drop 1 m))
-    (Found.stuck 16 m)))))
+    if backslash m then escaped
+    else if plainChar m && apostrophe (drop 1 m) then Found.token tk.CharSym (drop 2 m)
+    else if headIs isIdStart m then word
+    else if freeSign m then run
+    else if isAny ";" m && not (opSign (drop 1 m)) then Found.token tk.CharSym (drop 1 m)
+    else Found.stuck 16 m
 
 -- ---- one piece: by what its first characters are
 
@@ -241,18 +256,19 @@ pub data Start : Type 0 where
 -- Where `//` or `/*` stands at a piece's start, the piece is a comment: these come first.
 unfoldable pub startOf : Text → Start
 startOf s =
-    cond (opensLine s) Start.line
-    (cond (opensBlock s) Start.block
-    (cond (isAny " \t" s) Start.blank
-    (cond (isAny "\n" s) Start.lf
-    (cond (isAny "\r" s) Start.cr
-    (cond (isAny "()[]{},;." s) Start.sign
-    (cond (digit s) Start.number
-    (cond (headIs isIdStart s) Start.word
-    (cond (opSign s) Start.operator
-    (cond (isAny "`" s) Start.backtick
-    (cond (quote s) Start.string
-    (cond (apostrophe s) Start.charSym Start.other)))))))))))
+    if opensLine s then Start.line
+    else if opensBlock s then Start.block
+    else if isAny " \t" s then Start.blank
+    else if isAny "\n" s then Start.lf
+    else if isAny "\r" s then Start.cr
+    else if isAny "()[]{},;." s then Start.sign
+    else if digit s then Start.number
+    else if headIs isIdStart s then Start.word
+    else if opSign s then Start.operator
+    else if isAny "`" s then Start.backtick
+    else if quote s then Start.string
+    else if apostrophe s then Start.charSym
+    else Start.other
 
 -- does the text begin with a character with which some shape starts? Else it is Start.other, and refusal 3.
 abbrev pub starts : Text → Bool
@@ -262,14 +278,15 @@ starts s =
 
 unfoldable pub signOf : Text → TokenKind
 signOf s =
-    cond (isAny "(" s) tk.LParen
-    (cond (isAny ")" s) tk.RParen
-    (cond (isAny "[" s) tk.LBracket
-    (cond (isAny "]" s) tk.RBracket
-    (cond (isAny "{" s) tk.LBrace
-    (cond (isAny "}" s) tk.RBrace
-    (cond (isAny "," s) tk.Comma
-    (cond (isAny ";" s) tk.Semi tk.Dot)))))))
+    if isAny "(" s then tk.LParen
+    else if isAny ")" s then tk.RParen
+    else if isAny "[" s then tk.LBracket
+    else if isAny "]" s then tk.RBracket
+    else if isAny "{" s then tk.LBrace
+    else if isAny "}" s then tk.RBrace
+    else if isAny "," s then tk.Comma
+    else if isAny ";" s then tk.Semi
+    else tk.Dot
 
 abbrev pub scanAs : ℕ → Start → Text → Found
 scanAs n Start.blank s = Found.gap GapKind.blank (drop 1 s)

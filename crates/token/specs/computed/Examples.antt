@@ -1,6 +1,6 @@
 -- RULES, "Marked scripts", as one computed check over their list; the examples of "Listing", "Refusals of a piece", "The first refusal" and
 -- "Traps". `Examples` in `entry` asks for all of them; here they give a wrong definition its first error.
-use Rattle.std.specs.Prelude.{◌≡◌, refl, true, List, [], ◌∷◌, ◌++◌}
+use Rattle.std.specs.Prelude.{◌≡◌, refl, IsTrue, List, [], ◌∷◌, ◌++◌}
 use Rattle.chars.specs.computed.Encoded.{script}
 use Rattle.token.specs.paper.Records.{mostNeed, values, recordLength, recordBytes}
 use Rattle.words.specs.Words.{le4}
@@ -43,7 +43,7 @@ marked =
     ∷ "a一" gives "1 0 4 0\n18 4 4 0\n"
     ∷ []
 
-pub marked-hold : holdBy listed marked ≡ true
+pub marked-hold : IsTrue (holdBy listed marked)
 unfolding listed
 marked-hold = refl
 
@@ -91,7 +91,7 @@ traps =
     ∷ "\n/**/ /**/\nx" gives "17 0 1 0 0\n17 10 11 0 1\n1 11 12 1\n18 12 12 0\n"
     ∷ []
 
-pub examples-hold : holdBy listed (listingExample ++ refusalExamples ++ tieExamples ++ traps) ≡ true
+pub examples-hold : IsTrue (holdBy listed (listingExample ++ refusalExamples ++ tieExamples ++ traps))
 unfolding listed
 examples-hold = refl
 

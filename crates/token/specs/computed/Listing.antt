@@ -1,5 +1,5 @@
 -- RULES, "Listing": kind, start, end, cut and values, or `refused N at P`.
-use Rattle.std.specs.Prelude.{ℕ, zero, suc, ◌+◌, ◌/◌, ◌%◌, Bool, true, false, cond, List, [], ◌∷◌, ◌++◌, ltb}
+use Rattle.std.specs.Prelude.{ℕ, zero, suc, ◌+◌, ◌/◌, ◌%◌, Bool, true, false, if◌then◌else◌, List, [], ◌∷◌, ◌++◌, nat_lt}
 use Prim.Native.String.{String}
 use Rattle.chars.specs.paper.Quoted.{codes}
 use Rattle.chars.specs.paper.Classes.{alphabetic, lowercase, uppercase, nd, alphaNotLetter, isIdStart, isIdChar, isOpSign, isPrintable}
@@ -17,7 +17,7 @@ unfoldable pub decimalFor : ℕ → ℕ → List ℕ → List ℕ
 decimalFor zero n t = t
 decimalFor (suc f) n t =
     let rest = decimalFor f (n / 10) ((0x30 + n % 10) ∷ t) in
-    cond (ltb n 10) ((0x30 + n) ∷ t) rest
+    if nat_lt n 10 then (0x30 + n) ∷ t else rest
 
 abbrev pub decimal : ℕ → List ℕ
 decimal n = decimalFor 20 n []
@@ -67,4 +67,4 @@ needed s = needOf (answer s)
 -- by any way of listing a script
 abbrev pub holdBy : (List ℕ → List ℕ) → List Example → Bool
 holdBy f [] = true
-holdBy f (◌gives◌ s t ∷ es) = cond (same (f (script s)) (codes t)) (holdBy f es) false
+holdBy f (◌gives◌ s t ∷ es) = if same (f (script s)) (codes t) then holdBy f es else false

@@ -8,7 +8,7 @@
 -- Two are the computed side's own:
 --   `GapKind`    (`computed/Flags`) the four of `Kind` that are no token
 --   `Start`      (`computed/Answer`) what a piece's first characters are, so which pieces can stand there: no kind
-use Rattle.std.specs.Prelude.{ℕ, Bool, true, false, cond, List, [], ◌∷◌}
+use Rattle.std.specs.Prelude.{ℕ, Bool, true, false, if◌then◌else◌, List, [], ◌∷◌}
 use Prim.Native.String.{String}
 use Rattle.std.proofs.Math.Option.{Option, none, some}
 use Rattle.chars.specs.paper.Quoted.{codes}
@@ -64,7 +64,7 @@ pub data Word : Type 0 where
 -- the keyword that has this text, if there is one
 abbrev pub keyword : List Word → List ℕ → Option Kw
 keyword [] t = none
-keyword (word w k ∷ ws) t = cond (same (codes w) t) (some k) (keyword ws t)
+keyword (word w k ∷ ws) t = if same (codes w) t then some k else keyword ws t
 
 -- RULES, "Keywords": "Nine identifiers are keywords: `case else false function if match return then true`."
 abbrev pub wordKeywords : List Word

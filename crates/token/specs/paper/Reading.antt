@@ -1,5 +1,5 @@
 -- RULES, "Reading", "String content", "Gaps" and "Records of a script", declared: readings; string content; gaps, marks and cuts; tokens.
-use Rattle.std.specs.Prelude.{ℕ, ◌≡◌, Bool, true, false, ◌||◌, ◌⊎◌, ◌↔◌, List, [], ◌∷◌, ◌++◌, length}
+use Rattle.std.specs.Prelude.{ℕ, ◌≡◌, ◌≢◌, Bool, true, IsTrue, false, IsFalse, ◌||◌, ◌⊎◌, ◌↔◌, List, [], ◌∷◌, ◌++◌, length}
 use Rattle.std.proofs.Math.Option.{some}
 use Rattle.chars.specs.paper.Text.{Char, Text, from, place}
 use Rattle.token.specs.paper.Tests.{isAny, endsLine, quote}
@@ -35,16 +35,16 @@ endsQuote (c ∷ d ∷ s) = endsQuote (d ∷ s)
 
 -- "a last quote too, if one is left": from a text and the place where it ends to what is left of it, and the place where that ends
 pub data LastDropped (t : Text) (e : ℕ) : Text → ℕ → Type 0 where
-  dropped : (m : Text) (d : Char) → t ≡ m ++ (d ∷ []) → quote (d ∷ []) ≡ true → LastDropped t e m d.at
-  kept : endsQuote t ≡ false → LastDropped t e t e
+  dropped : (m : Text) (d : Char) → t ≡ m ++ (d ∷ []) → IsTrue (quote (d ∷ [])) → LastDropped t e m d.at
+  kept : IsFalse (endsQuote t) → LastDropped t e t e
 
 -- RULES, "String content": "Of a plain one: as long as the text begins with a quote, that quote is dropped, and each time a last quote too, if one is
 -- left." From a text and the place where it ends to the places where its content starts and ends. M8, both texts from 0 to 8:
 -- `"""a""""`: 0 and 7, 1 and 6, 2 and 5 are dropped; `a"`, from 3 to 5, starts with no quote: content 3 to 5.
 -- `""""a"""`: 0 and 7, 1 and 6, 2 and 5 are dropped; of `"a`, from 3 to 5, the first alone: content 4 to 5.
 pub data Content : Text → ℕ → ℕ → ℕ → Type 0 where
-  unquoted : {t : Text} {e a : ℕ} → quote t ≡ false → place e t ≡ a → Content t e a e
-  quoted : {c : Char} {t m : Text} {e f a b : ℕ} → quote (c ∷ t) ≡ true → LastDropped t e m f → Content m f a b → Content (c ∷ t) e a b
+  unquoted : {t : Text} {e a : ℕ} → IsFalse (quote t) → place e t ≡ a → Content t e a e
+  quoted : {c : Char} {t m : Text} {e f a b : ℕ} → IsTrue (quote (c ∷ t)) → LastDropped t e m f → Content m f a b → Content (c ∷ t) e a b
 
 -- ---- gaps
 
@@ -62,12 +62,12 @@ pub record AfterComment (gap : List Piece) : Type 0 where
   pub front : List Piece
   pub back : List Piece
   pub split : gap ≡ front ++ back
-  pub comment : hasPiece isComment back ≡ true
-  pub noEnd : hasPiece isLineEnd back ≡ false
+  pub comment : IsTrue (hasPiece isComment back)
+  pub noEnd : IsFalse (hasPiece isLineEnd back)
 
 -- "past spaces and tabs, no line end stands"
 abbrev pub NoEndAfter : Text → Type 0
-NoEndAfter s = (r : Text) × Longest (Run (isAny " \t")) s r × (endsLine r ≡ false)
+NoEndAfter s = (r : Text) × Longest (Run (isAny " \t")) s r × IsFalse (endsLine r)
 
 -- RULES, "Cut": "Each token, Eof too, has a cut"; "It is set exactly where the gap before the token has a block comment"
 pub record Cut (script : List ℕ) (gap : List Piece) : Type 0 where
@@ -78,7 +78,7 @@ pub record Cut (script : List ℕ) (gap : List Piece) : Type 0 where
   -- "that is a piece of the gap itself, so not one inside another comment,"
   pub split : gap ≡ front ++ (record { kind = Kind.blockComment; start = start; end = end } ∷ back)
   -- "that stands behind a line end of the gap,"
-  pub after : hasPiece isLineEnd front ≡ true
+  pub after : IsTrue (hasPiece isLineEnd front)
   -- "and behind which, past spaces and tabs, no line end stands."
   pub unended : NoEndAfter (from script end)
 
@@ -92,23 +92,23 @@ pub data Valued (n : ℕ) (s r : Text) : TokenType → TokenKind → Type 0 wher
   intLit : {v : ℕ} → NumberText false v s r → Valued n s r TokenType.intLit (tk.IntLit v)
   longLit : {v : ℕ} → NumberText true v s r → Valued n s r TokenType.longLit (tk.LongLit v)
   -- RULES, "String content": "Of a prefixed string that is all its text, with prefix and quotes."
-  prefixed : quote s ≡ false → Valued n s r TokenType.str (tk.Str (place n s) (place n r))
-  plain : {a b : ℕ} → quote s ≡ true → Content (textOf s r) (place n r) a b → Valued n s r TokenType.str (tk.Str a b)
+  prefixed : IsFalse (quote s) → Valued n s r TokenType.str (tk.Str (place n s) (place n r))
+  plain : {a b : ℕ} → IsTrue (quote s) → Content (textOf s r) (place n r) a b → Valued n s r TokenType.str (tk.Str a b)
 
 -- the tokens of pieces that follow a gap
 pub data Tokens (script : List ℕ) : List Piece → List Piece → List Token → Type 0 where
-  eof : {gap : List Piece} {cut : Bool} → cut ≡ true ↔ Cut script gap
+  eof : {gap : List Piece} {cut : Bool} → IsTrue cut ↔ Cut script gap
       → Tokens script gap [] (record { kind = tk.Eof; start = length script; end = length script; cut = cut } ∷ [])
   -- a gap piece that has no token
-  skip : {gap ps : List Piece} {ts : List Token} {p : Piece} → (p.kind ≡ Kind.blank) ⊎ (isComment p.kind ≡ true)
+  skip : {gap ps : List Piece} {ts : List Token} {p : Piece} → (p.kind ≡ Kind.blank) ⊎ IsTrue (isComment p.kind)
       → Tokens script (gap ++ (p ∷ [])) ps ts
       → Tokens script gap (p ∷ ps) ts
   -- RULES, "Cut": "Line ends have the cut 0."
-  lineEnd : {gap ps : List Piece} {ts : List Token} {p : Piece} {mark : Bool} → p.kind ≡ Kind.lineEnd → mark ≡ true ↔ AfterComment gap
+  lineEnd : {gap ps : List Piece} {ts : List Token} {p : Piece} {mark : Bool} → p.kind ≡ Kind.lineEnd → IsTrue mark ↔ AfterComment gap
       → Tokens script (gap ++ (p ∷ [])) ps ts
       → Tokens script gap (p ∷ ps) (record { kind = tk.Newline mark; start = p.start; end = p.end; cut = false } ∷ ts)
   token : {gap ps : List Piece} {ts : List Token} {p : Piece} {t : TokenType} {k : TokenKind} {cut : Bool} → p.kind ≡ Kind.token t
-      → Valued (length script) (from script p.start) (from script p.end) t k → cut ≡ true ↔ Cut script gap → Tokens script [] ps ts
+      → Valued (length script) (from script p.start) (from script p.end) t k → IsTrue cut ↔ Cut script gap → Tokens script [] ps ts
       → Tokens script gap (p ∷ ps) (record { kind = k; start = p.start; end = p.end; cut = cut } ∷ ts)
 
 -- the tokens of the script's readings
@@ -120,4 +120,4 @@ pub record TokensOf (script : List ℕ) (ts : List Token) : Type 0 where
 -- the last token is Eof, and no other is
 pub data OnlyLastEof : List Token → Type 0 where
   eof : {t : Token} → t.kind ≡ tk.Eof → OnlyLastEof (t ∷ [])
-  other : {t : Token} {ts : List Token} → (t.kind ≡ tk.Eof → ⊥) → OnlyLastEof ts → OnlyLastEof (t ∷ ts)
+  other : {t : Token} {ts : List Token} → t.kind ≢ tk.Eof → OnlyLastEof ts → OnlyLastEof (t ∷ ts)

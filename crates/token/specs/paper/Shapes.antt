@@ -1,7 +1,7 @@
 -- RULES, "Pieces" to "Symbol", declared: the shape of every kind. RULES, "Shape": "A shape says which texts a kind can have. It is judged from where
 -- the piece starts, on the script's own characters: where a rule asks something of what follows the piece, that is what stands behind it in this
 -- script." So it is a relation between two texts, s from where the piece starts and r that follows it.
-use Rattle.std.specs.Prelude.{ℕ, suc, ◌≤◌, ◌+◌, ◌*◌, ◌-◌, ◌^◌, ◌≡◌, Bool, true, false, not, ◌&&◌, ◌⊎◌, List, [], ◌∷◌, map, length, take, drop}
+use Rattle.std.specs.Prelude.{ℕ, suc, ◌≤◌, ◌+◌, ◌*◌, ◌-◌, ◌^◌, ◌≡◌, Bool, true, IsTrue, false, IsFalse, not, ◌&&◌, ◌⊎◌, List, [], ◌∷◌, map, length, take, drop}
 use Rattle.std.proofs.Math.Option.{none, some}
 use Rattle.chars.specs.paper.Text.{Char, Text, headIs, idChar}
 use Rattle.chars.specs.paper.Classes.{isIdStart}
@@ -15,27 +15,27 @@ Shape = Text → Text → Type 0
 
 -- the quoted or otherwise tested first character, and what follows it
 pub data One (p : Text → Bool) : Text → Text → Type 0 where
-  one : {c : Char} {s : Text} → p (c ∷ s) ≡ true → One p (c ∷ s) s
+  one : {c : Char} {s : Text} → IsTrue (p (c ∷ s)) → One p (c ∷ s) s
 
 -- zero or more characters that pass the test, which sees the text from that character on
 pub data Run (p : Text → Bool) : Text → Text → Type 0 where
   stop : {s : Text} → Run p s s
-  next : {c : Char} {s r : Text} → p (c ∷ s) ≡ true → Run p s r → Run p (c ∷ s) r
+  next : {c : Char} {s r : Text} → IsTrue (p (c ∷ s)) → Run p s r → Run p (c ∷ s) r
 
 -- one or more
 pub data Run1 (p : Text → Bool) : Text → Text → Type 0 where
-  run : {c : Char} {s r : Text} → p (c ∷ s) ≡ true → Run p s r → Run1 p (c ∷ s) r
+  run : {c : Char} {s r : Text} → IsTrue (p (c ∷ s)) → Run p s r → Run1 p (c ∷ s) r
 
 -- exactly n
 pub data Times (p : Text → Bool) : ℕ → Text → Text → Type 0 where
   done : {s : Text} → Times p 0 s s
-  more : {n : ℕ} {c : Char} {s r : Text} → p (c ∷ s) ≡ true → Times p n s r → Times p (suc n) (c ∷ s) r
+  more : {n : ℕ} {c : Char} {s r : Text} → IsTrue (p (c ∷ s)) → Times p n s r → Times p (suc n) (c ∷ s) r
 
 -- at most n, as many as stand there
 pub data UpTo (p : Text → Bool) : ℕ → Text → Text → Type 0 where
   full : {s : Text} → UpTo p 0 s s
-  fewer : {n : ℕ} {s : Text} → p s ≡ false → UpTo p (suc n) s s
-  more : {n : ℕ} {c : Char} {s r : Text} → p (c ∷ s) ≡ true → UpTo p n s r → UpTo p (suc n) (c ∷ s) r
+  fewer : {n : ℕ} {s : Text} → IsFalse (p s) → UpTo p (suc n) s s
+  more : {n : ℕ} {c : Char} {s r : Text} → IsTrue (p (c ∷ s)) → UpTo p n s r → UpTo p (suc n) (c ∷ s) r
 
 -- one shape, then another
 pub data ◌then◌ (R S : Shape) (s r : Text) : Type 0 where
@@ -65,7 +65,7 @@ LineEnd s r = One (isAny "\n") s r ⊎ (One (isAny "\r") then One (isAny "\n")) 
 
 -- RULES, "Line comment": "`//` and all that follows up to the first line end, which is not part of it, or up to the script's end."
 abbrev pub LineComment : Shape
-LineComment s r = (Times (isAny "/") 2 then Run (λ t. not (endOfLine t))) s r × (endOfLine r ≡ true)
+LineComment s r = (Times (isAny "/") 2 then Run (λ t. not (endOfLine t))) s r × IsTrue (endOfLine r)
 
 mutual
   -- RULES, "Block comment": "`/*`, then items, then `*/`."
@@ -75,7 +75,7 @@ mutual
   -- "An item is a whole block comment, or one character at which neither `/*` nor `*/` begins."
   pub data Item : Text → Text → Type 0 where
     comment : {s r : Text} → Block s r → Item s r
-    char : {c : Char} {s : Text} → opensBlock (c ∷ s) ≡ false → closesBlock (c ∷ s) ≡ false → Item (c ∷ s) s
+    char : {c : Char} {s : Text} → IsFalse (opensBlock (c ∷ s)) → IsFalse (closesBlock (c ∷ s)) → Item (c ∷ s) s
 
   -- items: zero or more
   pub data Items : Text → Text → Type 0 where
@@ -92,13 +92,13 @@ valueOfDigits b (d ∷ ds) = digitValue d * b ^ length ds + valueOfDigits b ds
 -- RULES, "Number": "Where `0x` and a hexadecimal digit stand, its digits are the longest run of hexadecimal digits behind `0x`; else they are the
 -- longest run of digits." "Its value is that of its digits, in base 16 behind `0x`, else in base ten."
 pub data Digits : ℕ → Text → Text → Type 0 where
-  hex : {s r : Text} → hexAhead s ≡ true → Longest (Run1 hexDigit) (drop 2 s) r → Digits (valueOfDigits 16 (codesOf (drop 2 s) r)) s r
-  dec : {s r : Text} → hexAhead s ≡ false → Longest (Run1 digit) s r → Digits (valueOfDigits 10 (codesOf s r)) s r
+  hex : {s r : Text} → IsTrue (hexAhead s) → Longest (Run1 hexDigit) (drop 2 s) r → Digits (valueOfDigits 16 (codesOf (drop 2 s) r)) s r
+  dec : {s r : Text} → IsFalse (hexAhead s) → Longest (Run1 digit) s r → Digits (valueOfDigits 10 (codesOf s r)) s r
 
 -- "An `L` or `l` directly behind belongs to it." (true); else none stands there
 abbrev pub LongSuffix : Bool → Shape
 LongSuffix true s r = One letterL s r
-LongSuffix false s r = (s ≡ r) × (letterL s ≡ false)
+LongSuffix false s r = (s ≡ r) × IsFalse (letterL s)
 
 -- "With that letter it is a LongLit, of at most 9223372036854775807, without it an IntLit, of at most 2147483647."
 abbrev pub limit : Bool → ℕ
@@ -167,7 +167,7 @@ singleChar false s = not (quote s) && not (isAny "\n" s) && not (backslash s)
 -- must be a valid one. In a prefixed one a backslash is content"
 pub data Single : Bool → Text → Text → Type 0 where
   done : {p : Bool} {s : Text} → Single p s s
-  char : {p : Bool} {c : Char} {s r : Text} → singleChar p (c ∷ s) ≡ true → Single p s r → Single p (c ∷ s) r
+  char : {p : Bool} {c : Char} {s r : Text} → IsTrue (singleChar p (c ∷ s)) → Single p s r → Single p (c ∷ s) r
   escape : {s m r : Text} → Escape s m → Single false m r → Single false s r
 
 -- content of a triple string: "It holds no backslash, and line ends are content."; it ends at the first three quotes in a row
@@ -177,8 +177,8 @@ tripleChar p s = not (threeQuotes s) && not (backslash s) && allowed p s
 -- RULES, "String": "Where three quotes stand at the opening, they open a triple string; else one opens a single string." RULES, "Triple string": "The
 -- first three quotes in a row close it, together with all quotes directly behind them"
 pub data Body (p : Bool) : Text → Text → Type 0 where
-  single : {s r : Text} → threeQuotes s ≡ false → (One quote then Single p then One quote) s r → Body p s r
-  triple : {s r : Text} → threeQuotes s ≡ true → (Times quote 3 then Run (tripleChar p) then Times quote 3 then Longest (Run quote)) s r → Body p s r
+  single : {s r : Text} → IsFalse (threeQuotes s) → (One quote then Single p then One quote) s r → Body p s r
+  triple : {s r : Text} → IsTrue (threeQuotes s) → (Times quote 3 then Run (tripleChar p) then Times quote 3 then Longest (Run quote)) s r → Body p s r
 
 -- "an identifier that is no keyword, or a backtick, stands directly before its opening"
 abbrev pub Prefix : Shape
@@ -197,22 +197,22 @@ Character s r = (One apostrophe then Escape then One apostrophe) s r ⊎ (One ap
 -- "a name, which is an identifier, a keyword among them, or a run of operator signs, each the longest as above, or `;` where no operator sign follows
 -- it"
 abbrev pub Name : Shape
-Name s r = Ident s r ⊎ Operator s r ⊎ (One (isAny ";") s r × (opSign r ≡ false))
+Name s r = Ident s r ⊎ Operator s r ⊎ (One (isAny ";") s r × IsFalse (opSign r))
 
 -- RULES, "Symbol": "Where no character stands, and no backslash follows the `'`: `'` and a name"
 abbrev pub Symbol : Shape
-Symbol s r = (One apostrophe then Name) s r × ((q : Text) → Character s q → ⊥) × (backslash (drop 1 s) ≡ false)
+Symbol s r = (One apostrophe then Name) s r × ((q : Text) → Character s q → ⊥) × IsFalse (backslash (drop 1 s))
 
 -- ---- the kinds
 
 unfoldable pub TokenShape : TokenType → Shape
 -- RULES, "Before a quote": "No Ident and no BacktickId ends directly before a quote"
-TokenShape TokenType.ident s r = PlainIdent s r × (quote r ≡ false)
-TokenShape TokenType.backtickId s r = Backtick s r × (quote r ≡ false)
+TokenShape TokenType.ident s r = PlainIdent s r × IsFalse (quote r)
+TokenShape TokenType.backtickId s r = Backtick s r × IsFalse (quote r)
 -- RULES, "Keywords": the five runs, "unless `//` or `/*` follows directly; then they are an OpId."
-TokenShape TokenType.opId s r = Operator s r × ((runOf (codesOf s r) ≡ none) ⊎ (opensComment r ≡ true))
+TokenShape TokenType.opId s r = Operator s r × ((runOf (codesOf s r) ≡ none) ⊎ IsTrue (opensComment r))
 TokenShape (TokenType.key k) s r =
-    (Ident s r × (wordOf (codesOf s r) ≡ some k)) ⊎ (Operator s r × (runOf (codesOf s r) ≡ some k) × (opensComment r ≡ false))
+    (Ident s r × (wordOf (codesOf s r) ≡ some k)) ⊎ (Operator s r × (runOf (codesOf s r) ≡ some k) × IsFalse (opensComment r))
 TokenShape TokenType.intLit s r = Number false s r
 TokenShape TokenType.longLit s r = Number true s r
 TokenShape TokenType.str s r = Str s r
@@ -237,4 +237,4 @@ HasShape (Kind.token t) s r = TokenShape t s r
 
 -- a piece of the kind stands there. RULES, "Comments first": "Where `//` or `/*` stands at a piece's start, the piece is a comment."
 unfoldable pub Stands : Kind → Shape
-Stands k s r = HasShape k s r × (opensComment s ≡ true → isComment k ≡ true)
+Stands k s r = HasShape k s r × (IsTrue (opensComment s) → IsTrue (isComment k))

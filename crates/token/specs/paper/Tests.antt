@@ -1,5 +1,5 @@
 -- Tests of what a text begins with, in the characters that RULES has.
-use Rattle.std.specs.Prelude.{ℕ, ◌-◌, Bool, true, false, cond, not, ◌&&◌, ◌||◌, List, [], ◌∷◌, drop, eqb, leb}
+use Rattle.std.specs.Prelude.{ℕ, ◌-◌, Bool, true, false, if◌then◌else◌, not, ◌&&◌, ◌||◌, List, [], ◌∷◌, drop, ◌==◌, nat_le}
 use Prim.Native.String.{String}
 use Rattle.chars.specs.paper.Quoted.{between, codes, oneOf}
 use Rattle.chars.specs.paper.Classes.{isOpSign, isPrintable}
@@ -21,7 +21,7 @@ isAny t s = headIs (oneOf t) s
 abbrev pub startsWith : List ℕ → Text → Bool
 startsWith [] s = true
 startsWith (x ∷ xs) [] = false
-startsWith (x ∷ xs) (c ∷ s) = eqb c.code x && startsWith xs s
+startsWith (x ∷ xs) (c ∷ s) = c.code == x && startsWith xs s
 
 -- with the quoted text
 unfoldable pub begins : String → Text → Bool
@@ -84,7 +84,7 @@ letterL s = isAny "Ll" s
 
 -- a digit's value: 0 to 9, then a to f or A to F
 abbrev pub digitValue : ℕ → ℕ
-digitValue c = cond (leb c 0x39) (c - 0x30) (cond (leb c 0x46) (c - 0x37) (c - 0x57))
+digitValue c = if nat_le c 0x39 then c - 0x30 else if nat_le c 0x46 then c - 0x37 else c - 0x57
 
 abbrev pub notBacktick : Text → Bool
 notBacktick s = not (isAny "`" s)
@@ -101,4 +101,4 @@ abbrev pub same : List ℕ → List ℕ → Bool
 same [] [] = true
 same [] (y ∷ b) = false
 same (x ∷ a) [] = false
-same (x ∷ a) (y ∷ b) = eqb x y && same a b
+same (x ∷ a) (y ∷ b) = x == y && same a b

@@ -1,6 +1,5 @@
 -- Past ASCII there is one sign.
-use Rattle.std.proofs.Common.{sym, ◌∙◌}
-use borrow.Author.Tests.{le-ltb}
+use Rattle.std.proofs.Common.{sym, ◌∙◌, le-ltb}
 use Rattle.chars.specs.paper.Classes.{isOpSign}
 use Rattle.chars.proofs.classes.Laws.{wide-none}
 use Rattle.chars.proofs.classes.is_op_char.Goals as goal

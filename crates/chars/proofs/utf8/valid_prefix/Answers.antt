@@ -27,7 +27,7 @@ loop-i-preserved-then-pair_in c =
 pub returns-in_default : goal.returns-in_default
 returns-in_default c =
     let s = c.args.s.now in
-    let e = sym (valid-stop s _ c.loop-i-test.true (nothing s _ c.in_default.ensures)) ∙ c.loop-i.invariant.same in
+    let e = sym (valid-stop s _ (nothing s _ c.in_default.ensures)) ∙ c.loop-i.invariant.same in
     record { value = e; longest = rw e (valid s); valid_laws = valid-laws; std_laws = std-laws }
 
 pub loop-i-smaller-then-w-eq3 : goal.loop-i-smaller-then-w-eq3

@@ -6,14 +6,14 @@ use Rattle.entry.proofs.host.tokenize_by.Goals as goal
 
 pub returns-in-Err-clause-answer_after : goal.returns-in-Err-clause-answer_after
 returns-in-Err-clause-answer_after c =
-    let number = c.number-number.ensures in
-    rw number
+    let put = c.put_refused.ensures in
+    rw (put.value, c.number.ensures)
     (entry-refused c.args.script.now c.args.records.now c.args.answer.now c.requires _ _ _ c.in-Err.ensures.refusal
-    (c.put_block.ensures ∙ ap (λ j. blockOf j c.in-Err.refused.place 0 0) number))
+    (put.answer_after ∙ ap (λ j. blockOf j c.in-Err.refused.place 0 0) c.number.ensures))
 
 pub returns-in-Ok-clause-answer_after : goal.returns-in-Ok-clause-answer_after
 returns-in-Ok-clause-answer_after c =
-    entry-short c.args.script.now c.args.records.now c.args.answer.now c.requires _ c.in-Ok.ensures.judged _ c.if-records-need.true c.put_block-in-Ok.ensures
+    entry-short c.args.script.now c.args.records.now c.args.answer.now c.requires _ c.in-Ok.ensures.judged _ c.if-records-need.true c.put_block.ensures
 
 pub returns-in-Ok-2-clause-answer_after : goal.returns-in-Ok-2-clause-answer_after
 returns-in-Ok-2-clause-answer_after c =

@@ -1,5 +1,5 @@
 -- A comment's opening begins no symbol.
-use Rattle.std.proofs.Common.{sym}
+use Rattle.token.proofs.lexer.Words.{sym}
 use Rattle.token.proofs.charsym.Laws.{run-symbol, no-run}
 use Rattle.token.proofs.charsym.run_symbol_end.Goals as goal
 

@@ -1,18 +1,12 @@
--- The code that is peeked tells whether a sign stands there.
-use Rattle.std.proofs.Common.{sym, ap, ◌∙◌}
-use Rattle.token.specs.paper.Tests.{opSign}
-use Rattle.token.proofs.cursor.Laws.{peeked-char, peeked-end}
-use Rattle.chars.proofs.theorems.Promises.{text-laws}
+-- By the class of a byte of ASCII, else by three bytes.
+use Rattle.token.proofs.lexer.Words.{◌<◌, get_or, sym, ap, ◌∙◌, arith, isSign}
+use Rattle.token.proofs.ident.Signs.{sign-here, arrow-decides}
 use Rattle.token.proofs.charsym.sign_at.Goals as goal
-open text-laws use {at-end}
 
-pub returns-in_default : goal.returns-in_default
-returns-in_default c =
-    let s = c.args.s.now in
-    let at = c.args.c.at in
-    sym (ap opSign (at-end s at (peeked-end s at c.in_default.ensures)))
+pub returns-then-is_op : goal.returns-then-is_op
+returns-then-is_op c = ap (λ z. z) c.if-is_op.true ∙ sym (sign-here c.args.s.now c.args.c.at (ap isSign (sym c.at.ensures) ∙ sym c.if-is_op.ensures))
 
-pub returns : goal.returns
-returns c =
-    let h = peeked-char c.args.s.now c.args.c.at _ _ c.in-Some.ensures in
-    c.is_op_char.ensures ∙ sym (ap opSign h.text)
+pub returns-else-is_op : goal.returns-else-is_op
+returns-else-is_op c =
+    let l : get_or c.args.s.now c.args.c.at 0 < 0x100 = omega (arith, c.type_inv.s c.args.c.at) in
+    c.is_arrow_at.ensures ∙ arrow-decides c.args.s.now c.args.c.at (ap isSign (sym c.at.ensures) ∙ sym c.if-is_op.ensures) l

@@ -1,6 +1,5 @@
 -- So few digits need no test of their value.
-use Rattle.std.proofs.Common.{arith, refl, sym, ◌∙◌}
-use Rattle.chars.proofs.Bools.{clash}
+use Rattle.token.proofs.cursor.Words.{arith, refl, sym, ◌∙◌, clash}
 use Rattle.token.proofs.digits.Runs.{digit-ends, turn, lead-full}
 use Rattle.token.proofs.digits.digit_run.Goals as goal
 

@@ -1,5 +1,5 @@
 -- The loop keeps the digits that have been read; as many as they are, their value needs no test.
-use Prim.Native.Nat.{◌-◌}
+use Rattle.token.proofs.cursor.Words.{◌-◌}
 use Rattle.token.proofs.digits.Runs.{DigitsTo}
 use Rattle.token.proofs.digits.digit_run.Given as goal
 

@@ -1,7 +1,5 @@
 -- The digits make the number that all of them make.
-use Rattle.std.proofs.Common.{length, arith, ap, ◌∙◌}
-use Rattle.chars.specs.paper.Text.{from}
-use Rattle.token.specs.code.Piece.{pieceOf}
+use Rattle.token.proofs.cursor.Words.{length, arith, ap, ◌∙◌, from, pieceOf}
 use Rattle.token.proofs.digits.Laws.{number-piece}
 use Rattle.token.proofs.digits.long_number.Goals as goal
 

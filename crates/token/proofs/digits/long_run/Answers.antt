@@ -1,8 +1,5 @@
 -- Behind the zeros the number is read again; where still a digit more stands there, both values are above every most.
-use Rattle.std.proofs.Common.{arith, sym, ap, ◌∙◌}
-use Rattle.chars.specs.paper.Text.{from}
-use Rattle.token.specs.computed.Answer.{numberOf}
-use Rattle.token.specs.code.Digits.{digitIn}
+use Rattle.token.proofs.cursor.Words.{arith, sym, ap, ◌∙◌, from, numberOf, digitIn}
 use Rattle.token.proofs.digits.Laws.{digits-ascii, read-stop, over-found}
 use Rattle.token.proofs.digits.Runs.{over-full}
 use Rattle.token.proofs.digits.long_run.Goals as goal

@@ -1,9 +1,5 @@
 -- Where no digit more stands there, the digits that were read are all.
-use Rattle.std.proofs.Common.{length, arith, sym, ap, ◌∙◌}
-use Rattle.chars.specs.paper.Text.{from}
-use Rattle.token.specs.computed.Answer.{numberOf}
-use Rattle.token.specs.code.Digits.{digitIn}
-use Rattle.token.specs.code.Piece.{pieceOf}
+use Rattle.token.proofs.cursor.Words.{length, arith, sym, ap, ◌∙◌, from, numberOf, digitIn, pieceOf}
 use Rattle.token.proofs.digits.Laws.{digits-ascii, read-stop, number-piece}
 use Rattle.token.proofs.digits.number_in.Goals as goal
 

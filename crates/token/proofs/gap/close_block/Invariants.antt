@@ -1,7 +1,5 @@
 -- The loop keeps what is closed from its place on, with so many open.
-use Rattle.std.proofs.Common.{◌≡◌, ◌≤◌, ◌-◌, length}
-use Rattle.chars.specs.paper.Text.{from}
-use Rattle.token.specs.computed.Answer.{close}
+use Rattle.token.proofs.cursor.Words.{◌≡◌, ◌≤◌, ◌-◌, length, from, close}
 use Rattle.token.proofs.gap.close_block.Given as goal
 
 abbrev pub invariant-loop-i : goal.invariant-loop-i

@@ -1,5 +1,5 @@
 -- The steps from here on give what the steps from the start on give.
-use Rattle.std.proofs.Common.{◌≤◌, ◌-◌, length}
+use Rattle.token.proofs.cursor.Words.{◌≤◌, ◌-◌, length}
 use Rattle.token.proofs.gap.Laws.{OpeningsFrom}
 use Rattle.token.proofs.gap.pass_openings.Given as goal
 

@@ -1,4 +1,4 @@
-use Rattle.std.proofs.Common.{arith}
+use Rattle.token.proofs.lexer.Words.{arith}
 use Rattle.token.proofs.ident.Ticks.{run-open, run-empty, run-closed}
 use Rattle.token.proofs.ident.consume_backtick.Goals as goal
 

@@ -1,8 +1,5 @@
 -- Underscores are passed one by one, id characters by runs; where neither stands, signs follow underscores.
-use Rattle.std.proofs.Common.{cond, arith, sym, ap, ◌∙◌}
-use Rattle.chars.specs.paper.Text.{from}
-use Rattle.chars.specs.computed.Runs.{afterRun}
-use Rattle.token.specs.paper.Tests.{opSign}
+use Rattle.token.proofs.lexer.Words.{cond, arith, sym, ap, ◌∙◌, from, afterRun, opSign}
 use Rattle.token.proofs.ident.Laws.{under-inside, pass-under, pass-ids, pass-none}
 use Rattle.token.proofs.ident.consume_id_rest.Goals as goal
 
@@ -23,22 +20,16 @@ chunks-preserved c =
     let p = pass-ids c.args.s.now c.loop-left.i c.loop-left.left _ c.loop-left.invariant.1 c.id_run_end-end.ensures c.if-end-i.false in
     (p.1, p.2 ∙ c.loop-left.invariant.2)
 
-pub returns-then-left : goal.returns-then-left
-returns-then-left c =
+pub returns-then-left-clause-rest : goal.returns-then-left-clause-rest
+returns-then-left-clause-rest c =
     let s = c.args.s.now in
     let i = c.loop-left.i in
     let q = pass-none s i c.loop-left.left c.loop-left.invariant.1 (sym c.if-end-i.true ∙ c.id_run_end-end.ensures) (λ e. c.if-byte_at-eq95.false (c.byte_at.ensures ∙ e)) in
-    record {
-      within = c.consume_signs.ensures.within;
-      rest = c.consume_signs.ensures.rest ∙ sym (q ∙ ap (λ u. cond u (afterRun opSign (from s i)) (from s i)) c.if-left.true) ∙ c.loop-left.invariant.2;
-    }
+    c.consume_signs.ensures.rest ∙ sym (q ∙ ap (λ u. cond u (afterRun opSign (from s i)) (from s i)) c.if-left.true) ∙ c.loop-left.invariant.2
 
-pub returns : goal.returns
-returns c =
+pub returns-clause-rest : goal.returns-clause-rest
+returns-clause-rest c =
     let s = c.args.s.now in
     let i = c.loop-left.i in
     let q = pass-none s i c.loop-left.left c.loop-left.invariant.1 (sym c.if-end-i.true ∙ c.id_run_end-end.ensures) (λ e. c.if-byte_at-eq95.false (c.byte_at.ensures ∙ e)) in
-    record {
-      within = c.loop-left.invariant.1;
-      rest = sym (q ∙ ap (λ u. cond u (afterRun opSign (from s i)) (from s i)) c.if-left.false) ∙ c.loop-left.invariant.2;
-    }
+    sym (q ∙ ap (λ u. cond u (afterRun opSign (from s i)) (from s i)) c.if-left.false) ∙ c.loop-left.invariant.2

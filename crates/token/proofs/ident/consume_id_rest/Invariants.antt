@@ -1,7 +1,5 @@
 -- Both loops keep what follows the rest from its place on, an underscore last before it or not.
-use Rattle.std.proofs.Common.{◌≡◌, ◌≤◌, ◌-◌, length}
-use Rattle.chars.specs.paper.Text.{from}
-use Rattle.token.specs.computed.Answer.{afterIdent}
+use Rattle.token.proofs.lexer.Words.{◌≡◌, ◌≤◌, ◌-◌, length, from, afterIdent}
 use Rattle.token.proofs.ident.consume_id_rest.Given as goal
 
 abbrev pub invariant-loop-left : goal.invariant-loop-left

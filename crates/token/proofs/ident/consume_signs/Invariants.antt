@@ -1,14 +1,21 @@
--- The loop keeps what follows the signs from its place on.
-use Prim.Native.Nat.{◌≤◌, ◌-◌}
-use mathlib.Core.Path.{◌≡◌}
-use lib.ListN.{length}
-use Rattle.chars.specs.paper.Text.{from}
-use Rattle.chars.specs.computed.Runs.{afterRun}
-use Rattle.token.specs.paper.Tests.{opSign}
+-- Both loops keep what follows the signs from its place on.
+use Rattle.token.proofs.lexer.Words.{◌≡◌, ◌≤◌, ◌-◌, Bool, length, from, afterRun, signIn}
+use denote.Param as param
+use Rattle.token.specs.contracts.ident.consume_signs as contract
 use Rattle.token.proofs.ident.consume_signs.Given as goal
 
-abbrev pub invariant-loop-next : goal.invariant-loop-next
-invariant-loop-next l = (l.i ≤ length l.s) × (afterRun opSign (from l.s l.i) ≡ afterRun opSign (from l.s l.initial.i))
+-- whether the signs have to be free
+abbrev pub free : goal.Over → Bool
+free g = contract.FREE-type (param.number g.row.FREE)
 
-abbrev pub decreases-loop-next : goal.decreases-loop-next
-decreases-loop-next l = length l.s - l.i
+abbrev pub invariant-loop-i : goal.invariant-loop-i
+invariant-loop-i g l = (l.i ≤ length l.s) × (afterRun (signIn (free g)) (from l.s l.i) ≡ afterRun (signIn (free g)) (from l.s l.fn.c.at))
+
+abbrev pub decreases-loop-i : goal.decreases-loop-i
+decreases-loop-i g l = length l.s - l.i
+
+abbrev pub invariant-loop-i-2 : goal.invariant-loop-i-2
+invariant-loop-i-2 g l = (l.i ≤ length l.s) × (l.initial.i ≤ l.i) × (afterRun (signIn (free g)) (from l.s l.i) ≡ afterRun (signIn (free g)) (from l.s l.fn.c.at))
+
+abbrev pub decreases-loop-i-2 : goal.decreases-loop-i-2
+decreases-loop-i-2 g l = length l.s - l.i

@@ -1,7 +1,5 @@
 -- The bytes from here on end where those from the start on end.
-use Prim.Native.Nat.{◌-◌}
-use lib.ListN.{length}
-use Rattle.token.specs.code.ByteClass.{classAt, inRun}
+use Rattle.token.proofs.lexer.Words.{◌-◌, length, classAt, inRun}
 use Rattle.token.proofs.names.Bytes.{Passing}
 use Rattle.token.proofs.names.run_end.Given as goal
 

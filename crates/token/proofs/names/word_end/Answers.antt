@@ -1,7 +1,5 @@
 -- The bytes from here on end where those from the start on end.
-use Rattle.std.proofs.Common.{◌≡◌, refl, sym, ap, ◌∙◌}
-use Rattle.token.specs.code.ByteClass.{inWord}
-use Rattle.token.specs.code.Names.{hereOf, runTo}
+use Rattle.token.proofs.lexer.Words.{◌≡◌, refl, sym, ap, ◌∙◌, inWord, hereOf, runTo}
 use Rattle.token.proofs.names.Bytes.{pass-first, pass-more, pass-stop, class-off}
 use Rattle.token.proofs.names.word_end.Goals.{then-loop-i-test+else-in_word, else-loop-i-test}
 use Rattle.token.proofs.names.word_end.Goals as goal

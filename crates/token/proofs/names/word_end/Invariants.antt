@@ -1,7 +1,5 @@
 -- The bytes from here on end where those from the start on end.
-use Prim.Native.Nat.{◌-◌}
-use lib.ListN.{length}
-use Rattle.token.specs.code.ByteClass.{classAt, inWord}
+use Rattle.token.proofs.lexer.Words.{◌-◌, length, classAt, inWord}
 use Rattle.token.proofs.names.Bytes.{Passing}
 use Rattle.token.proofs.names.word_end.Given as goal
 

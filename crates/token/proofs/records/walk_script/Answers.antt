@@ -1,8 +1,5 @@
 -- The walk from the script's start, and its end.
-use Rattle.std.proofs.Common.{◌≡◌, ap, sym, subst, ◌∙◌, Ok, Err, rules}
-use Rattle.token.specs.code.Records.{measuredFrom}
-use Rattle.token.specs.code.Walk.{beginning, stateAt, Steps}
-use Rattle.token.specs.declared.walk.Stand.{Stand}
+use Rattle.token.proofs.cursor.Words.{◌≡◌, ap, sym, subst, ◌∙◌, Ok, Err, rules, measuredFrom, beginning, stateAt, Steps, Stand}
 use Rattle.token.proofs.records.Ends.{begun-counted, end-counted, end-stored}
 use Rattle.token.proofs.records.walk_script.Goals as goal
 

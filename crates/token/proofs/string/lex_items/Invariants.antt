@@ -1,7 +1,5 @@
 -- What the walk finds from here on is what it finds from the start on.
-use Rattle.std.proofs.Common.{◌≡◌, ◌≤◌, ◌-◌, length}
-use Rattle.chars.specs.paper.Text.{from}
-use Rattle.token.specs.code.String.{closeSingle}
+use Rattle.token.proofs.cursor.Words.{◌≡◌, ◌≤◌, ◌-◌, length, from, closeSingle}
 use Rattle.token.proofs.string.lex_items.Given as goal
 
 abbrev pub invariant-loop-d : goal.invariant-loop-d

@@ -1,9 +1,7 @@
-use Rattle.std.proofs.Common.{length, false, ap, ◌∙◌}
-use Rattle.token.specs.code.String.{endedOf}
+use Rattle.token.proofs.cursor.Words.{length, false, ap, ◌∙◌, endedOf, err_from_is_err_and}
 use Rattle.token.proofs.string.Contents.{three-quote, triple-opened}
 use Rattle.token.proofs.string.Laws.{plain-end, plain-refused, plain-ended}
 use Rattle.token.proofs.string.lex_plain_triple.Goals as goal
-use Rattle.std.proofs.lemmas.Result.{err_from_is_err_and}
 
 pub returns-in_err-end : goal.returns-in_err-end
 returns-in_err-end c =

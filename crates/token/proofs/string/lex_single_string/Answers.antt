@@ -1,6 +1,5 @@
 -- The walk from behind the ordinary bytes finds what it finds from behind the quote on.
-use Rattle.std.proofs.Common.{length, sym, ap, ◌∙◌, ◌≡◌, get_or, arith}
-use Rattle.token.specs.code.String.{endedOf}
+use Rattle.token.proofs.cursor.Words.{length, sym, ap, ◌∙◌, ◌≡◌, get_or, arith, endedOf}
 use Rattle.token.proofs.cursor.Bytes.{inside}
 use Rattle.token.proofs.string.Laws.{quote-in, single-begun, single-closes}
 use Rattle.token.proofs.string.lex_single_string.Goals as goal
@@ -14,9 +13,9 @@ returns-then-byte_at-eq34 c =
     let i = c.skip_ordinary-run.result.at in
     let b : get_or s i 0 ≡ 0x22 = sym c.byte_at.ensures ∙ c.if-byte_at-eq34.true in
     single-closes c.args.prefixed s i (inside s i (omega arith)) b
-    ∙ ap (endedOf (length s)) (single-begun c.args.prefixed s c.args.c.at i c.requires.opens c.skip_ordinary-run.ensures.2)
+    ∙ ap (endedOf (length s)) (single-begun c.args.prefixed s c.args.c.at i c.requires.opens c.skip_ordinary-run.ensures.rest)
 
 pub returns : goal.returns
 returns c =
     let s = c.args.s.now in
-    c.lex_items.ensures ∙ ap (endedOf (length s)) (single-begun c.args.prefixed s c.args.c.at _ c.requires.opens c.skip_ordinary-run.ensures.2)
+    c.lex_items.ensures ∙ ap (endedOf (length s)) (single-begun c.args.prefixed s c.args.c.at _ c.requires.opens c.skip_ordinary-run.ensures.rest)

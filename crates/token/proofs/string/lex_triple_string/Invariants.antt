@@ -1,7 +1,5 @@
 -- What the walk finds from here on is what it finds from behind the three quotes on.
-use Rattle.std.proofs.Common.{◌≡◌, ◌≤◌, ◌-◌, length, drop}
-use Rattle.chars.specs.paper.Text.{from}
-use Rattle.token.specs.computed.Answer.{closeTriple}
+use Rattle.token.proofs.cursor.Words.{◌≡◌, ◌≤◌, ◌-◌, length, drop, from, closeTriple}
 use Rattle.token.proofs.string.lex_triple_string.Given as goal
 
 abbrev pub invariant-loop-d : goal.invariant-loop-d

@@ -1,6 +1,5 @@
 -- Thirty-two bytes are left where a turn is made, and the turns from here on end where those from the start on do.
-use Rattle.std.proofs.Common.{◌-◌, sym, refl, arith}
-use Rattle.token.specs.code.String.{spanAt, blocksTaken}
+use Rattle.token.proofs.cursor.Words.{◌-◌, sym, refl, arith, spanAt, blocksTaken}
 use Rattle.token.proofs.Loops.{going-on, going-stop}
 use Rattle.token.proofs.string.Strips.{blocks_apart}
 use Rattle.token.proofs.string.strip_blocks.Goals as goal

@@ -1,6 +1,5 @@
 -- The steps from here on give what the steps from the start on give.
-use Rattle.std.proofs.Common.{◌≤◌, ◌-◌, length}
-use Rattle.token.specs.code.String.{spanAt, blockMore, blockLess, blocksTaken}
+use Rattle.token.proofs.cursor.Words.{◌≤◌, ◌-◌, length, spanAt, blockMore, blockLess, blocksTaken}
 use Rattle.token.proofs.Loops.{Going}
 use Rattle.token.proofs.string.strip_blocks.Given as goal
 

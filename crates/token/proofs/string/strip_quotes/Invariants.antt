@@ -1,5 +1,5 @@
 -- The content of what is left is the content of all.
-use Prim.Native.Nat.{◌-◌}
+use Rattle.token.proofs.cursor.Words.{◌-◌}
 use Rattle.token.proofs.string.Strips.{Left}
 use Rattle.token.proofs.string.strip_quotes.Given as goal
 

@@ -1,5 +1,5 @@
 -- Three quotes, or many.
-use Rattle.std.proofs.Common.{◌∙◌, arith}
+use Rattle.token.proofs.cursor.Words.{◌∙◌, arith}
 use Rattle.token.proofs.string.Contents.{three-quote, triple-content}
 use Rattle.token.proofs.string.Strips.{string-tail}
 use Rattle.token.proofs.string.strip_triple.Goals as goal

@@ -1,9 +1,6 @@
 -- One digit.
-use Rattle.token.proofs.walk.Words.{digit-inside, digit-here, step-digit}
+use Rattle.token.proofs.walk.Words.{digit-here, step-digit}
 use Rattle.token.proofs.walk.digit_step.Goals as goal
-
-pub digit_value-requires-clause-within : goal.digit_value-requires-clause-within
-digit_value-requires-clause-within c = digit-inside c.requires.good c.requires.digit
 
 pub digit_value-requires-clause-digit : goal.digit_value-requires-clause-digit
 digit_value-requires-clause-digit c = digit-here c.requires.good c.requires.digit

@@ -1,34 +1,39 @@
 -- A number of one digit, or what the reader of numbers answers; one that is refused is left.
-use Rattle.std.proofs.Common.{sym, ap, ◌∙◌}
-use Rattle.token.specs.paper.Records.{intLength, longLength}
-use Rattle.token.specs.code.Piece.{tokenTo}
+use Rattle.token.proofs.lexer.Words.{sym, ap, ◌∙◌, intLength, longLength, tokenTo, rules}
 use Rattle.token.specs.declared.kinds.TokenKind.TheVariants as tk
 use Rattle.token.proofs.form.Shapes.{int-size, long-size}
-use Rattle.token.proofs.walk.Words.{number-on, step-number}
+use Rattle.token.proofs.walk.Pieces.{step-valued, piece-on}
+use Rattle.token.proofs.walk.Prefixes.{number-begun}
+use Rattle.token.proofs.walk.Left.{number-kind}
 use Rattle.token.proofs.walk.number_step.Goals as goal
 
-pub returns-in-IntLit-clause-on : goal.returns-in-IntLit-clause-on
-returns-in-IntLit-clause-on c =
+pub returns-in-IntLit : goal.returns-in-IntLit
+returns-in-IntLit c =
     let p = c.requires in
     let v = c.in-IntLit.v in
-    let f = ap (λ k. tokenTo k c.in-Ok.end) (sym c.in-IntLit.is) ∙ c.in-Ok.ensures in
-    rw (c.behind_values.ensures, c.here_at.ensures)
-    (step-number p.good p.digit (tk.IntLit v) c.in-Ok.end f intLength (int-size v) (int-size v) _ _ (rw c.int-form.ensures.value at c.put_if.ensures))
+    let b = number-begun p.good p.digit in
+    let f = ap (λ k. tokenTo k c.in-Ok.end) (sym c.in-IntLit.is) ∙ c.in-Ok.ensures ∙ b.is in
+    rw (c.behind_values.ensures, c.here_at.ensures) (record {
+      on =
+          step-valued p.good b.within (tk.IntLit v) c.in-Ok.end.at f intLength (int-size v) (int-size v) _ _ (rw c.int-form.ensures.value at c.put_if.ensures);
+      further = piece-on p.good b.within _ _ f;
+      kept = search rules;
+      none = search rules;
+    })
 
-pub returns-in-IntLit-clause-further : goal.returns-in-IntLit-clause-further
-returns-in-IntLit-clause-further c =
-    let f = ap (λ k. tokenTo k c.in-Ok.end) (sym c.in-IntLit.is) ∙ c.in-Ok.ensures in
-    rw (c.behind_values.ensures, c.here_at.ensures) (number-on c.requires.good c.requires.digit _ _ f)
-
-pub returns-in-LongLit-clause-on : goal.returns-in-LongLit-clause-on
-returns-in-LongLit-clause-on c =
+pub returns-in-LongLit : goal.returns-in-LongLit
+returns-in-LongLit c =
     let p = c.requires in
     let v = c.in-LongLit.v in
-    let f = ap (λ k. tokenTo k c.in-Ok.end) (sym c.in-LongLit.is) ∙ c.in-Ok.ensures in
-    rw (c.behind_values-in-LongLit.ensures, c.here_at-in-LongLit.ensures)
-    (step-number p.good p.digit (tk.LongLit v) c.in-Ok.end f longLength (long-size v) (long-size v) _ _ (rw c.long-form.ensures.value at c.put_if-in-LongLit.ensures))
+    let b = number-begun p.good p.digit in
+    let f = ap (λ k. tokenTo k c.in-Ok.end) (sym c.in-LongLit.is) ∙ c.in-Ok.ensures ∙ b.is in
+    rw (c.behind_values-in-LongLit.ensures, c.here_at-in-LongLit.ensures) (record {
+      on =
+          step-valued p.good b.within (tk.LongLit v) c.in-Ok.end.at f longLength (long-size v) (long-size v) _ _ (rw c.long-form.ensures.value at c.put_if-in-LongLit.ensures);
+      further = piece-on p.good b.within _ _ f;
+      kept = search rules;
+      none = search rules;
+    })
 
-pub returns-in-LongLit-clause-further : goal.returns-in-LongLit-clause-further
-returns-in-LongLit-clause-further c =
-    let f = ap (λ k. tokenTo k c.in-Ok.end) (sym c.in-LongLit.is) ∙ c.in-Ok.ensures in
-    rw (c.behind_values-in-LongLit.ensures, c.here_at-in-LongLit.ensures) (number-on c.requires.good c.requires.digit _ _ f)
+pub returns-in_default-kind : goal.returns-in_default-kind
+returns-in_default-kind c = absurd (number-kind _ _ _ _ c.in-Ok.ensures c.in_default-kind.not-IntLit c.in_default-kind.not-LongLit)

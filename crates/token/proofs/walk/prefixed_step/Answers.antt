@@ -1,4 +1,4 @@
-use Rattle.std.proofs.Common.{◌∙◌, arith}
+use Rattle.token.proofs.lexer.Words.{◌∙◌, arith}
 use Rattle.token.proofs.walk.Prefixes.{prefixed-opens, prefixed-scan}
 use Rattle.token.proofs.walk.prefixed_step.Goals as goal
 

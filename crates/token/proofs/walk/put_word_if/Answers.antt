@@ -1,6 +1,5 @@
 -- Where it fits, the record of the kind that was found is stored; else the bytes stay.
-use Rattle.token.specs.code.Form.{plainForm}
-use Rattle.token.specs.paper.Records.{headLength}
+use Rattle.token.proofs.lexer.Words.{plainForm, headLength}
 use Rattle.token.proofs.form.Laws.{known-bare, length-form}
 use Rattle.token.proofs.form.Stores.{stored-in, stored-out}
 use Rattle.token.proofs.walk.put_word_if.Goals as goal

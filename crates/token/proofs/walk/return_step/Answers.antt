@@ -1,5 +1,5 @@
 -- The line end's record, and on behind it; a CR alone is refused.
-use Rattle.std.proofs.Common.{sym, ◌∙◌}
+use Rattle.token.proofs.lexer.Words.{sym, ◌∙◌}
 use Rattle.token.proofs.walk.Pieces.{cr-here, step-line-end, refuses-lone}
 use Rattle.token.proofs.walk.return_step.Goals as goal
 

@@ -1,25 +1,15 @@
--- An operator that ends before no character past ASCII; else it is left.
-use Rattle.std.proofs.Common.{arith}
-use Rattle.token.proofs.names.Bytes.{operator-stops}
-use Rattle.token.proofs.walk.Words.{sign-within, operator-on, operator-left, step-operator}
+use Rattle.token.proofs.lexer.Words.{◌∙◌}
+use Rattle.token.proofs.walk.Starts.{run-begun, sign-next}
 use Rattle.token.proofs.walk.run_step.Goals as goal
 
-pub operator_end-requires : goal.operator_end-requires
-operator_end-requires c = omega (arith, sign-within c.requires.good c.requires.sign)
+pub lex_op_run-piece-requires-clause-within : goal.lex_op_run-piece-requires-clause-within
+lex_op_run-piece-requires-clause-within c = (run-begun c.args.s.now c.args.x.at c.requires.sign c.requires.no_comment).within
 
-pub put_run_if-requires-clause-left : goal.put_run_if-requires-clause-left
-put_run_if-requires-clause-left c =
-    operator-left c.requires.good c.requires.sign c.requires.no_comment _ (operator-stops c.args.s.now _ _ c.in_ok-end.ensures)
+pub lex_op_run-piece-requires-clause-next_same : goal.lex_op_run-piece-requires-clause-next_same
+lex_op_run-piece-requires-clause-next_same c = sign-next c.args.s.now c.args.x.at c.requires.sign c.requires.no_comment c.args.next.at c.requires.next_same
 
-pub put_run_if-requires-clause-room : goal.put_run_if-requires-clause-room
-put_run_if-requires-clause-room c = let g = c.requires.good in omega (arith, g.stands.size, g.stands.within)
-
-pub returns-clause-on : goal.returns-clause-on
-returns-clause-on c =
+pub put_piece-requires : goal.put_piece-requires
+put_piece-requires c =
     let p = c.requires in
-    rw c.behind.ensures (step-operator p.good p.sign p.no_comment _ (operator-stops c.args.s.now _ _ c.in_ok-end.ensures) _ _ c.put_run_if.ensures)
-
-pub returns-clause-further : goal.returns-clause-further
-returns-clause-further c =
-    let p = c.requires in
-    rw c.behind.ensures (operator-on p.good p.sign p.no_comment _ (operator-stops c.args.s.now _ _ c.in_ok-end.ensures))
+    let b = run-begun c.args.s.now c.args.x.at p.sign p.no_comment in
+    record { short = p.short; good = p.good; within = b.within; no_gap = b.no_gap; no_comment = b.no_comment; piece_is = c.lex_op_run-piece.ensures ∙ b.is }

@@ -1,14 +1,44 @@
--- Where no gap piece stands, a token is read.
-use Rattle.std.proofs.Common.{sym}
-use Rattle.token.specs.code.Walk.{Good}
-use Rattle.token.proofs.walk.Pieces.{no-gap-here}
+-- By the class of the byte that stands there.
+use Rattle.token.proofs.lexer.Words.{tests, rules, sym, ◌∙◌, Good, Steps, Refuses, false, ◌≡◌}
+use Rattle.token.proofs.byte_class.Laws.{others}
+use Rattle.chars.specs.paper.Quoted.{member}
+use Rattle.token.proofs.walk.Laws.{steps-trans}
+use Rattle.token.proofs.walk.Starts.{other-clear, other-left, refuses-other}
 use Rattle.token.proofs.walk.walk.Goals.{then-not-x, else-not-x}
 use Rattle.token.proofs.walk.walk.Goals as goal
 
-pub token_step-requires-clause-no_gap : goal.token_step-requires-clause-no_gap
-token_step-requires-clause-no_gap c =
+pub ascii_run_step-requires-clause-no_comment : goal.ascii_run_step-requires-clause-no_comment
+ascii_run_step-requires-clause-no_comment c =
     let g : Good c.args.s.now c.if-not-x.x = elim c.if-not-x.branch [
-      | then-not-x w ↦ rw w.x-is w.walk_words-x.ensures.good
+      | then-not-x w ↦ rw w.x-is w.walk_words-x.ensures.on.good
       | else-not-x w ↦ rw w.x-is c.loop-x.invariant.good
     ] in
-    no-gap-here g (sym c.if-eq.ensures) (sym c.if-eq-6.ensures) (sym c.if-eq-7.ensures)
+    other-clear g (search (tests, rules))
+
+pub ascii_name_step-requires-clause-no_sign : goal.ascii_name_step-requires-clause-no_sign
+ascii_name_step-requires-clause-no_sign c = search (tests, rules)
+
+pub ascii_name_step-requires-clause-begins : goal.ascii_name_step-requires-clause-begins
+ascii_name_step-requires-clause-begins c = search (tests, rules)
+
+pub ascii_run_step-requires-clause-sign : goal.ascii_run_step-requires-clause-sign
+ascii_run_step-requires-clause-sign c = search (tests, rules)
+
+-- the walk to where nothing begins a token, and its refusal
+stands : (c : goal.After-at) → Steps c.args.s.now c.args.start c.args.out.now c.if-not-x.x c.if-not-x.out
+stands c = elim c.if-not-x.branch [
+  | then-not-x w ↦ rw (w.x-is, w.out-is) (steps-trans c.loop-x.invariant w.walk_words-x.ensures.on)
+  | else-not-x w ↦ rw (w.x-is, w.out-is) c.loop-x.invariant
+]
+
+none : (c : goal.After-at) → Refuses c.args.s.now c.if-not-x.x c.if-not-x.out c.at.result
+none c =
+    let k : member others c.if-not-x.x.class.number ≡ false = search (tests, rules) in
+    let g = (stands c).good in
+    rw c.at.ensures (refuses-other g c.if-x-s.true (other-left g (sym c.if-is_sign.ensures) k) _)
+
+pub returns-in_default-2-clause-refused : goal.returns-in_default-2-clause-refused
+returns-in_default-2-clause-refused c = let r = (stands c).reaches in sym r.counted ∙ (none c).counted
+
+pub returns-in_default-2-clause-out_after : goal.returns-in_default-2-clause-out_after
+returns-in_default-2-clause-out_after c = let r = (stands c).reaches in sym (none c).stored ∙ r.stored

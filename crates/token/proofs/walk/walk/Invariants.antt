@@ -1,6 +1,5 @@
 -- The loop keeps that the walk comes from its start to its place.
-use Rattle.std.proofs.Common.{◌-◌, length}
-use Rattle.token.specs.code.Walk.{Steps}
+use Rattle.token.proofs.lexer.Words.{◌-◌, length, Steps}
 use Rattle.token.proofs.walk.walk.Given as goal
 
 abbrev pub invariant-loop-x : goal.invariant-loop-x

@@ -1,44 +1,48 @@
 -- Each word and each operator that nothing behind it makes more of is a step more.
-use Rattle.std.proofs.Common.{sym, arith}
+use Rattle.token.proofs.lexer.Words.{sym, arith}
 use Rattle.token.proofs.walk.Laws.{steps-trans, at-is}
-use Rattle.token.proofs.walk.Words.{starts-by, word-inside, word-on, plain-leaves, step-word, run-within, run-on, run-left, step-run}
+use Rattle.token.proofs.walk.Words.{word-inside, word-bound, plain-leaves, step-word, run-within}
+use Rattle.token.proofs.walk.Runs.{run-here, run-bound, run-on, run-left-to, step-run}
+use Rattle.token.proofs.walk.Left.{left-word}
 use Rattle.token.proofs.walk.walk_words.Goals as goal
 
 pub word_end-end-requires : goal.word_end-end-requires
-word_end-end-requires c =
-    let k = starts-by c.loop-x.x.class.number (sym c.if-is_sign.ensures) (sym c.if-starts_word.ensures) in
-    omega (arith, word-inside c.loop-x.invariant.good k)
+word_end-end-requires c = omega (arith, word-inside c.loop-x.invariant.good (sym c.if-is_sign.ensures) (sym c.if-starts_word.ensures))
+
+pub goes_on-requires : goal.goes_on-requires
+goes_on-requires c =
+    let b = word-bound c.loop-x.invariant.good (sym c.if-is_sign.ensures) (sym c.if-starts_word.ensures) _ c.word_end-end.ensures in
+    record { some = omega (arith, b.0); within = b.1 }
 
 pub put_word_if-requires-clause-left : goal.put_word_if-requires-clause-left
 put_word_if-requires-clause-left c =
-    let g = c.loop-x.invariant.good in
-    let k = starts-by c.loop-x.x.class.number (sym c.if-is_sign.ensures) (sym c.if-starts_word.ensures) in
-    λ y. plain-leaves g k _ c.word_end-end.ensures (sym c.if-asks_more.ensures)
+    λ y. plain-leaves c.loop-x.invariant.good (sym c.if-is_sign.ensures) (sym c.if-starts_word.ensures) _ c.word_end-end.ensures (sym c.if-goes_on.ensures)
 
 pub put_word_if-requires-clause-room : goal.put_word_if-requires-clause-room
 put_word_if-requires-clause-room c = let g = c.loop-x.invariant.good in omega (arith, g.stands.size, g.stands.within)
 
 pub loop-x-smaller-then-starts_word : goal.loop-x-smaller-then-starts_word
 loop-x-smaller-then-starts_word c =
-    let g = c.loop-x.invariant.good in
-    let k = starts-by c.loop-x.x.class.number (sym c.if-is_sign.ensures) (sym c.if-starts_word.ensures) in
-    let q = c.word_end-end.ensures in
-    let n = sym c.if-asks_more.ensures in
-    omega (arith, at-is c.behind-x.ensures, word-on g k _ q n, (plain-leaves g k _ q n).1)
+    let b = word-bound c.loop-x.invariant.good (sym c.if-is_sign.ensures) (sym c.if-starts_word.ensures) _ c.word_end-end.ensures in
+    omega (arith, at-is c.behind-x.ensures, b.0, b.1)
 
 pub loop-x-preserved-then-starts_word : goal.loop-x-preserved-then-starts_word
 loop-x-preserved-then-starts_word c =
     let i = c.loop-x.invariant in
-    let k = starts-by c.loop-x.x.class.number (sym c.if-is_sign.ensures) (sym c.if-starts_word.ensures) in
-    rw c.behind-x.ensures (steps-trans i (step-word i.good k _ c.word_end-end.ensures (sym c.if-asks_more.ensures) _ _ c.put_word_if.ensures))
+    rw c.behind-x.ensures
+    (steps-trans i (step-word i.good (sym c.if-is_sign.ensures) (sym c.if-starts_word.ensures) _ c.word_end-end.ensures (sym c.if-goes_on.ensures) _ _ c.put_word_if.ensures))
 
 pub run_end-end-requires : goal.run_end-end-requires
 run_end-end-requires c = omega (arith, run-within c.loop-x.invariant.good (sym c.if-in_run.ensures))
 
+pub run_goes_on-requires : goal.run_goes_on-requires
+run_goes_on-requires c =
+    let q = c.run_end-end.ensures in
+    record { here = run-here c.args.s.now _ _ q; within = run-bound c.loop-x.invariant.good (sym c.if-in_run.ensures) _ q }
+
 pub put_run_if-requires-clause-left : goal.put_run_if-requires-clause-left
 put_run_if-requires-clause-left c =
-    let g = c.loop-x.invariant.good in
-    run-left g (sym c.if-in_run.ensures) _ c.run_end-end.ensures (sym c.if-asks_more-2.ensures)
+    λ y. run-left-to c.loop-x.invariant.good (sym c.if-in_run.ensures) _ c.run_end-end.ensures (sym c.if-run_goes_on.ensures)
 
 pub put_run_if-requires-clause-room : goal.put_run_if-requires-clause-room
 put_run_if-requires-clause-room c = let g = c.loop-x.invariant.good in omega (arith, g.stands.size, g.stands.within)
@@ -48,11 +52,14 @@ loop-x-smaller-then-in_run c =
     let g = c.loop-x.invariant.good in
     let k = sym c.if-in_run.ensures in
     let q = c.run_end-end.ensures in
-    let n = sym c.if-asks_more-2.ensures in
-    omega (arith, at-is c.behind-x-then-in_run.ensures, run-on g k _ q n, (run-left g k _ q n).1)
+    let n = sym c.if-run_goes_on.ensures in
+    omega (arith, at-is c.behind-x-then-in_run.ensures, run-on g k _ q n, (run-left-to g k _ q n).1)
 
 pub loop-x-preserved-then-in_run : goal.loop-x-preserved-then-in_run
 loop-x-preserved-then-in_run c =
     let i = c.loop-x.invariant in
     rw c.behind-x-then-in_run.ensures
-    (steps-trans i (step-run i.good (sym c.if-in_run.ensures) _ c.run_end-end.ensures (sym c.if-asks_more-2.ensures) _ _ c.put_run_if.ensures))
+    (steps-trans i (step-run i.good (sym c.if-in_run.ensures) _ c.run_end-end.ensures (sym c.if-run_goes_on.ensures) _ _ c.put_run_if.ensures))
+
+pub returns-then-goes_on-clause-left : goal.returns-then-goes_on-clause-left
+returns-then-goes_on-clause-left c = left-word c.loop-x.invariant.good (sym c.if-is_sign.ensures) (sym c.if-starts_word.ensures) _ c.word_end-end.ensures (sym c.if-goes_on.ensures)

@@ -1,6 +1,5 @@
-use Rattle.std.proofs.Common.{ltb}
+use Rattle.std.proofs.Common.{ltb, bit_or}
 use Rattle.std.proofs.lemmas.Simd.{zip2_splat, zip2_splat_left, zip2_of_maps}
-use lib.Bits.{bit_or}
 use Rattle.chars.proofs.runs.Laws.{lane, masked, out-of}
 use Rattle.chars.proofs.runs.InRangeByteSet.outside.Goals as goal
 

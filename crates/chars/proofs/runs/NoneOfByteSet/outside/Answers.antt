@@ -1,6 +1,5 @@
-use Rattle.std.proofs.Common.{ℕ, eqb}
+use Rattle.std.proofs.Common.{ℕ, eqb, bit_or}
 use Rattle.std.proofs.lemmas.Simd.{zip2_splat, zip2_of_maps}
-use lib.Bits.{bit_or}
 use Rattle.chars.proofs.runs.Laws.{lane, masked, none}
 use Rattle.chars.proofs.runs.NoneOfByteSet.outside.Goals as goal
 

@@ -1,6 +1,5 @@
-use Rattle.std.proofs.Common.{eqb, not}
+use Rattle.std.proofs.Common.{eqb, not, bit_and}
 use Rattle.std.proofs.lemmas.Simd.{zip2_splat, zip2_of_maps}
-use lib.Bits.{bit_and}
 use Rattle.chars.proofs.runs.Laws.{lane, masked, other}
 use Rattle.chars.proofs.runs.OneOfByteSet.outside.Goals as goal
 

@@ -1,8 +1,5 @@
 -- The table passes one computed test at each byte.
-use Rattle.std.proofs.Common.{refl, arith}
-use Rattle.token.specs.computed.Answer.{signOf}
-use Rattle.token.specs.code.Ascii.{signNumber}
-use Rattle.token.specs.code.ByteClass.{classOf}
+use Rattle.token.proofs.cursor.Words.{refl, arith, signOf, signNumber, classOf}
 use Rattle.token.specs.declared.byte_class.TheConstants.{CLASSES}
 use Rattle.token.proofs.byte_class.Laws.{classes}
 use Rattle.token.proofs.byte_class.Class.of.Goals as goal

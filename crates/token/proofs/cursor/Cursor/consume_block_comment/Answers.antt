@@ -1,7 +1,5 @@
 -- To the first mark, then one mark after another.
-use Rattle.std.proofs.Common.{arith, length, ap, ◌∙◌}
-use Rattle.token.specs.computed.Answer.{close}
-use Rattle.token.specs.code.Gap.{closedOf}
+use Rattle.token.proofs.cursor.Words.{arith, length, ap, ◌∙◌, close, closedOf}
 use Rattle.token.proofs.gap.Laws.{pair-past, block-opens}
 use Rattle.token.proofs.cursor.Cursor.consume_block_comment.Goals as goal
 

@@ -1,8 +1,5 @@
 -- The run to the line end from here on is the run from behind the two marks.
-use Rattle.std.proofs.Common.{◌≡◌, ◌≤◌, ◌-◌, not, length, drop}
-use Rattle.chars.specs.paper.Text.{from}
-use Rattle.chars.specs.computed.Runs.{afterRun}
-use Rattle.token.specs.paper.Tests.{endOfLine}
+use Rattle.token.proofs.cursor.Words.{◌≡◌, ◌≤◌, ◌-◌, not, length, drop, from, afterRun, endOfLine}
 use Rattle.token.proofs.cursor.Cursor.consume_line_comment.Given as goal
 
 abbrev pub invariant-loop-i : goal.invariant-loop-i
