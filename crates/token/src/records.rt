@@ -9,7 +9,7 @@ ghost use Rattle.token.specs.code.Refusal.{refusalNumber};
 use crate::form::put_if;
 use crate::kinds::{Form, TokenKind};
 use crate::refusal::Refused;
-use crate::walk::{Stand, walk};
+use crate::walk::walk;
 use words::write::copy;
 
 /// What the records of a script need: how many tokens it has, and how many bytes their records.
@@ -41,7 +41,7 @@ fn walk_script(out: &mut [u8], s: &[u8]) -> Result<Need, Refused>
     ensures value { result ≡ measuredOf 0 0 (answer s.now) }
     ensures out_after { out.new ≡ storedFrom s.now begun out.old }
 {
-    let x = walk(out, s, Stand::start(s))?;
+    let x = walk(out, s)?;
     Ok(finish(out, x.bytes, x.values, s.len(), x.cut))
 }
 

@@ -625,16 +625,14 @@ fn walk_words(out: &mut [u8], s: &[u8], start: Stand) -> Stand
 }
 
 /// To the end of script, or to what is refused. While no cut is set, as nearly always, words and all that is as short go in a loop of their own.
-#[inline(always)]
-pub fn walk(out: &mut [u8], s: &[u8], start: Stand) -> Result<Stand, Refused>
+pub fn walk(out: &mut [u8], s: &[u8]) -> Result<Stand, Refused>
     requires short { length s.now ≤ mostBytes }
-    requires good { Good s.now start }
-    ensures on { IfOk result (λ y. Steps s.now start out.old y out.new) }
+    ensures on { IfOk result (λ y. Steps s.now (beginning s.now) out.old y out.new) }
     ensures ended { IfOk result (λ y. y.at ≡ length s.now) }
-    ensures refused { IfErr result (λ e. measuredFrom s.now (stateAt start) ≡ Err e) }
-    ensures out_after { IfErr result (λ e. out.new ≡ storedFrom s.now (stateAt start) out.old) }
+    ensures refused { IfErr result (λ e. measuredFrom s.now (stateAt (beginning s.now)) ≡ Err e) }
+    ensures out_after { IfErr result (λ e. out.new ≡ storedFrom s.now (stateAt (beginning s.now)) out.old) }
 {
-    let mut x = start;
+    let mut x = Stand::start(s);
     // The same steps, of every piece, by the class of its first byte.
     loop {
         if !x.cut {

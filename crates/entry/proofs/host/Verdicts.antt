@@ -38,27 +38,3 @@ module _ (script : List ℕ) (room : ℕ) where
   pub verdict-rest : length script ≤ mostBytes → length script ≤ validPrefix script → verdict script room ≡ byRoom room (answer script)
   unfolding verdict
   verdict-rest l m = rw (le-ltb mostBytes (length script) l, le-ltb (validPrefix script) (length script) m)
-
--- ---- what acceptance says
-
-granted-leb : (room : ℕ) (us ts : List Token) (b : Bool) → leb (recordBytes us) room ≡ b → cond b (granted us) (lacking us) ≡ granted ts
-    → (tokenized us ≡ tokenized ts) × (recordBytes ts ≤ room)
-granted-leb room us ts true h e = let q : us ≡ ts = cc in (ap tokenized q, rw (← q) (leb-true (recordBytes us) room h))
-granted-leb room us ts false h e = zero-one (cc)
-
-granted-room : (room : ℕ) (w : Answer) (ts : List Token) → byRoom room w ≡ granted ts → (w ≡ tokenized ts) × (recordBytes ts ≤ room)
-unfolding byRoom
-granted-room room (tokenized us) ts e = granted-leb room us ts (leb (recordBytes us) room) refl e
-granted-room room (refused j a) ts e = zero-one (cc)
-
-granted-order : (p q : Bool) (v room : ℕ) (w : Answer) (ts : List Token) → cond p (rejected 17 0) (cond q (rejected 18 v) (byRoom room w)) ≡ granted ts
-    → (w ≡ tokenized ts) × (recordBytes ts ≤ room)
-granted-order true q v room w ts e = zero-one (cc)
-granted-order false true v room w ts e = zero-one (cc)
-granted-order false false v room w ts e = granted-room room w ts e
-
-pub verdict-granted : (script : List ℕ) (room : ℕ) (ts : List Token) → verdict script room ≡ granted ts
-    → (answer script ≡ tokenized ts) × (recordBytes ts ≤ room)
-unfolding verdict
-verdict-granted script room ts e =
-    granted-order (ltb mostBytes (length script)) (ltb (validPrefix script) (length script)) (validPrefix script) room (answer script) ts e

@@ -46,7 +46,7 @@ pub use Rattle.token.specs.code.Refusal.{refusedBy, refusedFor}
 unfoldable pub use Rattle.token.specs.code.Refusal.{refusalBy}
 pub use Rattle.token.specs.code.String.{endAt, escEnd, tickEnd}
 unfoldable pub use Rattle.token.specs.code.String.{backtickOf, escapeOf}
-pub use Rattle.token.specs.code.Walk.{Good, LeftTo, Prefixes, Refuses, Steps, blockBehind, commentBehind, countAt, gapAt, gapOf, lineBehind, movedTo, plainBehind, stateAt, valuesBehind}
+pub use Rattle.token.specs.code.Walk.{Good, LeftTo, Prefixes, Refuses, Steps, beginning, blockBehind, commentBehind, countAt, gapAt, gapOf, lineBehind, movedTo, plainBehind, stateAt, valuesBehind}
 unfoldable pub use Rattle.token.specs.code.Walk.{nameNumber, operatorNumber}
 pub use Rattle.token.specs.computed.Answer.{Answer, Esc, Found, Start, backtickOr, blockOr, broken, escapedOf, gapBefore, prefixedOf, prepend, refused, runOr, scanAs, tickNext, tokenized, unbroken, wordOr}
 unfoldable pub use Rattle.token.specs.computed.Answer.{afterIdent, afterSlash, close, closeString, codesTo, orPrefixed, scan, scanBacktick, scanBlock, scanCharSym, scanIdent, scanLine, scanNumber, scanOperator, scanReturn, scanString, signOf, startOf, walk}

@@ -1,14 +1,6 @@
-use Rattle.std.proofs.Common.{◌≡◌, ◌+◌, ◌-◌, ap, ◌∙◌, take, drop, eqb, arith}
-use Rattle.std.proofs.lemmas.Simd.{bitmask_splat, length-chunk}
-use mir.Syntax.{w8}
-use Rattle.lines.specs.code.Index.{lfMask}
+use Rattle.std.proofs.Common.{arith}
+use Rattle.lines.proofs.index.Laws.{mask-of}
 use Rattle.lines.proofs.index.lf_mask.Goals as goal
 
 pub returns : goal.returns
-unfolding lfMask
-returns c =
-    let s = c.args.s.now in
-    let v = take 64 (drop c.args.at s) in
-    let long = length-chunk c.args.at 64 s c.requires in
-    let e : 64 ≡ c.args.at + 64 - c.args.at = omega arith in
-    bitmask_splat w8 eqb v 64 0x0A long (omega arith) ∙ ap (λ n. lfMask (take n (drop c.args.at s))) e
+returns c = mask-of 64 c.args.s.now c.args.at c.requires (omega arith)

@@ -1,5 +1,5 @@
 -- By the class of the byte that stands there.
-use Rattle.token.proofs.lexer.Words.{tests, rules, sym, ◌∙◌, Good, Steps, Refuses, false, ◌≡◌}
+use Rattle.token.proofs.lexer.Words.{tests, rules, sym, ◌∙◌, beginning, Good, Steps, Refuses, false, ◌≡◌}
 use Rattle.token.proofs.byte_class.Laws.{others}
 use Rattle.chars.specs.paper.Quoted.{member}
 use Rattle.token.proofs.walk.Laws.{steps-trans}
@@ -25,7 +25,7 @@ pub ascii_run_step-requires-clause-sign : goal.ascii_run_step-requires-clause-si
 ascii_run_step-requires-clause-sign c = search (tests, rules)
 
 -- the walk to where nothing begins a token, and its refusal
-stands : (c : goal.After-at) → Steps c.args.s.now c.args.start c.args.out.now c.if-not-x.x c.if-not-x.out
+stands : (c : goal.After-at) → Steps c.args.s.now (beginning c.args.s.now) c.args.out.now c.if-not-x.x c.if-not-x.out
 stands c = elim c.if-not-x.branch [
   | then-not-x w ↦ rw (w.x-is, w.out-is) (steps-trans c.loop-x.invariant w.walk_words-x.ensures.on)
   | else-not-x w ↦ rw (w.x-is, w.out-is) c.loop-x.invariant
