@@ -1,5 +1,5 @@
 //! Where a run of bytes of a set ends.
-ghost use Rattle.std.specs.Prelude.{◌≡◌, ◌+◌, ℕ, Bool, not, ◌||◌, ◌&&◌, ◌==◌, nat_le, map, drop};
+ghost use Rattle.std.specs.Prelude.{◌+◌, ℕ, Bool, not, ◌||◌, ◌&&◌, ◌==◌, ◌≡◌, ◌≤◌, ◌<◌, nat_le, map, take, drop, length, IfSome, IfNone};
 ghost use Rattle.std.specs.List.{prefix_len};
 ghost use Rattle.std.specs.Simd.Lanes.{mask_l};
 ghost use Rattle.chars.specs.promises.Runs.{RunLaws};
@@ -7,7 +7,7 @@ ghost use Rattle.chars.specs.promises.Runs.{RunLaws};
 use std::simd::prelude::*;
 
 /// How many bytes are looked at together.
-const LANES: usize = 16;
+pub const LANES: usize = 16;
 
 /// A set of bytes, which a run consists of.
 pub trait ByteSet {
@@ -22,6 +22,19 @@ pub trait ByteSet {
         ensures { result ≡ mask_l (map (λ b. not (holds b)) block) };
 }
 
+/// Of the sixteen bytes from `at` on a bit for each, the lowest for the first: 1 where the byte is not in the set. None where fewer stand there.
+#[inline(always)]
+pub fn outside_at<C: ByteSet>(s: &[u8], at: usize) -> Option<u64>
+    ensures mask { IfSome result (λ m. m ≡ mask_l (map (λ b. not (C.holds b)) (take 16 (drop at s.now)))) }
+    ensures within { IfSome result (λ _. at + 16 ≤ length s.now) }
+    ensures none { IfNone result (length s.now < at + 16) }
+{
+    if LANES <= s.len() && at <= s.len() - LANES {
+        return Some(C::outside(u8x16::from_slice(&s[at..])));
+    }
+    None
+}
+
 /// Where the bytes of the set end that stand from `at` on; `at` itself, where none does.
 #[inline(always)]
 pub fn run_end<C: ByteSet>(s: &[u8], at: usize) -> usize
@@ -29,8 +42,7 @@ pub fn run_end<C: ByteSet>(s: &[u8], at: usize) -> usize
 {
     let mut end = at;
     // Beside an iterator over blocks the place, which is the answer, would be counted all the same.
-    while LANES <= s.len() && end <= s.len() - LANES {
-        let outside = C::outside(u8x16::from_slice(&s[end..]));
+    while let Some(outside) = outside_at::<C>(s, end) {
         if outside != 0 {
             return end + outside.trailing_zeros() as usize;
         }
@@ -51,7 +63,7 @@ pub fn block_at<C: ByteSet>(s: &[u8], at: usize) -> bool
     ensures value { result ≡ nat_le LANES (prefix_len C.holds (drop at s.now)) }
     ensures run_laws { RunLaws }
 {
-    LANES <= s.len() && at <= s.len() - LANES && C::outside(u8x16::from_slice(&s[at..])) == 0
+    matches!(outside_at::<C>(s, at), Some(0))
 }
 
 /// The bytes from LOW to HIGH, both included.

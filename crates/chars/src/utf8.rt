@@ -1,13 +1,15 @@
 // UTF-8 by the Unicode Standard, Table 3-7. One look at a character is compiled into whoever takes it: so a loop over characters keeps it in registers.
-ghost use Rattle.std.specs.Prelude.{◌≡◌, [], ◌∷◌, ◌+◌, ◌<◌, ◌≤◌, ◌%◌, drop, slice_index, length};
+ghost use Rattle.std.specs.Prelude.{◌≡◌, [], ◌∷◌, ◌+◌, ◌<◌, ◌≤◌, ◌%◌, not, map, take, drop, slice_index, length};
+ghost use Rattle.std.specs.Simd.Lanes.{mask_l};
 ghost use Rattle.chars.specs.paper.Ranges.{◌to◌};
 ghost use Rattle.chars.specs.paper.Utf8.{fits, codeOf, LongestValid};
-ghost use Rattle.chars.specs.code.Utf8.{widthAt, decodeAt, rowsOver};
+ghost use Rattle.chars.specs.code.Utf8.{widthAt, decodeAt, rowsOver, isAscii, manyAt, manyOver};
 ghost use Rattle.chars.specs.computed.Valid.{validPrefix};
 ghost use Rattle.chars.specs.promises.Utf8.{Decoding, ValidLaws, EncodingLaws};
 ghost use Rattle.chars.specs.promises.StdUtf8.{StdLaws};
 
-use crate::runs::{InRange, run_end};
+use crate::runs::{InRange, LANES, outside_at, run_end};
+use std::simd::prelude::*;
 
 /// A character: its code, and how many bytes it has.
 #[derive(Clone, Copy, Debug, PartialEq, Eq)]
@@ -116,11 +118,48 @@ pub fn decode(s: &[u8], at: usize) -> Option<Decoded>
     })
 }
 
-// The place past the ASCII bytes that stand from `at` on.
+// So many bytes are looked at together where ASCII goes on, as in most scripts it does to the end.
+const MANY: usize = 64;
+
+// Of so many bytes from `at` on a bit for each, the lowest for the first: 1 where the byte is past ASCII.
+#[inline(always)]
+fn wide_mask(s: &[u8], at: usize) -> u64
+    requires { at + 64 ≤ length s.now }
+    ensures { result ≡ mask_l (map (λ b. not (isAscii b)) (take 64 (drop at s.now))) }
+{
+    u8x64::from_slice(&s[at..])
+        .simd_gt(u8x64::splat(0x7F))
+        .to_bitmask()
+}
+
+// Whether so many ASCII bytes stand at `at`.
+#[inline(always)]
+fn many_at(s: &[u8], at: usize) -> bool
+    ensures { result ≡ manyAt s.now at }
+{
+    MANY <= s.len() && at <= s.len() - MANY && wide_mask(s, at) == 0
+}
+
+// The place past the ASCII bytes that stand from `at` on, as far as so many stand together. No iterator, as for `skip_threes` below.
+fn skip_many(s: &[u8], at: usize) -> usize
+    ensures { result ≡ manyOver s.now at }
+{
+    let mut i = at;
+    while many_at(s, i) {
+        i += MANY;
+    }
+    i
+}
+
+// The place past the ASCII bytes that stand from `at` on. Between characters past ASCII few do: so sixteen are looked at first.
 fn ascii_end(s: &[u8], at: usize) -> usize
     ensures { result ≡ rowsOver (0x00 to 0x7F ∷ []) s.now at }
 {
-    run_end::<InRange<0x00, 0x7F>>(s, at)
+    match outside_at::<InRange<0x00, 0x7F>>(s, at) {
+        Some(0) => run_end::<InRange<0x00, 0x7F>>(s, skip_many(s, at + LANES)),
+        Some(outside) => at + outside.trailing_zeros() as usize,
+        None => run_end::<InRange<0x00, 0x7F>>(s, at),
+    }
 }
 
 // Whether a character of three bytes stands at `at` that begins with E1 to EC. `&` looks at all three, without a branch.

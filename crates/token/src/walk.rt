@@ -613,6 +613,11 @@ fn walk_words(out: &mut [u8], s: &[u8], start: Stand) -> Stand
             }
             put_run_if(out, s, x, end);
             x = behind(x, end);
+        } else if x.class == Class::CR {
+            let Ok(y) = return_step(out, s, x) else {
+                return x;
+            };
+            x = y;
         } else if x.class == Class::DIGIT {
             let Some(y) = number_step(out, s, x) else {
                 return x;

@@ -21,10 +21,10 @@ each-lane f p e [] = refl
 each-lane f p e (x ∷ v) = ap₂ (λ b l. b ∷ l) (e x) (each-lane f p e v)
 
 -- the mask of lanes that are computed from v one by one
-pub masked : (f : ℕ → ℕ) (p : ℕ → Bool) → ((x : ℕ) → top 7 (f x) ≡ p x) → (v z : List ℕ) → length v ≡ 16 → z ≡ map f v
+pub masked : (f : ℕ → ℕ) (p : ℕ → Bool) → ((x : ℕ) → top 7 (f x) ≡ p x) → (v z : List ℕ) → length v ≤ 64 → z ≡ map f v
     → mask_l (map (top 7) z) % 2 ^ 64 ≡ mask_l (map p v)
-masked f p e v z long i =
-    ap (λ l. mask_l (map (top 7) l) % 2 ^ 64) i ∙ ap (λ l. mask_l l % 2 ^ 64) (each-lane f p e v) ∙ mask_l-mod (map p v) 64 (omega (arith, length-map v p))
+masked f p e v z few i =
+    ap (λ l. mask_l (map (top 7) l) % 2 ^ 64) i ∙ ap (λ l. mask_l l % 2 ^ 64) (each-lane f p e v) ∙ mask_l-mod (map p v) 64 (omega (arith, few, length-map v p))
 
 either : (a b : Bool) → top 7 (bit_or (lane a) (lane b)) ≡ (a || b)
 either a b = grind arith
@@ -35,6 +35,12 @@ both a b = grind arith
 pub out-of : (low high x : ℕ) → top 7 (bit_or (lane (ltb x low)) (lane (ltb high x))) ≡ not (leb low x && leb x high)
 out-of low high x = either (ltb x low) (ltb high x) ∙ grind arith
 
+pub above : (high x : ℕ) → top 7 (lane (ltb high x)) ≡ not (leb 0 x && leb x high)
+above high x = go (ltb high x) refl
+  where
+    go : (b : Bool) → ltb high x ≡ b → top 7 (lane b) ≡ not (leb 0 x && leb x high)
+    go b e = grind arith
+
 pub other : (a b x : ℕ) → top 7 (bit_and (lane (not (eqb x a))) (lane (not (eqb x b)))) ≡ not (eqb x a || eqb x b)
 other a b x = both (not (eqb x a)) (not (eqb x b)) ∙ grind arith
 
@@ -42,7 +48,7 @@ other a b x = both (not (eqb x a)) (not (eqb x b)) ∙ grind arith
 pub none : (a b c d : Bool) → top 7 (bit_or (bit_or (bit_or (lane a) (lane b)) (lane c)) (lane d)) ≡ not (not (((a || b) || c) || d))
 none a b c d = grind arith
 
--- ---- a run, sixteen bytes at a time
+-- ---- a run, some bytes at a time
 
 module _ (q : ℕ → Bool) where
   abbrev out : ℕ → Bool
@@ -63,45 +69,48 @@ module _ (q : ℕ → Bool) where
   all-pass [] e = refl
   all-pass (x ∷ l) e = none-fails (out x) _ (length l) _ (prefix_len-le-length (λ y. not (out y)) l) (omega arith) (all-pass l)
 
-  module _ (s : List ℕ) (i : ℕ) (room : i + 16 ≤ length s) where
+  module _ (n : ℕ) (s : List ℕ) (i : ℕ) (room : i + n ≤ length s) where
     abbrev block : List ℕ
-    block = chunk i 16 s
+    block = chunk i n s
 
     abbrev rest : ℕ
-    rest = prefix_len q (drop (i + 16) s)
+    rest = prefix_len q (drop (i + n) s)
 
     split : prefix_len q (drop i s) ≡ cond (eqb (prefix_len q block) (length block)) (length block + rest) (prefix_len q block)
-    split = ap (prefix_len q) (chunk-drop i 16 s) ∙ prefix_len-append q block (drop (i + 16) s)
+    split = ap (prefix_len q) (chunk-drop i n s) ∙ prefix_len-append q block (drop (i + n) s)
 
     -- no byte of the block is outside: it goes on behind it
-    pub run-on : (m : ℕ) → m ≡ mask_l (map out block) → m ≡ 0 → prefix_len q (drop i s) ≡ 16 + rest
+    pub run-on : (m : ℕ) → m ≡ mask_l (map out block) → m ≡ 0 → prefix_len q (drop i s) ≡ n + rest
     run-on m e z =
         split ∙ ap (λ b. cond b (length block + rest) (prefix_len q block)) (eq-eqb _ _ (same-run block ∙ leading_from_mask_l out block (sym e ∙ z)))
-        ∙ ap (λ n. n + rest) (length-chunk i 16 s room)
+        ∙ ap (λ m. m + rest) (length-chunk i n s room)
 
     some-fails : 0 < mask_l (map out block) → prefix_len q block ≡ length block → ⊥
     some-fails m e = let z = all-pass block (sym (same-run block) ∙ e) in omega arith
 
     -- it ends at the first that is outside
-    pub run-stops : (m : ℕ) → m ≡ mask_l (map out block) → 0 < m → prefix_len q (drop i s) ≡ count_trailing_zeros 64 m
-    run-stops m e h =
+    pub run-stops : n ≤ 64 → (m : ℕ) → m ≡ mask_l (map out block) → 0 < m → prefix_len q (drop i s) ≡ count_trailing_zeros 64 m
+    run-stops few m e h =
         let some : 0 < mask_l (map out block) = omega arith in
         split ∙ ap (λ b. cond b (length block + rest) (prefix_len q block)) (ne_eqb _ _ (some-fails some)) ∙ same-run block
-        ∙ sym (trailing_mask_l out 64 block (omega (arith, length-chunk i 16 s room)) some) ∙ ap (count_trailing_zeros 64) (sym e)
+        ∙ sym (trailing_mask_l out 64 block (omega (arith, length-chunk i n s room)) some) ∙ ap (count_trailing_zeros 64) (sym e)
 
-    few : 0 < mask_l (map out block) → prefix_len q (drop i s) < 16
-    few m = grind arith
+    some-few : 0 < mask_l (map out block) → prefix_len q (drop i s) < n
+    some-few m =
+        let e = split ∙ ap (λ b. cond b (length block + rest) (prefix_len q block)) (ne_eqb _ _ (some-fails m)) in
+        let ne = some-fails m in
+        omega (arith, e, length-chunk i n s room, prefix_len-le-length q block)
 
-    -- does it have them all?
-    pub block-in : (m : ℕ) → m ≡ mask_l (map out block) → eqb m 0 ≡ leb 16 (prefix_len q (drop i s))
+    -- has it them all?
+    pub block-in : (m : ℕ) → m ≡ mask_l (map out block) → eqb m 0 ≡ leb n (prefix_len q (drop i s))
     block-in m e = elim (cases_eq m 0) [
-      | inl z ↦ eq-eqb m 0 z ∙ sym (le-leb 16 (prefix_len q (drop i s)) (omega (arith, run-on m e z)))
-      | inr z ↦ ne_eqb m 0 z ∙ sym (lt-leb 16 (prefix_len q (drop i s)) (few (omega arith)))
+      | inl z ↦ eq-eqb m 0 z ∙ sym (le-leb n (prefix_len q (drop i s)) (omega (arith, run-on m e z)))
+      | inr z ↦ ne_eqb m 0 z ∙ sym (lt-leb n (prefix_len q (drop i s)) (some-few (omega arith)))
     ]
 
   -- so many bytes do not stand there
-  pub block-out : (s : List ℕ) (i : ℕ) → length s < i + 16 → false ≡ leb 16 (prefix_len q (drop i s))
-  block-out s i h = sym (lt-leb 16 (prefix_len q (drop i s)) (omega (arith, prefix_len-le-length q (drop i s), length-drop i s)))
+  pub block-out : (n : ℕ) (s : List ℕ) (i : ℕ) → 0 < n → length s < i + n → false ≡ leb n (prefix_len q (drop i s))
+  block-out n s i some h = sym (lt-leb n (prefix_len q (drop i s)) (omega (arith, prefix_len-le-length q (drop i s), length-drop i s)))
 
 -- ---- a loop that passes `step` bytes at a time, by a test of them
 
@@ -123,3 +132,8 @@ module _ (step : ℕ) (test : List ℕ → ℕ → Bool) (s : List ℕ) (moves :
 
   pub over-on : (i : ℕ) → test s i ≡ true → stepsOver step test s (i + step) ≡ stepsOver step test s i
   over-on i = steps-on (length s) i (omega arith)
+
+  -- and where it doesn't hold, the loop ends
+  pub over-end : (i : ℕ) → test s i ≡ false → i ≡ stepsOver step test s i
+  unfolding stepsIn
+  over-end i e = grind arith

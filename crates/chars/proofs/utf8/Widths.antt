@@ -1,16 +1,18 @@
 -- How wide a character is, and the check of one character after the other.
 use Rattle.std.proofs.lemmas.Grind.{common_steps}
-use Rattle.std.proofs.Common.{ℕ, zero, suc, ◌+◌, ◌-◌, ◌≤◌, ◌<◌, ◌≡◌, refl, sym, ◌∙◌, ap, Bool, true, false, cond, ◌&&◌, inl, inr, List, [], ◌∷◌, length, drop, get_or, length-drop, drop_of_length-le, drop-drop, leb, arith, leb-true, le-leb}
+use Rattle.std.proofs.Common.{ℕ, zero, suc, ◌+◌, ◌-◌, ◌≤◌, ◌<◌, ◌≡◌, refl, sym, ◌∙◌, ap, Bool, true, false, cond, ◌&&◌, inl, inr, List, [], ◌∷◌, length, drop, get_or, length-drop, drop_of_length-le, drop-drop, leb, arith, leb-true, le-leb, not, map, take}
 use Rattle.chars.specs.paper.Ranges.{Range, ◌to◌}
 use Rattle.chars.specs.paper.Utf8.{table37, fits, Row, width}
 use Rattle.chars.specs.computed.Valid.{validFrom, validPrefix}
 use Rattle.chars.specs.code.Runs.{stepsIn, AllIn}
-use Rattle.chars.specs.code.Utf8.{rowAt, rowsOver}
+use Rattle.chars.specs.code.Utf8.{rowAt, rowsOver, isAscii, manyAt, manyOver}
 use Rattle.std.proofs.lemmas.Bool.{cases_lt, cond_both}
 use Rattle.std.specs.List.{prefix_len}
+use Rattle.std.specs.Simd.Lanes.{mask_l}
 use Rattle.chars.proofs.Bools.{and-both}
 use Rattle.chars.proofs.Prefix.{end, within, passed, stopped}
-use Rattle.chars.proofs.runs.Laws.{over-on}
+use Rattle.std.proofs.lemmas.List.Sums.{prefix_len-le-length}
+use Rattle.chars.proofs.runs.Laws.{over-end, over-on, run-on}
 use Rattle.chars.proofs.utf8.Rows as rows
 use Rattle.chars.proofs.utf8.Wide.{Stood, stood}
 use Rattle.chars.proofs.utf8.Valid.{width-fit, fit-within, valid-shift, valid-none, valid-past}
@@ -94,7 +96,7 @@ rows_end row s i e = grind arith
 -- ---- ASCII bytes
 
 module _ (s : List ℕ) where
-  abbrev ascii : List Range
+  abbrev pub ascii : List Range
   ascii = 0x00 to 0x7F ∷ []
 
   ascii-at : (i : ℕ) → i < length s → get_or s i 0 ≤ 0x7F → rowAt ascii s i ≡ true
@@ -113,26 +115,63 @@ module _ (s : List ℕ) where
       let z : j ≡ i + (j - i) = omega arith in
       ap (rowsOver ascii s) z ∙ ascii-low (j - i) i (omega arith) (λ k m n. a k m (omega arith))
 
-  -- the test of the run that `ascii_end` passes
-  abbrev is-ascii : ℕ → Bool
-  is-ascii b = leb 0x00 b && leb b 0x7F
-
-  ascii-out : (j : ℕ) → (j < length s → is-ascii (get_or s j 0) ≡ false) → rowAt ascii s j ≡ false
+  ascii-out : (j : ℕ) → (j < length s → isAscii (get_or s j 0) ≡ false) → rowAt ascii s j ≡ false
   ascii-out j out = grind (arith, common_steps)
 
   -- where the run ends, no row stands
-  pub ascii_run : (i : ℕ) → i + prefix_len is-ascii (drop i s) ≡ rowsOver ascii s i
+  pub ascii_run : (i : ℕ) → i + prefix_len isAscii (drop i s) ≡ rowsOver ascii s i
   ascii_run i =
-      let j = end is-ascii s i in
-      let e = rows_end ascii s j (ascii-out j (stopped is-ascii s i)) in
+      let j = end isAscii s i in
+      let e = rows_end ascii s j (ascii-out j (stopped isAscii s i)) in
       elim (cases_lt (length s) i) [
         | inl h ↦
-            let z : j ≡ i = ap (λ l. i + prefix_len is-ascii l) (drop_of_length-le s (omega arith)) ∙ omega arith in
+            let z : j ≡ i = ap (λ l. i + prefix_len isAscii l) (drop_of_length-le s (omega arith)) ∙ omega arith in
             e ∙ ap (rowsOver ascii s) z
         | inr h ↦
             let each : AllIn 0x00 0x7F s i j =
             λ k l m.
-            let a = and-both (leb 0x00 (get_or s k 0)) (leb (get_or s k 0) 0x7F) (passed is-ascii s i k l m) in
+            let a = and-both (leb 0x00 (get_or s k 0)) (leb (get_or s k 0) 0x7F) (passed isAscii s i k l m) in
             (leb-true _ _ a.0, leb-true _ _ a.1) in
-            e ∙ ascii-to i j (omega arith) (within is-ascii s i h) each
+            e ∙ ascii-to i j (omega arith) (within isAscii s i h) each
       ]
+
+  -- behind n bytes of it as much is left
+  pub ascii_more : (n i : ℕ) → i + n ≤ length s → mask_l (map (λ b. not (isAscii b)) (take n (drop i s))) ≡ 0 → rowsOver ascii s (i + n) ≡ rowsOver ascii s i
+  ascii_more n i room z =
+      let e = run-on isAscii n s i room _ refl z in
+      let more : i + n + prefix_len isAscii (drop (i + n) s) ≡ i + prefix_len isAscii (drop i s) = omega (arith, e) in
+      sym (ascii_run (i + n)) ∙ more ∙ ascii_run i
+
+  many-stand : (i : ℕ) → manyAt s i ≡ true → i + 64 ≤ length s
+  many-stand i e =
+      let l : 64 ≤ prefix_len isAscii (drop i s) = leb-true _ _ e in omega (arith, prefix_len-le-length isAscii (drop i s), length-drop i s)
+
+  -- where many stand they are passed, and else the loop ends
+  pub many-on : (i : ℕ) → manyAt s i ≡ true → manyOver s (i + 64) ≡ manyOver s i
+  many-on = over-on 64 manyAt s (omega arith) many-stand
+
+  pub many-end : (i : ℕ) → manyAt s i ≡ false → i ≡ manyOver s i
+  many-end = over-end 64 manyAt s (omega arith) many-stand
+
+  -- sixty-four of them are passed as one by one
+  many-more : (i : ℕ) → manyAt s i ≡ true → rowsOver ascii s (i + 64) ≡ rowsOver ascii s i
+  many-more i e =
+      let l : 64 ≤ prefix_len isAscii (drop i s) = leb-true _ _ e in
+      let each : AllIn 0x00 0x7F s i (i + 64) =
+      λ k m n.
+      let a = and-both (leb 0x00 (get_or s k 0)) (leb (get_or s k 0) 0x7F) (passed isAscii s i k m (omega (arith, l))) in
+      (leb-true _ _ a.0, leb-true _ _ a.1) in
+      ascii-to i (i + 64) (omega arith) (many-stand i e) each
+
+  many-in : (n i : ℕ) → rowsOver ascii s (stepsIn n 64 (manyAt s) i) ≡ rowsOver ascii s i
+  unfolding stepsIn
+  many-in zero i = refl
+  many-in (suc n) i = by (manyAt s i) refl (many-in n (i + 64))
+    where
+      by : (b : Bool) → manyAt s i ≡ b → rowsOver ascii s (stepsIn n 64 (manyAt s) (i + 64)) ≡ rowsOver ascii s (i + 64)
+          → rowsOver ascii s (cond b (stepsIn n 64 (manyAt s) (i + 64)) i) ≡ rowsOver ascii s i
+      by true e h = h ∙ many-more i e
+      by false e h = refl
+
+  pub many-rest : (i : ℕ) → rowsOver ascii s (manyOver s i) ≡ rowsOver ascii s i
+  many-rest = many-in (length s)

@@ -1,5 +1,6 @@
 -- What `utf8` answers: one character decoded, and where characters of one row end.
-use Rattle.std.specs.Prelude.{ℕ, Bool, Option, Some, None, if◌then◌else◌, ◌==◌, List, length, drop}
+use Rattle.std.specs.Prelude.{ℕ, Bool, Option, Some, None, if◌then◌else◌, ◌==◌, ◌&&◌, nat_le, List, length, drop}
+use Rattle.std.specs.List.{prefix_len}
 use Rattle.chars.specs.declared.utf8.Decoded.{Decoded}
 use Rattle.chars.specs.paper.Ranges.{Range}
 use Rattle.chars.specs.paper.Utf8.{fits, width, codeOf}
@@ -28,3 +29,17 @@ rowAt row s i = fits row (drop i s)
 -- from the place i on, past the characters of that row
 abbrev pub rowsOver : List Range → List ℕ → ℕ → ℕ
 rowsOver row = stepsOver (length row) (rowAt row)
+
+-- ---- many bytes of ASCII at once
+
+-- the test of `InRange<0x00, 0x7F>`
+abbrev pub isAscii : ℕ → Bool
+isAscii b = nat_le 0x00 b && nat_le b 0x7F
+
+-- do sixty-four such bytes stand at the place i?
+abbrev pub manyAt : List ℕ → ℕ → Bool
+manyAt s i = nat_le 64 (prefix_len isAscii (drop i s))
+
+-- from the place i on, past as many times sixty-four of them as stand there
+abbrev pub manyOver : List ℕ → ℕ → ℕ
+manyOver = stepsOver 64 manyAt

@@ -1,23 +1,10 @@
-use Rattle.std.proofs.Common.{◌+◌, ◌<◌, ◌≤◌, length, sym, ◌∙◌, arith}
-use Rattle.std.proofs.lemmas.Bool.Decides.{nat_tests}
-use Rattle.chars.proofs.runs.Laws.{block-in, block-out}
+use Rattle.std.proofs.Common.{sym, ◌∙◌}
+use Rattle.std.proofs.lemmas.Bool.{eq-eqb}
+use Rattle.chars.proofs.runs.Laws.{block-in}
 use Rattle.chars.proofs.runs.block_at.Goals as goal
-use Rattle.chars.proofs.runs.block_at.Goals.{then-s-ge-LANES, else-s-ge-LANES}
 
-pub returns-then-at-s-clause-value : goal.returns-then-at-s-clause-value
-returns-then-at-s-clause-value g c =
-    let room : c.args.at + 16 ≤ length c.args.s.now =
-    elim c.if-s-ge-LANES.branch [
-      | then-s-ge-LANES w ↦ let fits = sym w.value-is ∙ c.if-at-s.true in grind (arith, nat_tests)
-      | else-s-ge-LANES w ↦ let short = sym w.value-is ∙ c.if-at-s.true in grind (arith, nat_tests)
-    ] in
-    block-in g.C.ByteSet.holds c.args.s.now c.args.at room c.outside.result c.outside.ensures
-
-pub returns-else-at-s-clause-value : goal.returns-else-at-s-clause-value
-returns-else-at-s-clause-value g c =
-    let few : length c.args.s.now < c.args.at + 16 =
-    elim c.if-s-ge-LANES.branch [
-      | then-s-ge-LANES w ↦ let late = sym w.value-is ∙ c.if-at-s.false in grind (arith, nat_tests)
-      | else-s-ge-LANES w ↦ omega arith
-    ] in
-    c.if-at-s.false ∙ block-out g.C.ByteSet.holds c.args.s.now c.args.at few
+pub returns-in-Some-eq0-clause-value : goal.returns-in-Some-eq0-clause-value
+returns-in-Some-eq0-clause-value g c =
+    let o = c.in-Some-eq0.ensures in
+    let m = c.in-Some-eq0.field-0 in
+    sym (eq-eqb m 0 c.in-Some-eq0.field-0-test) ∙ block-in g.C.ByteSet.holds 16 c.args.s.now c.args.at o.within m o.mask
