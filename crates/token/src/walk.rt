@@ -1,5 +1,5 @@
 // One walk over a script, to its end or to what is refused: each piece is read where it stands, and each token's record is stored where it fits.
-ghost use Rattle.std.specs.Prelude.{◌≡◌, IsTrue, IsFalse, not, ◌&&◌, ◌||◌, List, ℕ, ◌+◌, ◌≤◌, ◌<◌, ◌==◌, length, drop, Err, IfOk, IfErr, IfSome, IfNone, IsErr};
+ghost use Rattle.std.specs.Prelude.{◌≡◌, IsTrue, IsFalse, not, ◌&&◌, ◌||◌, List, ℕ, ◌+◌, ◌≤◌, ◌<◌, ◌==◌, length, drop, slice_index, Err, IfOk, IfErr, IfSome, IfNone, IsErr};
 ghost use Rattle.chars.specs.paper.Classes.{isIdStart};
 ghost use Rattle.chars.specs.paper.Text.{from, headIs};
 ghost use Rattle.token.specs.paper.Tests.{isAny, opSign, opensBlock, opensComment};
@@ -197,6 +197,7 @@ fn return_step(out: &mut [u8], s: &[u8], x: Stand) -> Result<Stand, Refused>
     ensures further { IfOk result (λ y. x.at < y.at) }
     ensures refused { IfErr result (λ e. Refuses s.now x out.old e) }
     ensures kept { IfErr result (λ e. out.new ≡ out.old) }
+    ensures alone { IfErr result (λ e. IsFalse (slice_index s.now (x.at + 1) == 0x0A)) }
 {
     if byte_at(s, x.at + 1) != b'\n' {
         return Err(Refusal::LoneCr.at(x.at));

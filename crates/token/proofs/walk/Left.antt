@@ -1,5 +1,5 @@
 -- What the walk over words leaves, by the test that ended it.
-use Rattle.token.proofs.lexer.Words.{◌≡◌, refl, sym, ◌∙◌, ap, ap₂, cond, drop, ℕ, ◌+◌, Bool, true, false, not, ◌&&◌, ◌||◌, List, eqb, ne_eqb, Err, Text, clash, Found, scanNumber, isDigit, lfClass, digitClass, upToBlank, startsWord, inWord, asksMore, isSign, inRun, hereOf, runTo, lowBefore, PieceAnswer, pieceOf, tokenTo, Good, Cursor, TokenKind, Here, Stand, zero-one}
+use Rattle.token.proofs.lexer.Words.{◌≡◌, refl, sym, ◌∙◌, ap, ap₂, cond, drop, ℕ, ◌+◌, Bool, true, false, not, ◌&&◌, ◌||◌, List, eqb, ne_eqb, Err, Text, clash, Found, scanNumber, isDigit, lfClass, crClass, digitClass, upToBlank, startsWord, inWord, asksMore, isSign, inRun, hereOf, runTo, lowBefore, PieceAnswer, pieceOf, tokenTo, Good, Cursor, TokenKind, Here, Stand, zero-one}
 use Rattle.std.specs.Prelude.{Ok}
 use Rattle.token.specs.computed.Answer.{Numeral, numeral, numberOf, readDigits}
 use Rattle.token.specs.paper.Tests.{isHexDigit, hexAhead, letterL}
@@ -19,6 +19,7 @@ module _ {s : List ℕ} {x : Stand} (g : Good s x) (a : upToBlank x.class.number
       record {
         no-sign = a;
         no-line = unlike startsWord x.class.number lfClass refl b;
+        alone = λ r. clash (sym (unlike startsWord x.class.number crClass refl b) ∙ r);
         word = λ w. ap (λ (z : Here). asksMore z.class.number && (not (isSign z.class.number) || lowBefore s x.at z.at)) (sym q) ∙ m;
         run = λ r. clash (sym (class-apart _) ∙ ap₂ (λ u v. u && v) (by-class g inRun r) (by-class g startsWord b));
         number = λ d. clash (sym (unlike startsWord x.class.number digitClass refl b) ∙ d);

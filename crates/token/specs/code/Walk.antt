@@ -7,7 +7,7 @@ use Rattle.chars.specs.paper.Text.{from}
 use Rattle.chars.specs.promises.Texts.{Suffix}
 use Rattle.token.specs.paper.Kinds.{wordOf, runOf}
 use Rattle.token.specs.computed.Answer.{codesTo, orPrefixed, scan, scanNumber}
-use Rattle.token.specs.code.ByteClass.{classAt, lfClass, digitClass, keywordClass, signKeywordClass, slashClass, upToBlank, startsWord, inWord, asksMore, inOperator, isSign, inRun, inLineEnd}
+use Rattle.token.specs.code.ByteClass.{classAt, lfClass, crClass, digitClass, keywordClass, signKeywordClass, slashClass, upToBlank, startsWord, inWord, asksMore, inOperator, isSign, inRun, inLineEnd}
 use Rattle.token.specs.code.Keyword.{numberOr}
 use Rattle.token.specs.declared.kinds.TokenKind.{TokenKind}
 use Rattle.token.specs.code.Records.{State, Standing, Reaches, measuredFrom, storedFrom}
@@ -97,6 +97,7 @@ runGoesOn s e = inOperator (classAt s e) && not (classAt s e == slashClass && on
 pub record Left (s : List ℕ) (y : Stand) : Type 0 where
   pub no-sign : IsFalse (upToBlank y.class.number)
   pub no-line : IsFalse (y.class.number == lfClass)
+  pub alone : IsTrue (y.class.number == crClass) → IsFalse (slice_index s (y.at + 1) == 0x0A)
   pub word : IsTrue (startsWord y.class.number) → IsTrue (goesOn s y.at (runTo inWord s (y.at + 1)))
   pub run : IsTrue (inRun y.class.number) → IsTrue (runGoesOn s (runTo inRun s (y.at + 1)))
   pub number : IsTrue (y.class.number == digitClass) → IsErr (pieceOf (length s) (scanNumber (from s y.at)))
