@@ -22,7 +22,7 @@ pub trait ByteSet {
         ensures { result ≡ mask_l (map (λ b. not (holds b)) block) };
 }
 
-/// Of the sixteen bytes from `at` on a bit for each, the lowest for the first: 1 where the byte is not in the set. None where fewer stand there.
+/// What `outside` tells of the sixteen bytes from `at` on. None where fewer stand there.
 #[inline(always)]
 pub fn outside_at<C: ByteSet>(s: &[u8], at: usize) -> Option<u64>
     ensures mask { IfSome result (λ m. m ≡ mask_l (map (λ b. not (C.holds b)) (take 16 (drop at s.now)))) }
@@ -30,9 +30,10 @@ pub fn outside_at<C: ByteSet>(s: &[u8], at: usize) -> Option<u64>
     ensures none { IfNone result (length s.now < at + 16) }
 {
     if LANES <= s.len() && at <= s.len() - LANES {
-        return Some(C::outside(u8x16::from_slice(&s[at..])));
+        Some(C::outside(u8x16::from_slice(&s[at..])))
+    } else {
+        None
     }
-    None
 }
 
 /// Where the bytes of the set end that stand from `at` on; `at` itself, where none does.

@@ -1,5 +1,5 @@
 // UTF-8 by the Unicode Standard, Table 3-7. One look at a character is compiled into whoever takes it: so a loop over characters keeps it in registers.
-ghost use Rattle.std.specs.Prelude.{◌≡◌, [], ◌∷◌, ◌+◌, ◌<◌, ◌≤◌, ◌%◌, not, map, take, drop, slice_index, length};
+ghost use Rattle.std.specs.Prelude.{◌≡◌, [], ◌∷◌, ◌+◌, ◌<◌, ◌≤◌, ◌%◌, not, map, take, drop, slice_index, length, IfSome, IfNone};
 ghost use Rattle.std.specs.Simd.Lanes.{mask_l};
 ghost use Rattle.chars.specs.paper.Ranges.{◌to◌};
 ghost use Rattle.chars.specs.paper.Utf8.{fits, codeOf, LongestValid};
@@ -118,29 +118,37 @@ pub fn decode(s: &[u8], at: usize) -> Option<Decoded>
     })
 }
 
-// So many bytes are looked at together where ASCII goes on, as in most scripts it does to the end.
+// How many bytes are looked at together where ASCII goes on, as in most scripts it does to the end.
 const MANY: usize = 64;
 
-// Of so many bytes from `at` on a bit for each, the lowest for the first: 1 where the byte is past ASCII.
+// Of the sixty-four bytes from `at` on a bit for each: 1 where the byte is past ASCII. None where fewer stand there. How many bytes a vector has is part
+// of its type, so this is no set of runs, which are tested by sixteen.
 #[inline(always)]
-fn wide_mask(s: &[u8], at: usize) -> u64
-    requires { at + 64 ≤ length s.now }
-    ensures { result ≡ mask_l (map (λ b. not (isAscii b)) (take 64 (drop at s.now))) }
+fn wide_at(s: &[u8], at: usize) -> Option<u64>
+    ensures mask { IfSome result (λ m. m ≡ mask_l (map (λ b. not (isAscii b)) (take 64 (drop at s.now)))) }
+    ensures within { IfSome result (λ _. at + 64 ≤ length s.now) }
+    ensures none { IfNone result (length s.now < at + 64) }
 {
-    u8x64::from_slice(&s[at..])
-        .simd_gt(u8x64::splat(0x7F))
-        .to_bitmask()
+    if MANY <= s.len() && at <= s.len() - MANY {
+        let block = u8x64::from_slice(&s[at..]);
+        Some(block.simd_gt(u8x64::splat(0x7F)).to_bitmask())
+    } else {
+        None
+    }
 }
 
-// Whether so many ASCII bytes stand at `at`.
+// Whether sixty-four bytes of ASCII stand from `at` on.
 #[inline(always)]
 fn many_at(s: &[u8], at: usize) -> bool
     ensures { result ≡ manyAt s.now at }
 {
-    MANY <= s.len() && at <= s.len() - MANY && wide_mask(s, at) == 0
+    match wide_at(s, at) {
+        Some(wide) => wide == 0,
+        None => false,
+    }
 }
 
-// The place past the ASCII bytes that stand from `at` on, as far as so many stand together. No iterator, as for `skip_threes` below.
+// The place past the ASCII bytes that stand from `at` on, as far as they fill blocks of sixty-four. No iterator, as for `skip_threes` below.
 fn skip_many(s: &[u8], at: usize) -> usize
     ensures { result ≡ manyOver s.now at }
 {

@@ -5,12 +5,12 @@ ghost use Rattle.chars.specs.paper.Text.{from, headIs};
 ghost use Rattle.token.specs.paper.Tests.{isAny, opSign, opensBlock, opensComment};
 ghost use Rattle.token.specs.paper.Records.{mostBytes, headLength, lineLength};
 ghost use Rattle.token.specs.computed.Answer.{scan, scanNumber};
-ghost use Rattle.token.specs.code.Records.{storedIf, measuredFrom, storedFrom};
+ghost use Rattle.token.specs.code.Records.{storedIf, measuredFrom, storedFrom, begun};
 ghost use Rattle.token.specs.code.Form.{byForm, plainForm};
 ghost use Rattle.token.specs.code.ByteClass.{classAt, blankClass, digitClass, lfClass, crClass, tickClass, backtickClass, quoteClass, keywordClass, signKeywordClass, slashClass, wideClass, upToBlank, startsWord, asksMore, isSign, inWord};
 ghost use Rattle.token.specs.code.Names.{hereOf, lowBefore};
 ghost use Rattle.token.specs.code.Piece.{pieceOf};
-ghost use Rattle.token.specs.code.Walk.{beginning, movedTo, plainBehind, valuesBehind, lineBehind, commentBehind, blockBehind, runGoesOn, nameNumber, operatorNumber, stateAt, Good, Left, LeftTo, Prefixes, Refuses, Steps};
+ghost use Rattle.token.specs.code.Walk.{beginning, movedTo, plainBehind, valuesBehind, lineBehind, commentBehind, blockBehind, runGoesOn, nameNumber, operatorNumber, Good, Left, LeftTo, Prefixes, Refuses, Steps};
 
 use crate::byte_class::Class;
 use crate::charsym::lex_char_sym;
@@ -50,7 +50,7 @@ pub struct Stand {
 
 impl Stand {
     /// At the start of a script. No line end and no comment came, for which one byte too many stands.
-    pub fn start(s: &[u8]) -> Stand
+    fn start(s: &[u8]) -> Stand
         ensures { result ≡ beginning s.now }
     {
         Stand {
@@ -584,7 +584,8 @@ fn run_goes_on(s: &[u8], end: Here) -> bool
     end.class.in_operator() && !(end.class == Class::SLASH && opens_with(byte_at(s, end.at + 1)))
 }
 
-// As far as blanks, signs, words, LFs, runs of operator signs and numbers stand there of which no byte behind them makes more, as most pieces are.
+// As far as blanks, signs, words, line ends, runs of operator signs and numbers stand there of which no byte behind them makes more, as most pieces
+// are.
 fn walk_words(out: &mut [u8], s: &[u8], start: Stand) -> Stand
     requires short { length s.now ≤ mostBytes }
     requires good { Good s.now start }
@@ -630,14 +631,15 @@ fn walk_words(out: &mut [u8], s: &[u8], start: Stand) -> Stand
     }
 }
 
-/// To the end of script, or to what is refused. While no cut is set, as nearly always, words and all that is as short go in a loop of their own.
+/// From the script's start to its end, or to what is refused. While no cut is set, as nearly always, words and all that is as short go in a loop of their own.
 pub fn walk(out: &mut [u8], s: &[u8]) -> Result<Stand, Refused>
     requires short { length s.now ≤ mostBytes }
     ensures on { IfOk result (λ y. Steps s.now (beginning s.now) out.old y out.new) }
     ensures ended { IfOk result (λ y. y.at ≡ length s.now) }
-    ensures refused { IfErr result (λ e. measuredFrom s.now (stateAt (beginning s.now)) ≡ Err e) }
-    ensures out_after { IfErr result (λ e. out.new ≡ storedFrom s.now (stateAt (beginning s.now)) out.old) }
+    ensures refused { IfErr result (λ e. measuredFrom s.now begun ≡ Err e) }
+    ensures out_after { IfErr result (λ e. out.new ≡ storedFrom s.now begun out.old) }
 {
+    // Made here and not handed over, so that the compiler knows that no cut is set.
     let mut x = Stand::start(s);
     // The same steps, of every piece, by the class of its first byte.
     loop {

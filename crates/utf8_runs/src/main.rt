@@ -18,8 +18,8 @@ const ROOM_BYTES: usize = 32 * 1024;
 
 const EDGES: [u8; 4] = [0x7F, 0x80, 0xBF, 0xC0];
 
-// The bytes of the sequence of number k that begins with a, of which the first n count. They lie in an array of four, with n beside it: one to four of
-// them are looked at, and no array has a length that is told at run time.
+// The bytes of the sequence of number k that begins with a, of which the first n count. An array of four, with n beside it: n is one to four, and an
+// array's length is known when it is compiled.
 #[tactic(auto, unfolding(crate::specs::Sequences::bytesOf))]
 fn bytes_of(n: usize, a: u8, k: u32) -> [u8; 4]
     ensures value { result ≡ bytesOf n a k }

@@ -48,7 +48,7 @@ other a b x = both (not (eqb x a)) (not (eqb x b)) ∙ grind arith
 pub none : (a b c d : Bool) → top 7 (bit_or (bit_or (bit_or (lane a) (lane b)) (lane c)) (lane d)) ≡ not (not (((a || b) || c) || d))
 none a b c d = grind arith
 
--- ---- a run, some bytes at a time
+-- ---- a run, n bytes at a time
 
 module _ (q : ℕ → Bool) where
   abbrev out : ℕ → Bool
@@ -101,7 +101,7 @@ module _ (q : ℕ → Bool) where
         let ne = some-fails m in
         omega (arith, e, length-chunk i n s room, prefix_len-le-length q block)
 
-    -- has it them all?
+    -- does it have them all?
     pub block-in : (m : ℕ) → m ≡ mask_l (map out block) → eqb m 0 ≡ leb n (prefix_len q (drop i s))
     block-in m e = elim (cases_eq m 0) [
       | inl z ↦ eq-eqb m 0 z ∙ sym (le-leb n (prefix_len q (drop i s)) (omega (arith, run-on m e z)))
@@ -113,6 +113,11 @@ module _ (q : ℕ → Bool) where
   block-out n s i some h = sym (lt-leb n (prefix_len q (drop i s)) (omega (arith, prefix_len-le-length q (drop i s), length-drop i s)))
 
 -- ---- a loop that passes `step` bytes at a time, by a test of them
+
+-- where the test does not hold, the loop ends
+pub over-end : (step : ℕ) (test : List ℕ → ℕ → Bool) (s : List ℕ) (i : ℕ) → test s i ≡ false → i ≡ stepsOver step test s i
+unfolding stepsIn
+over-end step test s i e = grind arith
 
 -- where the test holds, so many bytes stand
 module _ (step : ℕ) (test : List ℕ → ℕ → Bool) (s : List ℕ) (moves : 0 < step) (stand : (i : ℕ) → test s i ≡ true → i + step ≤ length s) where
@@ -132,8 +137,3 @@ module _ (step : ℕ) (test : List ℕ → ℕ → Bool) (s : List ℕ) (moves :
 
   pub over-on : (i : ℕ) → test s i ≡ true → stepsOver step test s (i + step) ≡ stepsOver step test s i
   over-on i = steps-on (length s) i (omega arith)
-
-  -- and where it doesn't hold, the loop ends
-  pub over-end : (i : ℕ) → test s i ≡ false → i ≡ stepsOver step test s i
-  unfolding stepsIn
-  over-end i e = grind arith

@@ -1,6 +1,6 @@
 -- How wide a character is, and the check of one character after the other.
 use Rattle.std.proofs.lemmas.Grind.{common_steps}
-use Rattle.std.proofs.Common.{ℕ, zero, suc, ◌+◌, ◌-◌, ◌≤◌, ◌<◌, ◌≡◌, refl, sym, ◌∙◌, ap, Bool, true, false, cond, ◌&&◌, inl, inr, List, [], ◌∷◌, length, drop, get_or, length-drop, drop_of_length-le, drop-drop, leb, arith, leb-true, le-leb, not, map, take}
+use Rattle.std.proofs.Common.{ℕ, zero, suc, ◌+◌, ◌-◌, ◌≤◌, ◌<◌, ◌≡◌, refl, sym, ◌∙◌, ap, Bool, true, false, cond, inl, inr, List, [], ◌∷◌, length, drop, get_or, length-drop, drop_of_length-le, drop-drop, leb, arith, leb-true, le-leb, not, map, take}
 use Rattle.chars.specs.paper.Ranges.{Range, ◌to◌}
 use Rattle.chars.specs.paper.Utf8.{table37, fits, Row, width}
 use Rattle.chars.specs.computed.Valid.{validFrom, validPrefix}
@@ -90,8 +90,7 @@ rows-stand x row s = over-on (length (x ∷ row)) (rowAt (x ∷ row)) s (omega a
 
 -- where no character of the row stands, its characters end
 pub rows_end : (row : List Range) (s : List ℕ) (i : ℕ) → rowAt row s i ≡ false → i ≡ rowsOver row s i
-unfolding stepsIn
-rows_end row s i e = grind arith
+rows_end row = over-end (length row) (rowAt row)
 
 -- ---- ASCII bytes
 
@@ -118,6 +117,15 @@ module _ (s : List ℕ) where
   ascii-out : (j : ℕ) → (j < length s → isAscii (get_or s j 0) ≡ false) → rowAt ascii s j ≡ false
   ascii-out j out = grind (arith, common_steps)
 
+  -- as far as ASCII stands, one by one is passed
+  ascii-part : (i j : ℕ) → i ≤ j → j ≤ end isAscii s i → j ≤ length s → rowsOver ascii s j ≡ rowsOver ascii s i
+  ascii-part i j b w l =
+      let each : AllIn 0x00 0x7F s i j =
+      λ k m n.
+      let a = and-both (leb 0x00 (get_or s k 0)) (leb (get_or s k 0) 0x7F) (passed isAscii s i k m (omega arith)) in
+      (leb-true _ _ a.0, leb-true _ _ a.1) in
+      ascii-to i j b l each
+
   -- where the run ends, no row stands
   pub ascii_run : (i : ℕ) → i + prefix_len isAscii (drop i s) ≡ rowsOver ascii s i
   ascii_run i =
@@ -127,41 +135,28 @@ module _ (s : List ℕ) where
         | inl h ↦
             let z : j ≡ i = ap (λ l. i + prefix_len isAscii l) (drop_of_length-le s (omega arith)) ∙ omega arith in
             e ∙ ap (rowsOver ascii s) z
-        | inr h ↦
-            let each : AllIn 0x00 0x7F s i j =
-            λ k l m.
-            let a = and-both (leb 0x00 (get_or s k 0)) (leb (get_or s k 0) 0x7F) (passed isAscii s i k l m) in
-            (leb-true _ _ a.0, leb-true _ _ a.1) in
-            e ∙ ascii-to i j (omega arith) (within isAscii s i h) each
+        | inr h ↦ e ∙ ascii-part i j (omega arith) (omega arith) (within isAscii s i h)
       ]
 
-  -- behind n bytes of it as much is left
+  -- behind n bytes of ASCII, by their mask, the run ends where it did
   pub ascii_more : (n i : ℕ) → i + n ≤ length s → mask_l (map (λ b. not (isAscii b)) (take n (drop i s))) ≡ 0 → rowsOver ascii s (i + n) ≡ rowsOver ascii s i
-  ascii_more n i room z =
-      let e = run-on isAscii n s i room _ refl z in
-      let more : i + n + prefix_len isAscii (drop (i + n) s) ≡ i + prefix_len isAscii (drop i s) = omega (arith, e) in
-      sym (ascii_run (i + n)) ∙ more ∙ ascii_run i
+  ascii_more n i room z = ascii-part i (i + n) (omega arith) (omega (arith, run-on isAscii n s i room _ refl z)) room
+
+  -- ---- sixty-four at once
+
+  many-long : (i : ℕ) → manyAt s i ≡ true → 64 ≤ prefix_len isAscii (drop i s)
+  many-long i = leb-true _ _
 
   many-stand : (i : ℕ) → manyAt s i ≡ true → i + 64 ≤ length s
-  many-stand i e =
-      let l : 64 ≤ prefix_len isAscii (drop i s) = leb-true _ _ e in omega (arith, prefix_len-le-length isAscii (drop i s), length-drop i s)
+  many-stand i e = omega (arith, many-long i e, prefix_len-le-length isAscii (drop i s), length-drop i s)
 
-  -- where many stand they are passed, and else the loop ends
+  -- where they stand they are passed
   pub many-on : (i : ℕ) → manyAt s i ≡ true → manyOver s (i + 64) ≡ manyOver s i
   many-on = over-on 64 manyAt s (omega arith) many-stand
 
-  pub many-end : (i : ℕ) → manyAt s i ≡ false → i ≡ manyOver s i
-  many-end = over-end 64 manyAt s (omega arith) many-stand
-
-  -- sixty-four of them are passed as one by one
+  -- as one by one
   many-more : (i : ℕ) → manyAt s i ≡ true → rowsOver ascii s (i + 64) ≡ rowsOver ascii s i
-  many-more i e =
-      let l : 64 ≤ prefix_len isAscii (drop i s) = leb-true _ _ e in
-      let each : AllIn 0x00 0x7F s i (i + 64) =
-      λ k m n.
-      let a = and-both (leb 0x00 (get_or s k 0)) (leb (get_or s k 0) 0x7F) (passed isAscii s i k m (omega (arith, l))) in
-      (leb-true _ _ a.0, leb-true _ _ a.1) in
-      ascii-to i (i + 64) (omega arith) (many-stand i e) each
+  many-more i e = ascii-part i (i + 64) (omega arith) (omega (arith, many-long i e)) (many-stand i e)
 
   many-in : (n i : ℕ) → rowsOver ascii s (stepsIn n 64 (manyAt s) i) ≡ rowsOver ascii s i
   unfolding stepsIn

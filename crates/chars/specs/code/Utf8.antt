@@ -1,4 +1,4 @@
--- What `utf8` answers: one character decoded, and where characters of one row end.
+-- What `utf8` answers: one character decoded, where characters of one row end, and where ASCII does by sixty-fours.
 use Rattle.std.specs.Prelude.{ℕ, Bool, Option, Some, None, if◌then◌else◌, ◌==◌, ◌&&◌, nat_le, List, length, drop}
 use Rattle.std.specs.List.{prefix_len}
 use Rattle.chars.specs.declared.utf8.Decoded.{Decoded}
@@ -32,7 +32,7 @@ rowsOver row = stepsOver (length row) (rowAt row)
 
 -- ---- many bytes of ASCII at once
 
--- the test of `InRange<0x00, 0x7F>`
+-- a byte of ASCII, written as the test of `InRange<0x00, 0x7F>` of `runs`, which it is to be equal to
 abbrev pub isAscii : ℕ → Bool
 isAscii b = nat_le 0x00 b && nat_le b 0x7F
 
@@ -40,6 +40,6 @@ isAscii b = nat_le 0x00 b && nat_le b 0x7F
 abbrev pub manyAt : List ℕ → ℕ → Bool
 manyAt s i = nat_le 64 (prefix_len isAscii (drop i s))
 
--- from the place i on, past as many times sixty-four of them as stand there
+-- from the place i on, past as many blocks of sixty-four as stand there
 abbrev pub manyOver : List ℕ → ℕ → ℕ
 manyOver = stepsOver 64 manyAt

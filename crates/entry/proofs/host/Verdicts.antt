@@ -1,17 +1,14 @@
--- The order of the refusals, computed: which verdict is met, and what a verdict says.
+-- The order of the refusals, computed: which verdict is met.
 use Prim.Native.Nat.{ℕ, ◌≤◌, ◌<◌}
-use mathlib.Core.Path.{◌≡◌, refl, ap}
-use mathlib.Core.Bool.{Bool, true, false, cond}
+use mathlib.Core.Path.{◌≡◌}
 use mathlib.Core.List.{List}
 use lib.ListN.{length}
-use lib.Dec.{leb, ltb}
-use borrow.Author.Tests.{leb-true, lt-ltb, le-ltb, le-leb, lt-leb}
+use borrow.Author.Tests.{lt-ltb, le-ltb, le-leb, lt-leb}
 use Rattle.chars.specs.computed.Valid.{validPrefix}
 use Rattle.token.specs.paper.Kinds.{Token}
 use Rattle.token.specs.paper.Records.{recordBytes, mostBytes}
 use Rattle.token.specs.computed.Answer.{Answer, tokenized, refused, answer}
 use Rattle.entry.specs.computed.Host.{granted, rejected, lacking, byRoom, verdict}
-use Rattle.token.proofs.Base.{zero-one}
 
 module _ (room : ℕ) (w : Answer) where
   pub room-granted : (ts : List Token) → w ≡ tokenized ts → recordBytes ts ≤ room → byRoom room w ≡ granted ts

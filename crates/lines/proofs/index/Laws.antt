@@ -4,7 +4,7 @@ use mathlib.Core.Path.{◌≡◌, refl, sym, ◌∙◌, ap}
 use mathlib.Core.Bool.{Bool, true, false, cond}
 use mathlib.Core.List.{List, [], ◌∷◌, ◌++◌, append-nil, map}
 use lib.ListN.{length, take, drop, get_or, set, replicate, length-append, length-set}
-use lib.Seq.{sets, length-sets, take-add, drop-drop, drop-cons}
+use lib.Seq.{sets, length-sets, drop-drop}
 use lib.Dec.{eqb}
 use native.Mathlib.Nat.{add-zero, mul_comm, pow-suc, div-div-eq-div-mul}
 use lib.Count.{count_trailing_zeros, under}
@@ -13,7 +13,7 @@ use mir.Syntax.{w8}
 use mir.Val.{bits, hbits}
 use Rattle.std.proofs.lemmas.Simd.{bitmask_splat, length-chunk}
 use Rattle.std.specs.List.{range_with_len}
-use Rattle.std.proofs.lemmas.List.{take-take, drop-take}
+use Rattle.std.proofs.lemmas.List.{drop-take}
 use Rattle.std.proofs.lemmas.List.FromFn.{length-range_with_len}
 use native.Mathlib.Numerals.{add-one}
 use native.Mathlib.Omega.{arith}
@@ -85,6 +85,14 @@ starts-none s i = ap (startsIn i) (part-none s i)
 
 -- ---- bytes by their mask
 
+-- of n bytes at once, by what the comparison with as many LFs answers
+pub mask-of : (n : ℕ) (s : List ℕ) (at : ℕ) → at + n ≤ length s → n ≤ 64
+    → mask_l (map (top (hbits w8)) (zip2 (λ a b. cond (eqb a b) (2 ^ bits w8 - 1) 0) (chunk at n s) (replicate n 0x0A))) % 2 ^ 64 ≡ lfMask (part s at (at + n))
+unfolding lfMask
+mask-of n s at h few =
+    let e : n ≡ at + n - at = omega arith in
+    bitmask_splat w8 eqb (chunk at n s) n 0x0A (length-chunk at n s h) few ∙ ap (λ m. lfMask (take m (drop at s))) e
+
 -- no LF is marked
 mask-none : (i : ℕ) (s : List ℕ) → lfMask s ≡ 0 → startsIn i s ≡ []
 unfolding lfMask startsIn
@@ -94,14 +102,6 @@ mask-none i (b ∷ s) e = go (eqb b 0x0A) e (mask-none (suc i) s)
     go : (t : Bool) → cond t 1 0 + 2 * lfMask s ≡ 0 → (lfMask s ≡ 0 → startsIn (suc i) s ≡ []) → cond t (suc i ∷ startsIn (suc i) s) (startsIn (suc i) s) ≡ []
     go true e f = absurd (omega arith)
     go false e f = f (omega arith)
-
--- of n bytes at once, by what the comparison with as many LFs answers
-pub mask-of : (n : ℕ) (s : List ℕ) (at : ℕ) → at + n ≤ length s → n ≤ 64
-    → mask_l (map (top (hbits w8)) (zip2 (λ a b. cond (eqb a b) (2 ^ bits w8 - 1) 0) (chunk at n s) (replicate n 0x0A))) % 2 ^ 64 ≡ lfMask (part s at (at + n))
-unfolding lfMask
-mask-of n s at h few =
-    let e : n ≡ at + n - at = omega arith in
-    bitmask_splat w8 eqb (chunk at n s) n 0x0A (length-chunk at n s h) few ∙ ap (λ m. lfMask (take m (drop at s))) e
 
 -- all are
 mask-all : (i : ℕ) (s : List ℕ) → lfMask s + 1 ≡ 2 ^ length s → startsIn i s ≡ range_with_len (i + 1) (length s)
