@@ -125,6 +125,21 @@ fn boundary_sequences(tally: &mut Tally) {
     }
 }
 
+// A character, or bytes that are none, behind each length of ASCII up to some blocks of sixty-four, and before others: the check looks at ASCII by
+// blocks.
+#[cfg(linked)]
+fn within_ascii(tally: &mut Tally) {
+    let middles: [&[u8]; 9] = [b"", "é".as_bytes(), "€".as_bytes(), "😀".as_bytes(), b"\x80", b"\xFF", b"\xC2", b"\xE2\x82", b"\xF0\x9F\x98"];
+    for before in 0..=200 {
+        for after in [0, 1, 15, 16, 17, 63, 64, 65, 80, 100, 200] {
+            for middle in middles {
+                let s = [&[b'a'; 200][..before], middle, &[b'b'; 200][..after]].concat();
+                tally.sequence(&s, before);
+            }
+        }
+    }
+}
+
 // Every scalar value: decoded where it stands, alone, between others and cut short, and at each offset inside and past it.
 #[cfg(linked)]
 fn scalar_values(tally: &mut Tally) {
@@ -175,9 +190,10 @@ fn compare_classes() -> bool {
 #[cfg(linked)]
 fn compare() {
     let mut same = true;
-    let parts: [(&str, fn(&mut Tally)); 3] = [
+    let parts: [(&str, fn(&mut Tally)); 4] = [
         ("every sequence of at most three bytes", short_sequences),
         ("boundary sequences of Table 3-7", boundary_sequences),
+        ("within ASCII of many lengths", within_ascii),
         ("every scalar value, decoded and in context", scalar_values),
     ];
     for (what, part) in parts {
