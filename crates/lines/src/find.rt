@@ -4,8 +4,8 @@ ghost use Rattle.lines.specs.computed.Lines.{searchOf, columnSince};
 
 use crate::count::count_in;
 
-/// Which of the first `lines` numbers is the start of the line in which the place lies, counted from 0. The index is as a host
-/// lent it, with the number of lines beside it: it may have more numbers than there are lines, and what stands behind those is the start of none.
+/// Which of the first `lines` numbers is the start of the line in which the place lies, counted from 0. The index is as a host lent it, with the
+/// number of lines beside it: it may have more numbers than there are lines, and what stands behind those is the start of none.
 #[tactic(auto, using(crate::proofs::find::Laws::halves), unfolding(crate::specs::computed::Lines::searchOf))]
 pub fn find_line(index: &[u32], lines: usize, place: usize) -> usize
     requires some { 1 ≤ lines }

@@ -631,7 +631,8 @@ fn walk_words(out: &mut [u8], s: &[u8], start: Stand) -> Stand
     }
 }
 
-/// From the script's start to its end, or to what is refused. While no cut is set, as nearly always, words and all that is as short go in a loop of their own.
+/// From the script's start to its end, or to what is refused. While no cut is set, as nearly always, words and all that is as short go in a loop of
+/// their own.
 pub fn walk(out: &mut [u8], s: &[u8]) -> Result<Stand, Refused>
     requires short { length s.now ≤ mostBytes }
     ensures on { IfOk result (λ y. Steps s.now (beginning s.now) out.old y out.new) }

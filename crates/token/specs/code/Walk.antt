@@ -92,8 +92,8 @@ goesOn s i e = asksMore (classAt s e) && (not (isSign (classAt s e)) || lowBefor
 abbrev pub runGoesOn : List ℕ → ℕ → Bool
 runGoesOn s e = inOperator (classAt s e) && not (classAt s e == slashClass && oneOf "*/" (slice_index s (e + 1)))
 
--- What the walk over words leaves: neither a blank, a single sign nor a line end, an LF or a CR with an LF behind it; a word or a run of signs only where more may be made of it, and a
--- number only where it is refused.
+-- What the walk over words leaves: neither a blank, a single sign nor a line end, an LF or a CR with an LF behind it; a word or a run of signs only
+-- where more may be made of it, and a number only where it is refused.
 pub record Left (s : List ℕ) (y : Stand) : Type 0 where
   pub no-sign : IsFalse (upToBlank y.class.number)
   pub no-line : IsFalse (y.class.number == lfClass)
