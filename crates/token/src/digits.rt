@@ -1,9 +1,11 @@
-// Digits: one walk over a run and one value, for numbers and escapes alike. RULES, "Number" and "Escape".
-ghost use Rattle.std.specs.Prelude.{◌≡◌, ◌≢◌, IsTrue, ℕ, ◌*◌, ◌^◌, ◌≤◌, ◌<◌, length, slice_index};
+// Digits: one walk over a run and one value, for numbers and escapes alike. RULES, "Digits", "Number" and "Escape".
+ghost use Rattle.std.specs.Prelude.{◌≡◌, ◌≢◌, IsTrue, ℕ, ◌^◌, ◌%◌, ◌-◌, ◌≤◌, ◌<◌, length, slice_index};
 ghost use Rattle.chars.specs.paper.Text.{Text, from};
+ghost use Rattle.token.specs.paper.Digits.{IsBase, digitIn, RunEnds, digitsTo, fitting};
+ghost use Rattle.token.specs.paper.Shapes.{valueOfDigits};
 ghost use Rattle.token.specs.paper.Tests.{isDigit, digitValue, hexAhead};
 ghost use Rattle.token.specs.computed.Answer.{numeral, readDigits, numberOf, scanNumber};
-ghost use Rattle.token.specs.code.Digits.{digitIn, digitOf, afterUpTo, Untested, intOr, longOr, numberBy};
+ghost use Rattle.token.specs.code.Digits.{digitOf, letterOf, Untested, intOr, longOr, numberBy};
 ghost use Rattle.token.specs.code.Piece.{pieceOf};
 
 use crate::cursor::{Cursor, byte_at};
@@ -21,9 +23,32 @@ impl Value {
     pub const INT_MOST: u64 = 2147483647;
 }
 
-// Is the byte a digit of this base: 16, else 10?
-#[tactic(auto, unfolding(crate::specs::code::Digits::digitIn, crate::specs::paper::Tests::isDigit, crate::specs::paper::Tests::isHexDigit))]
-pub fn is_digit(b: u8, base: u64) -> bool
+// The value of a letter that is a hex digit. With the bit of weight 32 a capital is its small letter.
+#[tactic(auto, using(crate::proofs::digits::Laws::letters))]
+fn letter_of(b: u8) -> Option<u64>
+    ensures { result ≡ letterOf b }
+{
+    match b | 0x20 {
+        c @ b'a'..=b'f' => Some((c - b'a' + 10) as u64),
+        _ => None,
+    }
+}
+
+// The value of a digit of this base, 10 or 16; None of any other byte.
+#[tactic(auto, unfolding(crate::specs::code::Digits::digitOf, crate::specs::code::Digits::letterOf, crate::specs::paper::Digits::digitIn, crate::specs::paper::Tests::isDigit, crate::specs::paper::Tests::isHexDigit))]
+fn digit_of<const BASE: u64>(b: u8) -> Option<u64>
+    ensures { result ≡ digitOf BASE b }
+{
+    match b {
+        b'0'..=b'9' => Some((b - b'0') as u64),
+        _ if BASE == 16 => letter_of(b),
+        _ => None,
+    }
+}
+
+// Is the byte a digit of this base: 16, else 10? Through `digit_of` hex numbers would take 8 per cent more instructions.
+#[tactic(auto, unfolding(crate::specs::paper::Digits::digitIn, crate::specs::paper::Tests::isDigit, crate::specs::paper::Tests::isHexDigit))]
+fn is_digit(b: u8, base: u64) -> bool
     ensures { result ≡ digitIn base b }
 {
     match b {
@@ -32,39 +57,6 @@ pub fn is_digit(b: u8, base: u64) -> bool
         b'a'..=b'f' => base == 16,
         _ => false,
     }
-}
-
-// A hex digit's value, 16 for any other byte: one look tells whether it is a digit of a base, and which.
-#[tactic(auto, unfolding(crate::specs::code::Digits::digitOf, crate::specs::code::Digits::digitIn, crate::specs::paper::Tests::isDigit, crate::specs::paper::Tests::isHexDigit))]
-pub fn digit_of(b: u8) -> u64
-    ensures { result ≡ digitOf b }
-{
-    match b {
-        b'0'..=b'9' => (b - b'0') as u64,
-        b'A'..=b'F' => (b - b'A' + 10) as u64,
-        b'a'..=b'f' => (b - b'a' + 10) as u64,
-        _ => 16,
-    }
-}
-
-// Past the digits of this base that stand there, at most so many.
-#[inline(always)]
-#[tactic(auto, using(crate::proofs::digits::Laws::digits_up))]
-pub fn consume_digits(s: &[u8], c: Cursor, base: u64, most: usize) -> Cursor
-    requires { c.at ≤ length s.now }
-    ensures within { result.at ≤ length s.now }
-    ensures onward { c.at ≤ result.at }
-    ensures rest { from s.now result.at ≡ afterUpTo (digitIn base) most (from s.now c.at) }
-{
-    let mut i = c.at;
-    // The count goes beside the place: `c.at + most` might not fit.
-    for _ in 0..most {
-        if !is_digit(byte_at(s, i), base) {
-            return Cursor { at: i };
-        }
-        i += 1;
-    }
-    Cursor { at: i }
 }
 
 // Do `0x` and a hex digit stand there? The `x` is looked for first: few numbers have one.
@@ -79,45 +71,44 @@ fn hex_ahead(s: &[u8], c: Cursor) -> bool
 // Above the most of every kind.
 const ABOVE_ALL: u64 = u64::MAX;
 
-// A run of digits: where it ends, its value, and the byte behind it.
+/// A run of digits: where it ends, its value modulo 2^64, and the byte behind it.
 #[derive(Clone, Copy, Debug, PartialEq, Eq)]
-struct DigitRun {
-    end: usize,
-    value: u64,
-    next: u8,
+pub struct DigitRun {
+    pub end: usize,
+    pub value: u64,
+    pub next: u8,
 }
 
-// The digits of a base that stand there, at most so many: so few that no value has to be tested. The base is compiled in: each has its own loop, as
-// fast as one that is written for it.
+/// The digits of a base, 10 or 16, that stand there, at most so many. The base is compiled in: each has its own loop, as fast as one that is written
+/// for it.
 #[inline(always)]
-fn digit_run<const BASE: u64, const MOST: usize>(s: &[u8], at: usize) -> DigitRun
+pub fn digit_run<const BASE: u64>(s: &[u8], at: usize, most: usize) -> DigitRun
+    requires base { IsBase BASE }
     requires within { at ≤ length s.now }
-    requires untested { Untested BASE MOST }
-    ensures within { result.end ≤ length s.now }
+    ensures run { RunEnds BASE most s.now at result.end }
+    ensures alone { (e : ℕ) → RunEnds BASE most s.now at e → e ≡ result.end }
+    ensures value { result.value ≡ valueOfDigits BASE (digitsTo s.now at result.end) % 2 ^ 64 }
+    ensures own { result.end - at ≤ fitting BASE → result.value ≡ valueOfDigits BASE (digitsTo s.now at result.end) }
     ensures next { result.next ≡ slice_index s.now result.end }
-    ensures value { readDigits (digitIn BASE) BASE result.value (from s.now result.end) ≡ readDigits (digitIn BASE) BASE 0 (from s.now at) }
-    ensures lead { IsTrue (digitIn BASE result.next) → slice_index s.now at ≢ 0x30 → BASE ^ MOST ≤ result.value * BASE }
 {
-    let stop = s.len().min(at + MOST);
-    let mut v: u64 = 0;
+    let mut value: u64 = 0;
     let mut i = at;
-    // One walk gives the end, the value and the byte behind. A `for` over the places was tried: hex numbers take three hundredths more.
-    while i < stop {
-        let b = s[i];
-        let d = digit_of(b);
-        if BASE <= d {
+    // The count goes beside the place: the sum of both might not fit. One walk gives the end, the value and the byte behind.
+    for _ in 0..most {
+        let b = byte_at(s, i);
+        let Some(d) = digit_of::<BASE>(b) else {
             return DigitRun {
                 end: i,
-                value: v,
+                value,
                 next: b,
             };
-        }
-        v = v * BASE + d;
+        };
+        value = value.wrapping_mul(BASE).wrapping_add(d);
         i += 1;
     }
     DigitRun {
         end: i,
-        value: v,
+        value,
         next: byte_at(s, i),
     }
 }
@@ -141,7 +132,7 @@ fn long_run<const BASE: u64, const MOST: usize>(s: &[u8], at: usize) -> DigitRun
     ensures next { result.next ≡ slice_index s.now result.end }
     ensures same { (t : Text) → numberOf t (numeral result.value (from s.now result.end)) ≡ numberOf t (readDigits (digitIn BASE) BASE 0 (from s.now at)) }
 {
-    let run = digit_run::<BASE, MOST>(s, skip_zeros(s, at));
+    let run = digit_run::<BASE>(s, skip_zeros(s, at), MOST);
     if is_digit(run.next, BASE) {
         return DigitRun {
             value: ABOVE_ALL,
@@ -207,7 +198,7 @@ fn number_in<const BASE: u64, const MOST: usize>(s: &[u8], start: usize, at: usi
     requires untested { Untested BASE MOST }
     ensures { result ≡ pieceOf (length s.now) (numberOf (from s.now start) (readDigits (digitIn BASE) BASE 0 (from s.now at))) }
 {
-    let run = digit_run::<BASE, MOST>(s, at);
+    let run = digit_run::<BASE>(s, at, MOST);
     if is_digit(run.next, BASE) {
         return long_number::<BASE, MOST>(s, start, at);
     }

@@ -1,6 +1,6 @@
 -- The words that the proofs of these modules share, passed on from one place: of std and the logic, of `chars` and `words`, and of this crate's
 -- specs. Declares nothing.
-pub use Rattle.std.proofs.Common.{Bool, Err, IfErr, IfOk, List, None, Ok, Option, Result, Some, [], add-mul, add-zero, ap, append-nil, append_assoc, arith, cond, drop, drop-cons, drop-drop, eq-eqb, eqb, eqb-true, false, get_or, get_or-drop, inl, inr, le-leb, le-ltb, le-mul_of_pos_right, leb, leb-false, leb-true, length, length-append, length-drop, length-take-le, lt-ltb, ltb, ltb-false, ltb-true, min, mod-eq_of_lt, mul-le-mul_right, ne_eqb, not, pow-suc, refl, reverse, rules, set, suc, sym, take, take-add, take-append-drop, take_at, true, zero, ℕ, ⊎_elim, ◌%◌, ◌&&◌, ◌*◌, ◌++◌, ◌+◌, ◌-◌, ◌/◌, ◌<◌, ◌^◌, ◌||◌, ◌∙◌, ◌∷◌, ◌≡◌, ◌≤◌, ◌⊎◌}
+pub use Rattle.std.proofs.Common.{Bool, Err, IfErr, IfOk, List, None, Ok, Option, Result, Some, [], add-mul, add-zero, ap, append-nil, append_assoc, arith, cond, drop, drop-cons, drop-drop, eq-eqb, eqb, eqb-true, false, get_or, get_or-drop, inl, inr, le-leb, le-ltb, le-mul_of_pos_right, leb, leb-false, leb-true, length, length-append, length-drop, length-take-le, lt-ltb, ltb, ltb-false, ltb-true, mod-eq_of_lt, mul-le-mul_right, ne_eqb, not, pow-suc, refl, reverse, rules, set, suc, sym, take, take-add, take-append-drop, take_at, true, zero, ℕ, ⊎_elim, ◌%◌, ◌&&◌, ◌*◌, ◌++◌, ◌+◌, ◌-◌, ◌/◌, ◌<◌, ◌^◌, ◌||◌, ◌∙◌, ◌∷◌, ◌≡◌, ◌≤◌, ◌⊎◌}
 pub use Rattle.std.proofs.lemmas.Bool.{cases_Bool, cases_eq, cases_lt, eqb-false, lt-leb, not-true}
 pub use Rattle.std.proofs.lemmas.Result.{err_from_is_err_and}
 pub use lib.ListN.{get_or-eq_default}
@@ -30,7 +30,9 @@ unfoldable pub use Rattle.token.specs.code.ByteClass.{classOf}
 pub use Rattle.token.specs.code.Cursor.{cursorAt, peekedOf, peekedTo}
 unfoldable pub use Rattle.token.specs.code.Cursor.{peekAt}
 pub use Rattle.token.specs.code.Digits.{Untested}
-unfoldable pub use Rattle.token.specs.code.Digits.{afterUpTo, digitIn, digitOf, intOr, longOr, numberBy}
+unfoldable pub use Rattle.token.specs.code.Digits.{digitOf, letterOf, intOr, longOr, numberBy}
+pub use Rattle.token.specs.paper.Digits.{IsBase, RunEnds, digitsTo, fitting}
+unfoldable pub use Rattle.token.specs.paper.Digits.{digitIn}
 pub use Rattle.token.specs.code.Form.{Known, RecordForm, Storable, Whole, headNumber, joined, mostLength, plainForm, storedOf}
 unfoldable pub use Rattle.token.specs.code.Form.{byForm, formOf, headBytes, heldAt, valuesAt}
 pub use Rattle.token.specs.code.Gap.{fourMore, fourPassed, nestAt, opensAt}

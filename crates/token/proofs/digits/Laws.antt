@@ -1,8 +1,10 @@
 -- Digit runs. One fact over the base serves numbers and escapes: a digit is an ASCII character, so that a run is walked on its bytes.
-use Rattle.token.proofs.cursor.Words.{ℕ, ◌+◌, ◌*◌, ◌-◌, ◌≤◌, ◌<◌, ◌≡◌, refl, sym, ◌∙◌, ap, Bool, true, false, ◌&&◌, ◌⊎◌, List, ◌∷◌, length, drop, get_or, eqb, ltb, le-mul_of_pos_right, one-le-pow, arith, lt-ltb, le-ltb, codes, oneOf, Text, from, headIs, afterRun, AsciiClass, text-laws, isDigit, isHexDigit, digitValue, begins, hexAhead, letterL, Found, numeral, readDigits, numberOf, scanNumber, cursorAt, pieceOf, digitIn, digitOf, afterUpTo, intOr, longOr, numberBy, refusalBy, cond}
+use Rattle.token.proofs.cursor.Words.{ℕ, ◌+◌, ◌*◌, ◌-◌, ◌≤◌, ◌<◌, ◌≡◌, refl, sym, ◌∙◌, ap, Bool, true, false, ◌&&◌, List, ◌∷◌, length, drop, get_or, eqb, le-mul_of_pos_right, one-le-pow, arith, codes, oneOf, Text, from, headIs, afterRun, AsciiClass, text-laws, isDigit, isHexDigit, digitValue, begins, hexAhead, letterL, Found, numeral, readDigits, numberOf, scanNumber, cursorAt, pieceOf, IsBase, digitIn, digitOf, letterOf, every, span, code_laws, eqb-true, leb, not, Some, None, intOr, longOr, numberBy, refusalBy}
+use Rattle.std.specs.Prelude.{bit_or, if◌then◌else◌}
 use Rattle.token.specs.declared.digits.DigitRun.{DigitRun}
 use Rattle.token.proofs.cursor.Bytes.{any-byte, ascii-list, inside, two-bytes}
 use Rattle.token.proofs.theorems.Numbers.{valueAfter, digitsOf, read-is}
+open code_laws use {carry-span}
 open text-laws use {head-byte, at-ascii, place-from}
 
 -- ---- the digits of a base
@@ -19,25 +21,46 @@ module _ (base b : ℕ) where
 pub digits-ascii : (base : ℕ) → AsciiClass (digitIn base)
 digits-ascii base = record { nul = grind (arith, no-digit); wide = λ c w. grind (arith, no-digit) }
 
--- ---- a digit's value, or 16
+-- ---- the value of a digit
 
-module _ (b : ℕ) where
-  -- of a digit of either base, which is a hex digit, it is the digit's value
-  pub digit-value : (base : ℕ) → digitIn base b ≡ true → digitOf b ≡ digitValue b
-  unfolding digitOf digitIn isHexDigit
-  digit-value base e = grind arith
+-- of a letter: computed at each byte, with 16 for what is none
+letterBy : ℕ → ℕ
+letterBy c = if leb 0x61 c && leb c 0x66 then c - 0x61 + 10 else 16
 
--- the value is below the base exactly where the byte is a digit of the base
-module _ (base b : ℕ) (h : (base ≡ 10) ⊎ (base ≡ 16)) where
-  pub digit_under : ltb (digitOf b) base ≡ digitIn base b
-  unfolding digitOf digitIn isHexDigit isDigit
-  digit_under = grind arith
+letterIs : ℕ → ℕ
+unfolding digitIn isHexDigit isDigit
+letterIs b = if not (isDigit b) && digitIn 16 b then digitValue b else 16
 
-  pub digit-taken : digitOf b < base → digitIn base b ≡ true
-  digit-taken k = sym digit_under ∙ lt-ltb (digitOf b) base k
+each-letter : every (λ b. eqb (letterBy (bit_or b 0x20)) (letterIs b)) (span 0 256) ≡ true
+unfolding letterBy letterIs
+each-letter = refl
 
-  pub digit-stops : base ≤ digitOf b → digitIn base b ≡ false
-  digit-stops k = sym digit_under ∙ le-ltb (digitOf b) base k
+module _ (b : ℕ) (h : b < 256) where
+  letter-is : letterBy (bit_or b 0x20) ≡ letterIs b
+  letter-is = eqb-true (letterBy (bit_or b 0x20)) (letterIs b) (carry-span (λ b. eqb (letterBy (bit_or b 0x20)) (letterIs b)) 0 256 b each-letter (omega arith) h)
+
+  letter-below : digitIn 16 b ≡ true → digitValue b < 16
+  unfolding digitIn isHexDigit isDigit
+  letter-below e = grind arith
+
+  pub letter-in : 0x61 ≤ bit_or b 0x20 → bit_or b 0x20 ≤ 0x66 → Some (bit_or b 0x20 - 0x61 + 10) ≡ letterOf b
+  unfolding letterBy letterIs letterOf digitOf
+  letter-in k l = let i = letter-is in let w = letter-below in grind arith
+
+  pub letter-out : (0x61 ≤ bit_or b 0x20 → 0x66 < bit_or b 0x20) → None ≡ letterOf b
+  unfolding letterBy letterIs letterOf digitOf
+  letter-out k = let i = letter-is in let w = letter-below in grind arith
+
+pub ruleset letters = (letter-in, letter-out)
+
+module _ (base b : ℕ) where
+  pub some-digit : {d : ℕ} → digitOf base b ≡ Some d → (digitIn base b ≡ true) × (d ≡ digitValue b)
+  unfolding digitOf
+  some-digit e = grind arith
+
+  pub no-value : digitOf base b ≡ None → digitIn base b ≡ false
+  unfolding digitOf
+  no-value e = grind arith
 
 -- ---- runs of a class
 
@@ -56,29 +79,13 @@ module _ (p : ℕ → Bool) (a : AsciiClass p) where
     unfolding readDigits
     read-stop base v e = let h = head-byte p a s i in grind arith
 
--- at most so many digits of a base, by the byte where they begin
-pub digit-or : (base : ℕ) (s : List ℕ) (i : ℕ) → (digitIn base (get_or s i 0) ≡ false) ⊎ (i < length s)
-digit-or base s i = let c = class-at (digitIn base) (digits-ascii base) s i in grind arith
-
--- and n of them counted
-pub digit-up : (base m n : ℕ) (s : List ℕ) (i : ℕ)
-    → afterUpTo (digitIn base) (m - n) (from s i) ≡ cond (ltb n m && digitIn base (get_or s i 0)) (afterUpTo (digitIn base) (m - (n + 1)) (from s (i + 1))) (from s i)
-unfolding afterUpTo
-digit-up base m n s i =
-    let h = head-byte (digitIn base) (digits-ascii base) s i in
-    let c = class-at (digitIn base) (digits-ascii base) s i in
-    let z : m - n - 1 ≡ m - (n + 1) = omega arith in
-    grind arith
-
-pub ruleset digits_up = (digit-or, digit-up)
-
 -- ---- values in any base and below any limit
 
 -- more digits make no smaller number
 no-less : (base v : ℕ) (ds : List ℕ) → 1 ≤ base → v ≤ valueAfter base v ds
 no-less base v ds h = let m = le-mul_of_pos_right v (one-le-pow (length ds) base h) in omega (arith, m)
 
-pub base-some : (base : ℕ) → (base ≡ 10) ⊎ (base ≡ 16) → 1 ≤ base
+pub base-some : (base : ℕ) → IsBase base → 1 ≤ base
 base-some base h = omega arith
 
 -- a number whose value is above every most is refused, whatever follows its digits

@@ -1,8 +1,9 @@
 -- Escapes as the code reads them: digits are ASCII, so a run of them has as many bytes as characters.
-use Rattle.token.proofs.cursor.Words.{ℕ, zero, suc, ◌+◌, ◌-◌, ◌≤◌, ◌<◌, ◌≡◌, refl, sym, ◌∙◌, ap, true, false, cond, ◌⊎◌, inl, inr, List, [], ◌∷◌, length, drop, get_or, drop-drop, arith, codes, oneOf, Char, Text, from, place, AsciiClass, code_laws, text-laws, isDigit, isHexDigit, isAny, digit, unbroken, broken, exactHexes, digitsUpTo, afterSlash, cursorAt, escEnd, escapeOf, hexesOf, endAt, digitIn, afterUpTo, refusedFor, refusalBy, cases_Bool}
+use Rattle.token.proofs.cursor.Words.{ℕ, zero, suc, ◌+◌, ◌-◌, ◌≤◌, ◌<◌, ◌≡◌, refl, sym, ◌∙◌, ap, true, false, ◌⊎◌, inl, inr, List, [], ◌∷◌, length, drop, get_or, drop-drop, arith, codes, oneOf, Char, Text, from, place, AsciiClass, code_laws, text-laws, isDigit, isHexDigit, isAny, digit, unbroken, broken, exactHexes, digitsUpTo, afterSlash, cursorAt, escEnd, escapeOf, hexesOf, endAt, digitIn, RunEnds, refusedFor, refusalBy, cases_Bool}
 use types.Run.{OneOf}
 use Rattle.token.proofs.cursor.Bytes.{any-byte, past}
 use Rattle.token.proofs.digits.Laws.{class-at}
+use Rattle.token.proofs.digits.Runs.{run-none, run-off, run-on}
 use Rattle.token.proofs.theorems.Escapes.{digit-no-simple, u-other}
 use Rattle.token.specs.declared.refusal.Refusal.TheVariants as refusal
 open code_laws use {misses}
@@ -18,6 +19,14 @@ pub hex-ascii : AsciiClass isHexDigit
 unfolding isHexDigit isDigit
 hex-ascii = record { nul = refl; wide = λ c h. grind arith }
 
+hex-digit : (b : ℕ) → digitIn 16 b ≡ isHexDigit b
+unfolding digitIn
+hex-digit b = refl
+
+dec-digit : (b : ℕ) → digitIn 10 b ≡ isDigit b
+unfolding digitIn
+dec-digit b = refl
+
 -- one place has one text
 pub same-place : (s : List ℕ) (i e : ℕ) → i ≤ length s → e ≤ length s → from s e ≡ from s i → e ≡ i
 same-place s i e h k q = sym (place-from s e k) ∙ ap (place (length s)) q ∙ place-from s i h
@@ -28,42 +37,48 @@ abbrev Hexes : List ℕ → ℕ → ℕ → ℕ → ℕ → Type 0
 Hexes s e m k i =
     ((e < i + m) × (exactHexes m k (from s i) ≡ broken 13 (from s e))) ⊎ ((e ≡ i + m) × (exactHexes m k (from s i) ≡ unbroken (k + m)) × (drop m (from s i) ≡ from s e))
 
-module _ (s : List ℕ) (e : ℕ) (within : e ≤ length s) where
-  hexes-read : (m k i : ℕ) → i ≤ length s → from s e ≡ afterUpTo isHexDigit m (from s i) → Hexes s e m k i
-  unfolding afterUpTo exactHexes
-  hexes-read zero k i h q = inr (let z = same-place s i e h within q in (omega arith, ap unbroken (omega arith), sym q))
-  hexes-read (suc m) k i h q = elim (cases_Bool (isHexDigit (get_or s i 0))) [
-    | inl x ↦
-        let n = class-at isHexDigit hex-ascii s i x in
-        let below = hexes-read m (suc k) (i + 1) (omega (arith, n.0)) in
-        grind arith
-    | inr x ↦
-        let f = head-byte isHexDigit hex-ascii s i ∙ x in
-        let same = same-place s i e h within in
-        grind arith
-  ]
+hexes-read : (s : List ℕ) (e m k i : ℕ) → RunEnds 16 m s i e → Hexes s e m k i
+unfolding exactHexes
+hexes-read s e zero k i r = inr (let z = run-none r in (omega (arith, z), ap unbroken (omega arith), ap (from s) (sym z)))
+hexes-read s e (suc m) k i r = elim (cases_Bool (isHexDigit (get_or s i 0))) [
+  | inl x ↦
+      let n = class-at isHexDigit hex-ascii s i x in
+      let below = hexes-read s e m (suc k) (i + 1) (run-on r (hex-digit (get_or s i 0) ∙ x)) in
+      grind arith
+  | inr x ↦
+      let f = head-byte isHexDigit hex-ascii s i ∙ x in
+      let same = run-off r (hex-digit (get_or s i 0) ∙ x) in
+      grind arith
+]
 
-  module _ (i : ℕ) (inside : i ≤ length s) (read : from s e ≡ afterUpTo (digitIn 16) 4 (from s i)) where
-    pub hexes-short : e - i < 4 → refusedFor refusal.NoHexDigit e ≡ hexesOf (length s) (from s i)
-    unfolding hexesOf digitIn refusalBy
-    hexes-short l = let r = hexes-read 4 0 i inside read in grind (arith, place-from)
+module _ (s : List ℕ) (e i : ℕ) (inside : i ≤ length s) (r : RunEnds 16 4 s i e) where
+  pub hexes-short : e - i < 4 → refusedFor refusal.NoHexDigit e ≡ hexesOf (length s) (from s i)
+  unfolding hexesOf refusalBy
+  hexes-short l = let h = hexes-read s e 4 0 i r in let w = r.within in let o = r.on in grind (arith, place-from)
 
-    pub hexes-full : 4 ≤ e - i → endAt (cursorAt e) ≡ hexesOf (length s) (from s i)
-    unfolding hexesOf digitIn
-    hexes-full l = let r = hexes-read 4 0 i inside read in grind (arith, place-from)
+  pub hexes-full : 4 ≤ e - i → endAt (cursorAt e) ≡ hexesOf (length s) (from s i)
+  unfolding hexesOf
+  hexes-full l = let h = hexes-read s e 4 0 i r in let w = r.within in let o = r.on in grind (arith, place-from)
 
 pub ruleset four_hexes = (hexes-short, hexes-full)
 
 -- ---- what follows a backslash
 
-upto-digits : (m k : ℕ) (x t : Text) → drop k x ≡ t → drop (digitsUpTo m k t) x ≡ afterUpTo isDigit m t
-unfolding digitsUpTo afterUpTo
-upto-digits zero k x t e = e
-upto-digits (suc m) k x [] e = e
-upto-digits (suc m) k x (c ∷ t) e =
-    let z : suc k ≡ k + 1 = omega arith in
-    let below = upto-digits m (suc k) x t (ap (λ j. drop j x) z ∙ sym (drop-drop 1 k x) ∙ ap (drop 1) e) in
-    grind arith
+upto-digits : (s : List ℕ) (e m k i : ℕ) (x : Text) → drop k x ≡ from s i → RunEnds 10 m s i e → drop (digitsUpTo m k (from s i)) x ≡ from s e
+unfolding digitsUpTo
+upto-digits s e zero k i x q r = q ∙ ap (from s) (sym (run-none r))
+upto-digits s e (suc m) k i x q r = elim (cases_Bool (isDigit (get_or s i 0))) [
+  | inl d ↦
+      let n = class-at isDigit digit-ascii s i d in
+      let z : suc k ≡ k + 1 = omega arith in
+      let one : drop 1 (drop k x) ≡ from s (i + 1) = ap (drop 1) (q ∙ n.1) in
+      let below = upto-digits s e m (suc k) (i + 1) x (ap (λ j. drop j x) z ∙ sym (drop-drop 1 k x) ∙ one) (run-on r (dec-digit (get_or s i 0) ∙ d)) in
+      rw (n.1, d) below
+  | inr d ↦
+      let f = head-byte isDigit digit-ascii s i ∙ d in
+      let same = run-off r (dec-digit (get_or s i 0) ∙ d) in
+      grind arith
+]
 
 hexes-shift : (n m k : ℕ) (c : Char) (x t : Text) → escEnd n (c ∷ x) (exactHexes m (suc k) t) ≡ escEnd n x (exactHexes m k t)
 unfolding exactHexes
@@ -97,9 +112,15 @@ module _ (s : List ℕ) (i : ℕ) where
     unfolding escapeOf
     escape-simple e = rw (slash-simple (from s i) (any-byte "btnfr'\"]" refl s i ∙ e), past s i h (grind arith), place-from s (i + 1) (omega arith))
 
-    escape-digits : isDigit (get_or s i 0) ≡ true → escapeOf (length s) (from s i) ≡ endAt (cursorAt (place (length s) (afterUpTo (digitIn 10) 2 (from s (i + 1)))))
-    unfolding escapeOf digitIn isDigit
-    escape-digits d = rw (slash-digits (from s i) (head-byte isDigit digit-ascii s i ∙ d), upto-digits 2 1 (from s i) (drop 1 (from s i)) refl, past s i h (grind arith))
+    pub escape-digits : (e : ℕ) → isDigit (get_or s i 0) ≡ true → RunEnds 10 2 s (i + 1) e → endAt (cursorAt e) ≡ escapeOf (length s) (from s i)
+    unfolding escapeOf isDigit
+    escape-digits e d r =
+        sym (rw (
+          slash-digits (from s i) (head-byte isDigit digit-ascii s i ∙ d),
+          past s i h (grind arith),
+          upto-digits s e 2 1 (i + 1) (from s i) (past s i h (grind arith)) r,
+          place-from s e r.within,
+        ))
 
     escape-hexes : oneOf "u" (get_or s i 0) ≡ true → escapeOf (length s) (from s i) ≡ hexesOf (length s) (from s (i + 1))
     escape-hexes e = rw (slash-hexes (length s) (from s i) (any-byte "u" refl s i ∙ e), past s i h (grind arith))
@@ -108,15 +129,16 @@ module _ (s : List ℕ) (i : ℕ) where
     unfolding escapeOf refusalBy
     escape-other x y z = grind (arith, at-char, slash-other, any-byte "btnfr'\"]" refl s i, head-byte isDigit digit-ascii s i, any-byte "u" refl s i)
 
-    -- by the first byte of its code
-    pub escape_by : escapeOf (length s) (from s i) ≡ cond (oneOf "u" (get_or s i 0)) (hexesOf (length s) (from s (i + 1))) (cond (oneOf "btnfr'\"]" (get_or s i 0))
-        (endAt (cursorAt (i + 1)))
-        (cond (isDigit (get_or s i 0)) (endAt (cursorAt (place (length s) (afterUpTo (digitIn 10) 2 (from s (i + 1)))))) (refusedFor refusal.NoEscape i)))
-    escape_by = grind (arith, escape-hexes, escape-simple, escape-digits, escape-other)
+    -- by the first byte of its code, but for a digit
+    pub escape_u : get_or s i 0 ≡ 0x75 → hexesOf (length s) (from s (i + 1)) ≡ escapeOf (length s) (from s i)
+    escape_u e = sym (escape-hexes (ap (oneOf "u") e))
+
+    pub escape_one : OneOf (codes "\"']bfnrt") (get_or s i 0) → endAt (cursorAt (i + 1)) ≡ escapeOf (length s) (from s i)
+    escape_one o = sym (escape-simple (grind arith))
 
     -- where the byte is no code of an escape
     pub escape_none : (OneOf (codes "\"']bfnrt") (get_or s i 0) → ⊥) → (get_or s i 0 ≡ 0x75 → ⊥) → (0x30 ≤ get_or s i 0 → 0x39 < get_or s i 0) → refusedFor refusal.NoEscape i ≡ escapeOf (length s) (from s i)
     unfolding isDigit
     escape_none n u l = let m = misses (codes "\"']bfnrt") (get_or s i 0) n in sym (escape-other (grind arith) (grind arith) (grind arith))
 
-pub ruleset escapes = (escape-end, escape_by, escape_none)
+pub ruleset escapes = (escape-end, escape_u, escape_one, escape_none)

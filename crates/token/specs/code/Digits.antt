@@ -1,8 +1,8 @@
 -- What `digits` answers.
-use Rattle.std.specs.Prelude.{ℕ, zero, suc, ◌≡◌, ◌⊎◌, ◌+◌, Bool, if◌then◌else◌, [], ◌∷◌, ◌==◌, nat_le}
+use Rattle.std.specs.Prelude.{ℕ, ◌≡◌, ◌+◌, if◌then◌else◌, nat_le, Option, Some, None}
 use Rattle.chars.specs.paper.Quoted.{oneOf}
-use Rattle.chars.specs.paper.Text.{Text}
-use Rattle.token.specs.paper.Tests.{isDigit, isHexDigit, digitValue}
+use Rattle.token.specs.paper.Digits.{IsBase, digitIn, fitting}
+use Rattle.token.specs.paper.Tests.{isDigit, digitValue}
 use Rattle.token.specs.declared.kinds.TokenKind.TheVariants as tk
 use Rattle.token.specs.declared.cursor.Cursor.{Cursor}
 use Rattle.token.specs.declared.digits.DigitRun.{DigitRun}
@@ -11,25 +11,17 @@ use Rattle.token.specs.code.Cursor.{cursorAt}
 use Rattle.token.specs.code.Piece.{PieceAnswer, tokenTo}
 use Rattle.token.specs.code.Refusal.{refusedFor}
 
--- a digit of base 16, else of base 10
-unfoldable pub digitIn : ℕ → ℕ → Bool
-digitIn base c = if base == 16 then isHexDigit c else isDigit c
+-- a digit's value; none of any other byte
+unfoldable pub digitOf : ℕ → ℕ → Option ℕ
+digitOf base c = if digitIn base c then Some (digitValue c) else None
 
--- a hex digit's value, 16 for what is none
-unfoldable pub digitOf : ℕ → ℕ
-digitOf c = if digitIn 16 c then digitValue c else 16
-
--- what follows the characters of the class that stand there, at most so many
-unfoldable pub afterUpTo : (ℕ → Bool) → ℕ → Text → Text
-afterUpTo p zero s = s
-afterUpTo p (suc m) [] = []
-afterUpTo p (suc m) (c ∷ s) =
-    let rest = afterUpTo p m s in
-    if p c.code then rest else c ∷ s
+-- a letter's value as a hex digit
+unfoldable pub letterOf : ℕ → Option ℕ
+letterOf c = if isDigit c then None else digitOf 16 c
 
 -- so many digits of a base fit 64 bits, so that their value needs no test; with one more, no zero first, it is above every most
 abbrev pub Untested : ℕ → ℕ → Type 0
-Untested base most = ((base ≡ 10) × (most ≡ 19)) ⊎ ((base ≡ 16) × (most ≡ 16))
+Untested base most = IsBase base × (most ≡ fitting base)
 
 -- an IntLit that ends at a cursor, at most 2147483647, else refusal 6 at the number's start
 unfoldable pub intOr : ℕ → ℕ → Cursor → PieceAnswer

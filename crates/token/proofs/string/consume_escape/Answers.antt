@@ -1,8 +1,7 @@
-use Rattle.token.proofs.cursor.Words.{arith, text-laws, isDigit}
-use Rattle.token.proofs.string.Escapes.{escape_by}
+use Rattle.token.proofs.cursor.Words.{arith, isDigit}
+use Rattle.token.proofs.string.Escapes.{escape-digits}
 use Rattle.token.proofs.string.consume_escape.Goals as goal
-open text-laws use {place-from}
 
 pub returns-in-48-to-57 : goal.returns-in-48-to-57
 unfolding isDigit
-returns-in-48-to-57 c = grind (arith, escape_by, place-from)
+returns-in-48-to-57 c = escape-digits c.args.s.now c.args.c.at (grind arith) _ (grind arith) c.digit_run.ensures.run
