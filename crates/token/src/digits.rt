@@ -46,7 +46,7 @@ fn digit_of<const BASE: u64>(b: u8) -> Option<u64>
     }
 }
 
-// Is the byte a digit of this base: 16, else 10? Through `digit_of` hex numbers would take 8 per cent more instructions.
+// Is the byte a digit of this base: 16, else 10? Through `digit_of` hex numbers would take up to 14 per cent more instructions.
 #[tactic(auto, unfolding(crate::specs::paper::Digits::digitIn, crate::specs::paper::Tests::isDigit, crate::specs::paper::Tests::isHexDigit))]
 fn is_digit(b: u8, base: u64) -> bool
     ensures { result ≡ digitIn base b }

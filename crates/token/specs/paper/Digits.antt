@@ -1,4 +1,4 @@
--- A run of digits, as numbers and escapes have them. RULES, "Digits".
+-- Runs of digits, as numbers and escapes have them. RULES, "Digits".
 use Rattle.std.specs.Prelude.{ℕ, ◌≡◌, ◌⊎◌, ◌+◌, ◌-◌, ◌≤◌, ◌<◌, Bool, IsTrue, IsFalse, if◌then◌else◌, List, length, take, drop, slice_index, ◌==◌}
 use Rattle.token.specs.paper.Tests.{isDigit, isHexDigit}
 
