@@ -10,6 +10,10 @@ pub enum Refusal {
     TooLong,
     /// It is not UTF-8.
     NotUtf8,
+    /// It has more bytes than the limit in force, which is below 16,777,216.
+    OverLimit,
+    /// It has more tokens than the limit in force.
+    TooManyTokens,
     /// A piece of it is refused: 1 to 16.
     Piece(token::refusal::Refusal),
 }
@@ -22,6 +26,8 @@ impl Refusal {
         match self {
             Refusal::TooLong => 17,
             Refusal::NotUtf8 => 18,
+            Refusal::OverLimit => 27,
+            Refusal::TooManyTokens => 28,
             Refusal::Piece(refusal) => refusal.number(),
         }
     }

@@ -22,6 +22,16 @@ pub extern "C" fn ergo_tokenize(script: &[u8], records: &mut [u8], answer: &mut 
 }
 
 #[unsafe(no_mangle)]
+pub extern "C" fn ergo_tokenize_contact(
+    script: &[u8],
+    records: &mut [u8],
+    answer: &mut [u8],
+) -> u32
+{
+    entry::host::tokenize_contact(script, records, answer)
+}
+
+#[unsafe(no_mangle)]
 pub extern "C" fn ergo_token_text(script: &[u8], start: u32, end: u32) -> u32
     ensures { result ≡ textNumber script.now start end }
 {

@@ -10,7 +10,7 @@ ghost use Rattle.lines.specs.Theorems.{LineTheorems};
 use crate::count::count_in;
 use crate::find::{find_column, find_line};
 use crate::index::{LF, put_starts};
-use entry::check::check_text;
+use entry::check::{MOST_BYTES, check_text};
 use entry::refusal::Refused;
 use entry::text::has_text;
 use words::write::{put_block, put_refused};
@@ -28,7 +28,7 @@ fn check_script(script: &[u8]) -> Result<usize, Refused>
     ensures value { result ≡ checkedOf script.now }
     ensures in_limit { OnOk result (length script.now ≤ mostBytes) }
 {
-    check_text(script)?;
+    check_text(script, MOST_BYTES)?;
     Ok(count_lines(script))
 }
 
@@ -52,7 +52,7 @@ pub fn index_lines(script: &[u8], index: &mut [u32], answer: &mut [u8]) -> u32
     if answer.len() != 16 {
         return 20;
     }
-    match check_text(script) {
+    match check_text(script, MOST_BYTES) {
         Err(refused) => put_refused(answer, refused.what.number(), refused.place),
         Ok(()) if is_short(index.len(), script) => {
             put_block(answer, 26, 0, count_lines(script), 0);

@@ -1,37 +1,43 @@
 -- The order of the refusals, computed: which verdict is met.
 use Prim.Native.Nat.{ℕ, ◌≤◌, ◌<◌}
 use mathlib.Core.Path.{◌≡◌}
+use mathlib.Core.Bool.{false, true}
 use mathlib.Core.List.{List}
-use lib.ListN.{length}
-use borrow.Author.Tests.{lt-ltb, le-ltb, le-leb, lt-leb}
-use Rattle.chars.specs.computed.Valid.{validPrefix}
+use borrow.Author.Tests.{le-leb, lt-leb}
+use Rattle.std.specs.Prelude.{Option, Ok, Err}
 use Rattle.token.specs.paper.Kinds.{Token}
-use Rattle.token.specs.paper.Records.{recordBytes, mostBytes}
+use Rattle.token.specs.paper.Records.{tokenCount, recordBytes}
 use Rattle.token.specs.computed.Answer.{Answer, tokenized, refused, answer}
-use Rattle.entry.specs.computed.Host.{granted, rejected, lacking, byRoom, verdict}
+use Rattle.entry.specs.declared.limits.Limits.{Limits}
+use Rattle.entry.specs.declared.refusal.Refused.{Refused}
+use Rattle.entry.specs.paper.Refusals.{refusalNumber}
+use Rattle.entry.specs.computed.Check.{checkOf}
+use Rattle.entry.specs.computed.Host.{granted, rejected, lacking, tooMany, byRoom, verdict}
 
-module _ (room : ℕ) (w : Answer) where
-  pub room-granted : (ts : List Token) → w ≡ tokenized ts → recordBytes ts ≤ room → byRoom room w ≡ granted ts
-  unfolding byRoom
-  room-granted ts e l = rw e (rw (le-leb (recordBytes ts) room l))
+module _ (most : Option ℕ) (room : ℕ) (w : Answer) where
+  module _ (ts : List Token) (e : w ≡ tokenized ts) where
+    pub room-many : tooMany most (tokenCount ts) ≡ true → byRoom most room w ≡ rejected 28 0
+    unfolding byRoom
+    room-many m = rw (e, m)
 
-  pub room-lacking : (ts : List Token) → w ≡ tokenized ts → room < recordBytes ts → byRoom room w ≡ lacking ts
-  unfolding byRoom
-  room-lacking ts e l = rw e (rw (lt-leb (recordBytes ts) room l))
+    module _ (few : tooMany most (tokenCount ts) ≡ false) where
+      pub room-granted : recordBytes ts ≤ room → byRoom most room w ≡ granted ts
+      unfolding byRoom
+      room-granted l = rw (e, few, le-leb (recordBytes ts) room l)
 
-  pub room-rejected : (j a : ℕ) → w ≡ refused j a → byRoom room w ≡ rejected j a
+      pub room-lacking : room < recordBytes ts → byRoom most room w ≡ lacking ts
+      unfolding byRoom
+      room-lacking l = rw (e, few, lt-leb (recordBytes ts) room l)
+
+  pub room-rejected : (j a : ℕ) → w ≡ refused j a → byRoom most room w ≡ rejected j a
   unfolding byRoom
   room-rejected j a e = rw e
 
-module _ (script : List ℕ) (room : ℕ) where
-  pub verdict-17 : mostBytes < length script → verdict script room ≡ rejected 17 0
+module _ (limits : Limits) (script : List ℕ) (room : ℕ) where
+  pub verdict-checked : (e : Refused) → checkOf limits.bytes script ≡ Err e → verdict limits script room ≡ rejected (refusalNumber e.what) e.place
   unfolding verdict
-  verdict-17 l = rw (lt-ltb mostBytes (length script) l)
+  verdict-checked e q = rw q
 
-  pub verdict-18 : length script ≤ mostBytes → validPrefix script < length script → verdict script room ≡ rejected 18 (validPrefix script)
+  pub verdict-rest : checkOf limits.bytes script ≡ Ok tt → verdict limits script room ≡ byRoom limits.tokens room (answer script)
   unfolding verdict
-  verdict-18 l m = rw (le-ltb mostBytes (length script) l, lt-ltb (validPrefix script) (length script) m)
-
-  pub verdict-rest : length script ≤ mostBytes → length script ≤ validPrefix script → verdict script room ≡ byRoom room (answer script)
-  unfolding verdict
-  verdict-rest l m = rw (le-ltb mostBytes (length script) l, le-ltb (validPrefix script) (length script) m)
+  verdict-rest q = rw q

@@ -1,15 +1,19 @@
 -- The examples of RULES hold: each is computed.
 use mathlib.Core.Path.{refl}
+use Rattle.entry.specs.computed.Check.{checkOf}
 use Rattle.entry.specs.computed.Host.{verdict}
 use Rattle.entry.specs.paper.TokenText.{hasText, tokenText}
 use Rattle.entry.specs.computed.Listing.{entered, hosted}
 use Rattle.entry.specs.computed.Examples.{Examples}
 
 pub examples : Examples
-unfolding entered hosted verdict tokenText hasText
+unfolding entered hosted verdict checkOf tokenText hasText
 examples = record {
   scripts-hold = refl;
   too-long = λ s room long. rw long;
+  contact-bytes = refl;
+  contact-tokens = refl;
+  contact-met = refl;
   not-utf8 = refl;
   refused-seen = refl;
   lent-25 = refl;

@@ -1,11 +1,13 @@
 -- The examples of RULES: by the listing of a script, by what the host sees, and of token text. `HostTheorems` asks for them.
 use Rattle.std.specs.Prelude.{ℕ, ◌≡◌, IsTrue, List, [], ◌∷◌, ◌++◌, map, length, replicate, nat_lt}
+use Rattle.std.specs.List.{repeat}
 use Rattle.words.specs.Words.{blockOf}
 use Rattle.chars.specs.paper.Quoted.{codes}
 use Rattle.chars.specs.computed.Encoded.{script}
 use Rattle.token.specs.paper.Records.{mostBytes, mostNeed}
 use Rattle.token.specs.computed.Listing.{holdBy}
 use Rattle.token.specs.computed.Examples.{marked, listingExample, refusalExamples, tieExamples, traps}
+use Rattle.entry.specs.paper.Limits.{compiler, contact, contactNeed}
 use Rattle.entry.specs.paper.Host.{seen}
 use Rattle.entry.specs.computed.Host.{rejected, verdict}
 use Rattle.entry.specs.paper.TokenText.{tokenText, textNumber}
@@ -19,24 +21,32 @@ pub record Examples : Type 0 where
   -- the twelve marked scripts, the listing's example, refusals 1 to 16, ties and traps: by the listing of a script
   pub scripts-hold : IsTrue (holdBy entered (marked ++ listingExample ++ refusalExamples ++ tieExamples ++ traps))
   -- 17, for every script that is so long
-  pub too-long : (s : List ℕ) (room : ℕ) → IsTrue (nat_lt mostBytes (length s)) → verdict s room ≡ rejected 17 0
+  pub too-long : (s : List ℕ) (room : ℕ) → IsTrue (nat_lt mostBytes (length s)) → verdict compiler s room ≡ rejected 17 0
   -- 18: the place is the length of the longest valid prefix
   pub not-utf8 : map entered illFormed
       ≡ map codes ("refused 18 at 1\n" ∷ "refused 18 at 0\n" ∷ "refused 18 at 1\n" ∷ "refused 18 at 1\n" ∷ [])
   -- the same by what the host sees, and `'(x`, refused by 16 at 1; each with nothing lent for records
-  pub refused-seen : map (λ s. hosted s [] (replicate 16 9)) (script "'(x" ∷ illFormed)
+  pub refused-seen : map (λ s. hosted compiler s [] (replicate 16 9)) (script "'(x" ∷ illFormed)
       ≡ seen 16 [] (blockOf 16 1 0 0) ∷ map (λ a. seen 18 [] (blockOf 18 a 0 0)) (1 ∷ 0 ∷ 1 ∷ 1 ∷ [])
   -- 19: `a`, 25 bytes lent; 20: a block of 15 bytes; and `a` accepted into 27 bytes, of which the last keeps its value
-  pub lent-25 : hosted (script "a") (replicate 25 7) (replicate 16 9)
+  pub lent-25 : hosted compiler (script "a") (replicate 25 7) (replicate 16 9)
       ≡ seen 19 (replicate 25 7) (19 ∷ 0 ∷ 0 ∷ 0 ∷ 0 ∷ 0 ∷ 0 ∷ 0 ∷ 2 ∷ 0 ∷ 0 ∷ 0 ∷ 26 ∷ 0 ∷ 0 ∷ 0 ∷ [])
-  pub block-15 : hosted (script "a") (replicate 26 7) (replicate 15 9) ≡ seen 20 (replicate 26 7) (replicate 15 9)
-  pub lent-27 : hosted (script "a") (replicate 27 7) (replicate 16 9)
+  pub block-15 : hosted compiler (script "a") (replicate 26 7) (replicate 15 9) ≡ seen 20 (replicate 26 7) (replicate 15 9)
+  pub lent-27 : hosted compiler (script "a") (replicate 27 7) (replicate 16 9)
       ≡ seen 0
       (13 ∷ 0 ∷ 1 ∷ 0 ∷ 0 ∷ 0 ∷ 0 ∷ 0 ∷ 1 ∷ 0 ∷ 0 ∷ 0 ∷ 0 ∷ 13 ∷ 0 ∷ 18 ∷ 0 ∷ 1 ∷ 0 ∷ 0 ∷ 0 ∷ 1 ∷ 0 ∷ 0 ∷ 0 ∷ 0 ∷ 7 ∷ [])
       (0 ∷ 0 ∷ 0 ∷ 0 ∷ 0 ∷ 0 ∷ 0 ∷ 0 ∷ 2 ∷ 0 ∷ 0 ∷ 0 ∷ 26 ∷ 0 ∷ 0 ∷ 0 ∷ [])
   -- The bound on the record bytes is met: with nothing lent the empty script is told all 13 of it, and `1` all 30.
-  pub bound-met : map (λ s. hosted s [] (replicate 16 9)) (script "" ∷ script "1" ∷ [])
+  pub bound-met : map (λ s. hosted compiler s [] (replicate 16 9)) (script "" ∷ script "1" ∷ [])
       ≡ seen 19 [] (blockOf 19 0 1 (mostNeed 0)) ∷ seen 19 [] (blockOf 19 0 2 (mostNeed 1)) ∷ []
+  -- 27: a contact of 4,097 bytes, also where they are no UTF-8; of 4,096, which no token starts with, it is not met
+  pub contact-bytes : map (λ s. hosted contact s [] (replicate 16 9)) (replicate 4097 0x20 ∷ replicate 4097 0xFF ∷ replicate 4096 0xFF ∷ [])
+      ≡ seen 27 [] (blockOf 27 0 0 0) ∷ seen 27 [] (blockOf 27 0 0 0) ∷ seen 18 [] (blockOf 18 0 0 0) ∷ []
+  -- 28: a contact of 512 commas has 513 tokens, and of 511 it has 512; an open string goes before it
+  pub contact-tokens : map (λ s. hosted contact s [] (replicate 16 9)) (replicate 512 0x2C ∷ replicate 511 0x2C ∷ (replicate 600 0x2C ++ script "\"") ∷ [])
+      ≡ seen 28 [] (blockOf 28 0 0 0) ∷ seen 19 [] (blockOf 19 0 512 6656) ∷ seen 7 [] (blockOf 7 601 0 0) ∷ []
+  -- The bound on a contact's record bytes is met: 511 times `0L` are told all 10,744 of it.
+  pub contact-met : hosted contact (repeat 511 (script "0L")) [] (replicate 16 9) ≡ seen 19 [] (blockOf 19 0 512 contactNeed)
   -- 21: `ab`, 1 to 3
   pub text-21 : textNumber (script "ab") 1 3 ≡ 21
   pub text-ok : tokenText (script "ab") 1 2 ≡ script "b"

@@ -1,11 +1,15 @@
 -- What the host sees, computed: the verdict in the order of the refusals, and what follows from it.
-use Rattle.std.specs.Prelude.{ℕ, if◌then◌else◌, List, ◌++◌, length, drop, ◌==◌, nat_le, nat_lt}
-use Rattle.chars.specs.computed.Valid.{validPrefix}
+use Rattle.std.specs.Prelude.{ℕ, Bool, false, if◌then◌else◌, List, ◌++◌, length, drop, ◌==◌, nat_le, nat_lt, Option, Some, None, Result, Ok, Err}
 use Rattle.token.specs.paper.Kinds.{Token}
 use Rattle.token.specs.computed.Answer.{Answer, answer}
-use Rattle.token.specs.paper.Records.{mostBytes, records, tokenCount, recordBytes}
+use Rattle.token.specs.paper.Records.{records, tokenCount, recordBytes}
 use Rattle.words.specs.Words.{blockOf}
+use Rattle.entry.specs.declared.limits.Limits.{Limits}
+use Rattle.entry.specs.declared.refusal.Refused.{Refused}
+use Rattle.entry.specs.paper.Limits.{compiler}
+use Rattle.entry.specs.paper.Refusals.{refusalNumber}
 use Rattle.entry.specs.paper.Host.{seen, Seen}
+use Rattle.entry.specs.computed.Check.{checkOf}
 
 -- the answer with `room` bytes lent: accepted, a refusal's number and place, or 19 with both counts
 pub data Verdict : Type 0 where
@@ -13,17 +17,25 @@ pub data Verdict : Type 0 where
   rejected : ℕ → ℕ → Verdict
   lacking : List Token → Verdict
 
--- 19: records need more than lent
-unfoldable pub byRoom : ℕ → Answer → Verdict
-byRoom room (Answer.tokenized ts) = if nat_le (recordBytes ts) room then granted ts else lacking ts
-byRoom room (Answer.refused j a) = rejected j a
+-- more tokens than the limit, where they have one
+abbrev pub tooMany : Option ℕ → ℕ → Bool
+tooMany None n = false
+tooMany (Some most) n = nat_lt most n
 
-unfoldable pub verdict : List ℕ → ℕ → Verdict
-verdict script room =
-    let valid = validPrefix script in
-    let judged = byRoom room (answer script) in
-    let checked = if nat_lt valid (length script) then rejected 18 valid else judged in
-    if nat_lt mostBytes (length script) then rejected 17 0 else checked
+-- 28, then 19: records need more than lent
+unfoldable pub byRoom : Option ℕ → ℕ → Answer → Verdict
+byRoom most room (Answer.tokenized ts) =
+    let lent = if nat_le (recordBytes ts) room then granted ts else lacking ts in
+    if tooMany most (tokenCount ts) then rejected 28 0 else lent
+byRoom most room (Answer.refused j a) = rejected j a
+
+-- 17, 27 and 18 go before
+abbrev pub checkedBy : Result (Unit {0}) Refused → Verdict → Verdict
+checkedBy (Ok x) v = v
+checkedBy (Err e) v = rejected (refusalNumber e.what) e.place
+
+unfoldable pub verdict : Limits → List ℕ → ℕ → Verdict
+verdict limits script room = checkedBy (checkOf limits.bytes script) (byRoom limits.tokens room (answer script))
 
 -- the number, the buffer and the block that follow from it
 unfoldable pub seenOf : Verdict → List ℕ → Seen
@@ -31,7 +43,11 @@ seenOf (granted ts) buffer = seen 0 (records ts ++ drop (recordBytes ts) buffer)
 seenOf (rejected j a) buffer = seen j buffer (blockOf j a 0 0)
 seenOf (lacking ts) buffer = seen 19 buffer (blockOf 19 0 (tokenCount ts) (recordBytes ts))
 
-unfoldable pub hostOf : List ℕ → List ℕ → List ℕ → Seen
-hostOf script buffer block =
-    let judged = seenOf (verdict script (length buffer)) buffer in
+-- under limits, and under the compiler's
+unfoldable pub hostFor : Limits → List ℕ → List ℕ → List ℕ → Seen
+hostFor limits script buffer block =
+    let judged = seenOf (verdict limits script (length buffer)) buffer in
     if length block == 16 then judged else seen 20 buffer block
+
+abbrev pub hostOf : List ℕ → List ℕ → List ℕ → Seen
+hostOf = hostFor compiler

@@ -4,8 +4,11 @@ use Rattle.words.specs.Words.{le2, le4, le8, blockOf}
 use Rattle.chars.specs.computed.Valid.{validFrom}
 use Rattle.token.specs.paper.Records.{values, recordLength, fieldsOf, headOf, recordOf, records, recordBytes, mostNeed}
 use Rattle.token.specs.computed.Listing.{shown, refusedAt, listed}
+use Rattle.entry.specs.declared.limits.Limits.{Limits}
+use Rattle.entry.specs.paper.Limits.{compiler}
 use Rattle.entry.specs.paper.Host.{Seen}
-use Rattle.entry.specs.computed.Host.{Verdict, granted, rejected, lacking, byRoom, verdict, seenOf, hostOf}
+use Rattle.entry.specs.computed.Check.{checkOf}
+use Rattle.entry.specs.computed.Host.{Verdict, granted, rejected, lacking, byRoom, verdict, seenOf, hostFor}
 
 -- By the verdict, so that the order of the refusals stands once. The last line stands for a case that cannot come: `listingOf` lends enough.
 unfoldable pub verdictText : Verdict → List ℕ
@@ -15,13 +18,13 @@ verdictText (lacking ts) = []
 
 -- As many bytes are lent as a script needs at most, so that 19 is not met: N is 17, 18, or one of 1 to 16.
 unfoldable pub listingOf : List ℕ → List ℕ
-listingOf script = verdictText (verdict script (mostNeed (length script)))
+listingOf script = verdictText (verdict compiler script (mostNeed (length script)))
 
 -- Where these are unfolded, all of the computed definition is: the listing of any script, and what a host sees.
 unfoldable pub entered : List ℕ → List ℕ
-unfolding listed validFrom values recordLength recordBytes le4 le8 byRoom verdict verdictText listingOf
+unfolding listed validFrom values recordLength recordBytes le4 le8 byRoom verdict verdictText listingOf checkOf
 entered script = listingOf script
 
-unfoldable pub hosted : List ℕ → List ℕ → List ℕ → Seen
-unfolding listed validFrom values recordLength recordBytes le2 le4 le8 byRoom verdict fieldsOf headOf recordOf records blockOf seenOf hostOf
-hosted s buffer answerBlock = hostOf s buffer answerBlock
+unfoldable pub hosted : Limits → List ℕ → List ℕ → List ℕ → Seen
+unfolding listed validFrom values recordLength recordBytes le2 le4 le8 byRoom verdict fieldsOf headOf recordOf records blockOf seenOf hostFor checkOf
+hosted limits s buffer answerBlock = hostFor limits s buffer answerBlock

@@ -1,5 +1,6 @@
 -- What the host sees of building and of a query, computed.
 use Rattle.std.specs.Prelude.{ℕ, suc, if◌then◌else◌, List, ◌++◌, length, drop, slice_index, ◌==◌, nat_lt, Result, Ok, Err}
+use Rattle.token.specs.paper.Records.{mostBytes}
 use Rattle.words.specs.Words.{blockOf, Told, told}
 use Rattle.entry.specs.paper.Refusals.{refusalNumber}
 use Rattle.entry.specs.paper.Host.{Seen, seen}
@@ -15,7 +16,7 @@ linesIf (Err e) n = Err e
 
 -- 17, 18, else the number of lines
 unfoldable pub checkedOf : List ℕ → Result ℕ Refused
-checkedOf script = linesIf (checkOf script) (lineCount script)
+checkedOf script = linesIf (checkOf mostBytes script) (lineCount script)
 
 -- ---- building
 
