@@ -5,9 +5,10 @@
 ghost use Rattle.std.specs.Prelude.{◌≡◌};
 ghost use Rattle.words.specs.Words.{told};
 ghost use Rattle.entry.specs.paper.Host.{seen};
-ghost use Rattle.entry.specs.computed.Host.{hostOf};
+ghost use Rattle.entry.specs.paper.Limits.{compiler, contact};
+ghost use Rattle.entry.specs.computed.Host.{hostFor, hostOf};
 ghost use Rattle.entry.specs.paper.TokenText.{textNumber};
-ghost use Rattle.entry.specs.Theorems.{HostTheorems};
+ghost use Rattle.entry.specs.Theorems.{CompilerTheorems, ContactTheorems, HostTheorems};
 ghost use Rattle.rolls.specs.computed.Host.{rollTold, recordTold};
 ghost use Rattle.rolls.specs.Theorems.{RollTheorems};
 ghost use Rattle.lines.specs.computed.Host.{indexSeen, positionTold};
@@ -16,7 +17,8 @@ ghost use Rattle.lines.specs.Theorems.{LineTheorems};
 #[unsafe(no_mangle)]
 pub extern "C" fn ergo_tokenize(script: &[u8], records: &mut [u8], answer: &mut [u8]) -> u32
     ensures answer_after { seen result records.new answer.new ≡ hostOf script.now records.old answer.old }
-    ensures host_theorems { HostTheorems script.now records.old answer.old }
+    ensures host_theorems { HostTheorems compiler script.now records.old answer.old }
+    ensures compiler_theorems { CompilerTheorems script.now records.old answer.old }
 {
     entry::host::tokenize(script, records, answer)
 }
@@ -27,6 +29,9 @@ pub extern "C" fn ergo_tokenize_contact(
     records: &mut [u8],
     answer: &mut [u8],
 ) -> u32
+    ensures answer_after { seen result records.new answer.new ≡ hostFor contact script.now records.old answer.old }
+    ensures host_theorems { HostTheorems contact script.now records.old answer.old }
+    ensures contact_theorems { ContactTheorems script.now records.old answer.old }
 {
     entry::host::tokenize_contact(script, records, answer)
 }

@@ -1,11 +1,12 @@
 -- The text of an answer, and of a script.
 use Prim.Native.Nat.{ℕ, ◌<◌, ◌≤◌, min}
-use mathlib.Core.Path.{◌≡◌, sym, ◌∙◌, ap}
+use mathlib.Core.Path.{◌≡◌, refl, sym, ◌∙◌, ap}
 use mathlib.Core.List.{List, [], ◌++◌}
 use lib.ListN.{length, take, drop, length-replicate}
 use lib.Seq.{take_all, take_at}
 use native.Mathlib.Omega.{arith}
 use borrow.Author.Tests.{le-leb, lt-leb, ne_eqb}
+use Rattle.std.specs.Prelude.{None}
 use Rattle.words.specs.Words.{le4, fourAt, blockOf}
 use Rattle.words.proofs.Joins.{four-drop, four-le4}
 use Rattle.chars.specs.paper.Quoted.{codes}
@@ -19,10 +20,12 @@ use Rattle.token.specs.computed.Listing.{shown, refusedAt}
 use Rattle.token.proofs.theorems.Alone.{records-length}
 use Rattle.token.proofs.theorems.Bounded.{all-bounded, refused-within}
 use Rattle.token.proofs.theorems.Theorems.{refusal, need, answer-tokens}
+use Rattle.entry.specs.paper.Limits.{compiler}
 use Rattle.entry.specs.paper.Host.{Seen, Sees}
 use Rattle.entry.specs.computed.Host.{byRoom, verdict, hostOf}
 use Rattle.entry.specs.computed.Listing.{verdictText, listingOf}
-use Rattle.entry.proofs.host.Verdicts.{verdict-18, verdict-rest, room-granted, room-rejected}
+use Rattle.entry.proofs.host.Checks.{check-invalid, check-good}
+use Rattle.entry.proofs.host.Verdicts.{verdict-checked, verdict-rest, room-granted, room-rejected}
 use Rattle.entry.proofs.theorems.Hosts.{met-range, sees-host}
 use Rattle.listing_text.specs.Lines.{recordLines, answerText, zeros, mostScript, recordsRoom, printed}
 use Rattle.listing_text.proofs.TokenLines.{records-shown}
@@ -50,25 +53,26 @@ module _ (script : List ℕ) where
 
   listed-18 : length script ≤ mostBytes → validPrefix script < length script → refusedAt 18 (validPrefix script) ≡ listingOf script
   unfolding listingOf verdictText
-  listed-18 l v = sym (ap verdictText (verdict-18 script room l v))
+  listed-18 l v = sym (ap verdictText (verdict-checked compiler script room _ (check-invalid mostBytes script l l (validPrefix script) refl v)))
 
-  verdict-answer : length script ≤ mostBytes → WellFormed script → verdict script room ≡ byRoom room (answer script)
-  verdict-answer l u = let v = valid-all script u in verdict-rest script room l (omega arith)
+  verdict-answer : length script ≤ mostBytes → WellFormed script → verdict compiler script room ≡ byRoom None room (answer script)
+  verdict-answer l u = let v = valid-all script u in verdict-rest compiler script room (check-good mostBytes script l l (omega arith))
 
   listed-refused : length script ≤ mostBytes → WellFormed script → (j a : ℕ) → answer script ≡ refused j a → refusedAt j a ≡ listingOf script
   unfolding listingOf verdictText
-  listed-refused l u j a e = sym (ap verdictText (verdict-answer l u ∙ room-rejected room (answer script) j a e))
+  listed-refused l u j a e = sym (ap verdictText (verdict-answer l u ∙ room-rejected None room (answer script) j a e))
 
   listed-tokens : length script ≤ mostBytes → WellFormed script → (ts : List Token) → answer script ≡ tokenized ts → shown ts ≡ listingOf script
   unfolding listingOf verdictText
-  listed-tokens l u ts e = sym (ap verdictText (verdict-answer l u ∙ room-granted room (answer script) ts e (need script ts e)))
+  listed-tokens l u ts e = sym (ap verdictText (verdict-answer l u ∙ room-granted None room (answer script) ts e refl (need script ts e)))
 
 -- What the host sees that lends enough for a short script gives the listing over its tokens.
-seen-text : {script buffer block : List ℕ} {x : Seen} → Sees script buffer block x → length block ≡ 16 → length script ≤ mostScript
+seen-text : {script buffer block : List ℕ} {x : Seen} → Sees compiler script buffer block x → length block ≡ 16 → length script ≤ mostScript
     → mostNeed (length script) ≤ length buffer → answerText x ≡ listingOf script
 unfolding answerText
 seen-text (Sees.twenty z) b s m = absurd (z b)
 seen-text (Sees.seventeen e l) b s m = absurd (omega arith)
+seen-text (Sees.twentySeven e l m) b s room = absurd (omega arith)
 seen-text {script} (Sees.eighteen {n} z v l) b s m =
     let e : n ≡ validPrefix script = longest-one v (valid script) in
     ap (refusedAt 18) (block-place 18 n 0 0 (omega arith) ∙ e) ∙ listed-18 script (omega arith) (omega arith)
@@ -78,6 +82,7 @@ seen-text {script} {buffer} (Sees.refused {j} {a} c h) b s m =
     let some : j ≡ 0 → ⊥ = λ z. omega arith in
     simp (ne_eqb j 0 some)
     (ap (refusedAt j) (block-place j a 0 0 (omega arith)) ∙ listed-refused script (omega arith) c.utf8 j a ((refusal script j a).1 h))
+seen-text (Sees.twentyEight c k m) b s room = absurd m
 seen-text {script} (Sees.nineteen {ts} r l) b s m =
     let n = need script ts (answer-tokens script ts r.tokensOf) in
     absurd (omega arith)
@@ -103,6 +108,6 @@ pub short-text : (script : List ℕ) → length script ≤ mostScript → answer
 unfolding printed
 short-text script h =
     let room = zeros-length recordsRoom in
-    simp (le-leb (length script) mostScript h) (seen-text (sees-host script (zeros recordsRoom) (zeros 16)) (zeros-length 16) h (omega arith))
+    simp (le-leb (length script) mostScript h) (seen-text (sees-host compiler script (zeros recordsRoom) (zeros 16)) (zeros-length 16) h (omega arith))
 
 pub ruleset texts = (long-text, short-text)

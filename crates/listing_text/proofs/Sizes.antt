@@ -7,6 +7,7 @@ use Rattle.words.specs.Words.{fourAt}
 use Rattle.chars.specs.paper.Quoted.{codes}
 use Rattle.token.specs.paper.Records.{records, recordBytes}
 use Rattle.token.proofs.theorems.Alone.{records-length}
+use Rattle.entry.specs.paper.Limits.{compiler}
 use Rattle.entry.specs.paper.Host.{Seen, seen, bufferSeen, Sees}
 use Rattle.entry.specs.computed.Host.{hostOf}
 use Rattle.entry.proofs.theorems.Hosts.{sees-host}
@@ -89,11 +90,13 @@ answer-short (seen number records block) least =
     let refused = refused-short number (fourAt block 4) in
     grind (arith, lines, part, refused)
 
-same-room : {script buffer block : List ℕ} {x : Seen} → Sees script buffer block x → length (bufferSeen x) ≡ length buffer
+same-room : {script buffer block : List ℕ} {x : Seen} → Sees compiler script buffer block x → length (bufferSeen x) ≡ length buffer
 same-room (Sees.twenty z) = refl
 same-room (Sees.seventeen e l) = refl
+same-room (Sees.twentySeven e l m) = refl
 same-room (Sees.eighteen z v l) = refl
 same-room (Sees.refused c h) = refl
+same-room (Sees.twentyEight c h m) = refl
 same-room (Sees.nineteen r l) = refl
 same-room {script} {buffer} (Sees.accepted {ts} r l) =
     omega (arith, length-append (records ts) (drop (recordBytes ts) buffer), records-length ts, length-drop (recordBytes ts) buffer)
@@ -102,7 +105,7 @@ same-room {script} {buffer} (Sees.accepted {ts} r l) =
 pub printed-short : (script : List ℕ) → length (printed script) ≤ 10 * recordsRoom
 printed-short script =
     let x = hostOf script (zeros recordsRoom) (zeros 16) in
-    let room = same-room (sees-host script (zeros recordsRoom) (zeros 16)) in
+    let room = same-room (sees-host compiler script (zeros recordsRoom) (zeros 16)) in
     let lent = zeros-length recordsRoom in
     let short = answer-short x (omega (arith, room, lent)) in
     elim (cases_lt mostScript (length script)) [

@@ -1,13 +1,13 @@
 -- Both functions of the host, branch by branch.
 use Prim.Native.Nat.{ℕ, ◌+◌, ◌≤◌, ◌<◌}
-use mathlib.Core.Path.{◌≡◌, refl}
-use mathlib.Core.Bool.{Bool, true, false, not, ◌&&◌}
+use mathlib.Core.Path.{◌≡◌, refl, sym}
+use mathlib.Core.Bool.{true, false, not, ◌&&◌}
 use mathlib.Core.List.{List, ◌++◌}
 use lib.ListN.{length, drop, get_or}
-use lib.Dec.{ltb, leb}
+use lib.Dec.{leb}
 use native.Mathlib.Numerals.{add-one}
 use native.Mathlib.Omega.{arith}
-use borrow.Author.Tests.{eq-eqb, ne_eqb, ltb-true, ltb-false, lt-ltb, le-ltb, leb-true, le-leb, not-true}
+use borrow.Author.Tests.{eq-eqb, ne_eqb, lt-ltb, le-ltb, leb-true, le-leb, not-true}
 use Rattle.words.specs.Words.{blockOf, told}
 use Rattle.chars.specs.computed.Valid.{validPrefix}
 use Rattle.chars.proofs.Bools.{and-both}
@@ -15,29 +15,29 @@ use Rattle.token.specs.paper.Records.{mostBytes}
 use Rattle.std.specs.Prelude.{Result, Ok, Err}
 use Rattle.entry.specs.paper.Refusals.{refusalNumber}
 use Rattle.entry.specs.paper.Host.{seen}
-use Rattle.entry.specs.computed.Check.{checkOf}
 use Rattle.entry.specs.declared.refusal.Refused.{Refused}
-use Rattle.entry.proofs.host.Checks.{tooLong, notUtf8}
+use Rattle.entry.proofs.host.Checks as checks
+use Rattle.entry.proofs.host.Checks.{tooLong, notUtf8, check-long, check-invalid, check-good}
 use Rattle.entry.specs.paper.TokenText.{insideCharacter, hasText}
 use Rattle.lines.specs.paper.Lines.{GoodPlace}
 use Rattle.lines.specs.computed.Lines.{startsOf, lineCount, searchOf, columnSince}
-use Rattle.lines.specs.computed.Host.{checkedOf, builtBy, indexSeen, foundIn, answeredBy, positionTold}
+use Rattle.lines.specs.computed.Host.{linesIf, checkedOf, builtBy, indexSeen, foundIn, answeredBy, positionTold}
 
 -- ---- 17, 18, the number of lines
 
 module _ (s : List ℕ) where
   pub checked-long : mostBytes < length s → Err tooLong ≡ checkedOf s
-  unfolding checkedOf checkOf
-  checked-long l = rw (lt-ltb mostBytes (length s) l) refl
+  unfolding checkedOf
+  checked-long l = rw (check-long mostBytes s l) refl
 
   module _ (l : length s ≤ mostBytes) (v : ℕ) (e : v ≡ validPrefix s) where
     pub checked-invalid : v < length s → Err (notUtf8 v) ≡ checkedOf s
-    unfolding checkedOf checkOf
-    checked-invalid x = rw (le-ltb mostBytes (length s) l, ← e, lt-ltb v (length s) x) refl
+    unfolding checkedOf
+    checked-invalid x = rw (check-invalid mostBytes s l l v (sym e) x) refl
 
     pub checked-good : length s ≤ v → Ok (lineCount s) ≡ checkedOf s
-    unfolding checkedOf checkOf
-    checked-good x = rw (le-ltb mostBytes (length s) l, ← e, le-ltb v (length s) x) refl
+    unfolding checkedOf
+    checked-good x = rw (check-good mostBytes s l l (omega arith)) refl
 
   -- and nothing else is answered
   pub data CheckedAs : Result ℕ Refused → Type 0 where
@@ -46,18 +46,14 @@ module _ (s : List ℕ) where
     good : length s ≤ mostBytes → length s ≤ validPrefix s → CheckedAs (Ok (lineCount s))
 
   pub checked-as : CheckedAs (checkedOf s)
-  checked-as = go (ltb mostBytes (length s)) refl (ltb (validPrefix s) (length s)) refl
+  unfolding checkedOf
+  checked-as = go (checks.checked-as mostBytes s)
     where
-      go : (t : Bool) → ltb mostBytes (length s) ≡ t → (u : Bool) → ltb (validPrefix s) (length s) ≡ u → CheckedAs (checkedOf s)
-      go true e u f = let l = ltb-true mostBytes (length s) e in rw (← checked-long l) (long l)
-      go false e true f =
-          let l = ltb-false mostBytes (length s) e in
-          let x = ltb-true (validPrefix s) (length s) f in
-          rw (← checked-invalid l (validPrefix s) refl x) (invalid l x)
-      go false e false f =
-          let l = ltb-false mostBytes (length s) e in
-          let x = ltb-false (validPrefix s) (length s) f in
-          rw (← checked-good l (validPrefix s) refl x) (good l x)
+      go : {x : Result (Unit {0}) Refused} → checks.CheckedAs mostBytes s x → CheckedAs (linesIf x (lineCount s))
+      go (checks.long l) = long l
+      go (checks.over l m) = absurd (omega arith)
+      go (checks.invalid l m x) = invalid l x
+      go (checks.good l m x) = good l x
 
   -- where the lines are counted, the script is not too long, and they are all of them
   pub was-lines : (n : ℕ) → Ok n ≡ checkedOf s → (length s ≤ mostBytes) × (n ≡ lineCount s)
