@@ -7,7 +7,8 @@ use mathlib.Core.List.{List, ◌++◌}
 use lib.ListN.{length, take, drop, replicate, length-drop, take-append-drop}
 use lib.Seq.{length-take-le, take_all, take-append_seam, drop-append_seam}
 use native.Mathlib.Omega.{arith}
-use Rattle.entry.specs.computed.Host.{hostOf}
+use Rattle.entry.specs.declared.limits.Limits.{Limits}
+use Rattle.entry.specs.computed.Host.{hostFor}
 use Rattle.cases.specs.Cases.{untouched}
 use Rattle.std.proofs.lemmas.List.{take-replicate}
 use Rattle.replay.specs.Cases.{recordsIn, mostRoom, seenLent}
@@ -50,6 +51,7 @@ module _ (lent records : List ℕ) where
 -- ---- what a host sees
 
 -- with untouched bytes lent
-pub seen_lent : (script lent : List ℕ) → lent ≡ untouched (length lent) → hostOf script lent (replicate 16 0xA5) ≡ seenLent script (length lent)
+pub seen_lent : (limits : Limits) (script lent : List ℕ) → lent ≡ untouched (length lent)
+    → hostFor limits script lent (replicate 16 0xA5) ≡ seenLent limits script (length lent)
 unfolding seenLent untouched
-seen_lent script lent clean = ap (λ l. hostOf script l (replicate 16 0xA5)) clean
+seen_lent limits script lent clean = ap (λ l. hostFor limits script l (replicate 16 0xA5)) clean
