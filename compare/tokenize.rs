@@ -1,13 +1,14 @@
-// Compares ergo_tokenize and ergo_token_text, the exports of crates/ergo, with the published tokenize of token.rs, and writes the list of
-// answers that crates/replay replays and the listings that crates/listing_cases prints. Built and run by compare/tokenize.
+// Compares ergo_tokenize, ergo_tokenize_contact and ergo_token_text, the exports of crates/ergo, with the published tokenize of token.rs, and writes the
+// list of answers that crates/replay replays and the listings that crates/listing_cases prints. Built and run by compare/tokenize.
 //
 //     tokenize [--count N] [--seed S]   compare, and print how many scripts were compared and how many differed; exit status 1 if any differed
 //     tokenize --list                   print what crates/replay/stdin is to hold; only the published tokenize is asked
 //     tokenize --cases                  print what crates/listing_cases/stdin is to hold
 //     tokenize --listing                print its listings, for crates/listing_cases/stdout; only the published tokenize is asked
 //
-// Refusals 1 to 16 and every record byte are judged by tokenize; 17 to 21, the answer block and the bytes past the records by what
-// RULES says of them.
+// Refusals 1 to 16 and every record byte are judged by tokenize; 17 to 21, 27 and 28, the answer block and the bytes past the records by what
+// RULES and REQUESTS say of them.
+mod limits;
 mod listing;
 mod scripts;
 
@@ -20,10 +21,23 @@ use std::io::Write;
 #[link(name = "ergo", kind = "static")]
 extern "C" {
     fn ergo_tokenize(script: *const u8, n: usize, records: *mut u8, m: usize, answer: *mut u8, k: usize) -> u32;
+    fn ergo_tokenize_contact(script: *const u8, n: usize, records: *mut u8, m: usize, answer: *mut u8, k: usize) -> u32;
     fn ergo_token_text(script: *const u8, n: usize, start: u32, end: u32) -> u32;
 }
 
 const LIMIT: usize = 16_777_216;
+
+// REQUESTS, "Limits": those of a contact, and the record bytes that are enough for every one.
+const CONTACT_BYTES: usize = 4096;
+const CONTACT_TOKENS: u32 = 512;
+const CONTACT_RECORDS: usize = 10_744;
+
+// Which function a script is handed to.
+#[derive(Clone, Copy, PartialEq)]
+enum Entry {
+    Compiler,
+    Contact,
+}
 
 // The lengths of records by RULES, "Record": of the head, before the values, and of the whole record of a kind with values.
 const HEAD: usize = 13;
@@ -38,6 +52,7 @@ const fn bound(n: usize) -> usize {
 // What RULES asks for a script, measured without a buffer: the number, the place, the token count, the record bytes and the records.
 #[derive(Default)]
 struct Wanted {
+    length: usize, // of the script
     number: u32,
     place: u32,
     tokens: u32,
@@ -168,6 +183,10 @@ fn refused(number: u32, place: usize) -> Wanted {
 }
 
 fn wanted(script: &[u8]) -> Wanted {
+    Wanted { length: script.len(), ..answered(script) }
+}
+
+fn answered(script: &[u8]) -> Wanted {
     if script.len() > LIMIT {
         return refused(17, 0);
     }
@@ -188,18 +207,29 @@ fn wanted(script: &[u8]) -> Wanted {
 
 impl Wanted {
     // The number for a records buffer and an answer block of these lengths.
-    fn number_at(&self, lent: usize, block: usize) -> u32 {
+    fn number_at(&self, entry: Entry, lent: usize, block: usize) -> u32 {
+        let contact = entry == Entry::Contact;
         if block != 16 {
             20
-        } else if self.number == 0 && self.bytes as usize > lent {
+        } else if contact && self.length > CONTACT_BYTES && self.length <= LIMIT {
+            27
+        } else if self.number != 0 {
+            self.number
+        } else if contact && self.tokens > CONTACT_TOKENS {
+            28
+        } else if self.bytes as usize > lent {
             19
         } else {
-            self.number
+            0
         }
     }
 
     fn block(&self, number: u32) -> Vec<u8> {
-        [number, self.place, self.tokens, self.bytes].iter().flat_map(|word| word.to_le_bytes()).collect()
+        let words = match number {
+            27 | 28 => [number, 0, 0, 0],
+            _ => [number, self.place, self.tokens, self.bytes],
+        };
+        words.iter().flat_map(|word| word.to_le_bytes()).collect()
     }
 }
 
@@ -240,7 +270,8 @@ mod compare {
         calls: u64,
         differed: u64, // scripts
         faults: u64,   // calls
-        numbers: [u64; 22],
+        greatest: usize, // need of a contact
+        numbers: [u64; 29],
         shown: Vec<String>,
         lent: Vec<u8>,
         before: Vec<u8>,
@@ -265,15 +296,19 @@ mod compare {
         }
 
         // One call: the number handed back, every byte of the block and of the records buffer, and the bytes behind both.
-        fn call(&mut self, script: &[u8], want: &Wanted, lent: usize, block: usize, mask: u8) {
+        fn call(&mut self, entry: Entry, script: &[u8], want: &Wanted, lent: usize, block: usize, mask: u8) {
             self.calls += 1;
             fill(&mut self.before, lent, mask);
             fill(&mut self.block_before, block, !mask);
             self.lent.clone_from(&self.before);
             self.block.clone_from(&self.block_before);
             let (r, a) = (self.lent.as_mut_ptr(), self.block.as_mut_ptr());
-            let got = unsafe { ergo_tokenize(script.as_ptr(), script.len(), r, lent, a, block) };
-            let number = want.number_at(lent, block);
+            let tokenize = match entry {
+                Entry::Compiler => ergo_tokenize,
+                Entry::Contact => ergo_tokenize_contact,
+            };
+            let got = unsafe { tokenize(script.as_ptr(), script.len(), r, lent, a, block) };
+            let number = want.number_at(entry, lent, block);
             self.numbers[number as usize] += 1;
             if number == 0 {
                 self.before[..want.records.len()].copy_from_slice(&want.records);
@@ -290,10 +325,11 @@ mod compare {
                 None => "buffer as wanted".into(),
             };
             let (block, block_wanted) = (words(&self.block[..block]), words(&self.block_before[..block]));
-            self.note(format!("{}, {lent} lent: number {got}, wanted {number}; block {block}, wanted {block_wanted}; {bytes}", shown(script)));
+            let name = if entry == Entry::Contact { ", a contact" } else { "" };
+            self.note(format!("{}{name}, {lent} lent: number {got}, wanted {number}; block {block}, wanted {block_wanted}; {bytes}", shown(script)));
         }
 
-        // A script with a buffer that is ample, and once more with a buffer or a block that its number chooses.
+        // A script with a buffer that is ample, once more with a buffer or a block that its number chooses, and so as a contact.
         pub fn script(&mut self, script: &[u8], number: u64) {
             let want = wanted(script);
             let need = want.bytes as usize;
@@ -307,8 +343,9 @@ mod compare {
                 _ => (need, 16),
             };
             self.counted(|bench| {
-                bench.call(script, &want, ample, 16, 0);
-                bench.call(script, &want, lent, block, 255);
+                bench.call(Entry::Compiler, script, &want, ample, 16, 0);
+                bench.call(Entry::Compiler, script, &want, lent, block, 255);
+                bench.call(Entry::Contact, script, &want, lent, block, 0);
             });
         }
 
@@ -318,12 +355,13 @@ mod compare {
             let need = want.bytes as usize;
             self.counted(|bench| {
                 for lent in 0..=need + 1 {
-                    bench.call(script, &want, lent, 16, 0);
-                    bench.call(script, &want, lent, 16, 255);
+                    bench.call(Entry::Compiler, script, &want, lent, 16, 0);
+                    bench.call(Entry::Compiler, script, &want, lent, 16, 255);
                 }
                 for block in 0..=40 {
                     for lent in [0, need.saturating_sub(1), need, need + 1] {
-                        bench.call(script, &want, lent, block, 0);
+                        bench.call(Entry::Compiler, script, &want, lent, block, 0);
+                        bench.call(Entry::Contact, script, &want, lent, block, 0);
                     }
                 }
             });
@@ -378,11 +416,23 @@ mod compare {
             self.calls += 4;
         }
 
+        // A script at a contact's limits, by both functions, with what it needs and with what is enough for every contact.
+        pub fn limit(&mut self, script: &[u8]) {
+            let want = wanted(script);
+            let need = want.bytes as usize;
+            if want.tokens <= CONTACT_TOKENS {
+                assert!(need <= CONTACT_RECORDS, "a contact needs more than {CONTACT_RECORDS} bytes: {}", shown(script));
+                self.greatest = self.greatest.max(need);
+            }
+            self.at(script, &want, &[(need, 16), (need.saturating_sub(1), 16), (0, 16), (CONTACT_RECORDS, 16), (need, 15)]);
+        }
+
         // Calls with buffers and blocks of given lengths.
         pub fn at(&mut self, script: &[u8], want: &Wanted, lengths: &[(usize, usize)]) {
             self.counted(|bench| {
                 for &(lent, block) in lengths {
-                    bench.call(script, want, lent, block, 0);
+                    bench.call(Entry::Compiler, script, want, lent, block, 0);
+                    bench.call(Entry::Contact, script, want, lent, block, 0);
                 }
             });
         }
@@ -393,6 +443,7 @@ mod compare {
             self.calls += other.calls;
             self.differed += other.differed;
             self.faults += other.faults;
+            self.greatest = self.greatest.max(other.greatest);
             self.shown.extend(other.shown);
             for (mine, theirs) in self.numbers.iter_mut().zip(other.numbers) {
                 *mine += theirs;
@@ -411,8 +462,10 @@ mod compare {
         }
 
         pub fn say_numbers(&self) {
-            let met: Vec<String> = (0..22).map(|n| format!("{n}: {}", self.numbers[n])).collect();
+            let met: Vec<String> = (0..22).chain(27..29).map(|n| format!("{n}: {}", self.numbers[n])).collect();
             println!("numbers wanted, with how many calls each: {}", met.join(", "));
+            println!("the greatest need of a contact at the limits: {} record bytes", self.greatest);
+            assert_eq!(self.greatest, CONTACT_RECORDS, "what is enough for every contact is more than any needs");
         }
 
         pub fn same(&self) -> bool {
@@ -586,6 +639,8 @@ fn compare_all(count: u64, seed: u64) {
         let script = if i % 2 == 0 { script } else { scripts::damaged(&mut random, &script) };
         bench.texts(&script[..script.len().min(60)]);
     });
+    let contacts = limits::compared();
+    part(&mut all, "scripts at a contact's limits", contacts.len() as u64, |bench, i| bench.limit(&contacts[i as usize]));
     part(&mut all, "scripts of 16,777,216 and 16,777,217 bytes", 1, |bench, _| long_scripts(bench));
     all.say_numbers();
     all.say("in all");
@@ -601,10 +656,11 @@ fn compare_all(_count: u64, _seed: u64) {
 }
 
 // One case of the list that crates/replay/src/main.rt replays, whose format is written there.
-fn put_case(out: &mut Vec<u8>, script: &[u8], want: &Wanted, lent: usize) {
-    let number = want.number_at(lent, 16);
+fn put_case(out: &mut Vec<u8>, entry: Entry, script: &[u8], want: &Wanted, lent: usize) {
+    let number = want.number_at(entry, lent, 16);
     out.extend((script.len() as u32).to_le_bytes());
     out.extend((lent as u32).to_le_bytes());
+    out.extend((entry as u32).to_le_bytes());
     out.extend(want.block(number));
     out.extend_from_slice(script);
     if number == 0 {
@@ -650,19 +706,31 @@ fn listed_scripts() -> Vec<Vec<u8>> {
     list
 }
 
-// Of the accepted ones every fourth is lent a byte too little, and every fourth a few bytes more than it needs.
+// Of the accepted ones every fourth is lent a byte too little, and every fourth a few bytes more than it needs. Every third is a contact, and so are
+// all at the limits of one, which are lent what is enough for every contact.
 fn print_list() {
     let mut out = Vec::new();
-    let mut cases = 0;
-    for (i, script) in listed_scripts().iter().enumerate() {
+    let scripts = listed_scripts();
+    for (i, script) in scripts.iter().enumerate() {
         let want = wanted(script);
         let lent = match i % 4 {
             0 if want.bytes > 0 => want.bytes as usize - 1,
             1 => want.bytes as usize + 7,
             _ => want.bytes as usize,
         };
-        put_case(&mut out, script, &want, lent);
+        let entry = if i % 3 == 2 { Entry::Contact } else { Entry::Compiler };
+        put_case(&mut out, entry, script, &want, lent);
+    }
+    let mut cases = scripts.len();
+    for script in &limits::listed() {
+        let want = wanted(script);
+        put_case(&mut out, Entry::Contact, script, &want, CONTACT_RECORDS);
         cases += 1;
+        // What the compiler takes beyond them.
+        if want.number == 0 && want.number_at(Entry::Contact, CONTACT_RECORDS, 16) != 0 {
+            put_case(&mut out, Entry::Compiler, script, &want, CONTACT_RECORDS);
+            cases += 1;
+        }
     }
     std::io::stdout().write_all(&out).unwrap();
     eprintln!("tokenize: {cases} scripts listed, {} bytes", out.len());
