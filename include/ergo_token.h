@@ -1,4 +1,4 @@
-/* ErgoScript tokens as records: the six functions of crates/ergo, for C and C++. `rt lib`, in that folder, makes the library,
+/* ErgoScript tokens as records: the seven functions of crates/ergo, for C and C++. `rt lib`, in that folder, makes the library,
  * crates/ergo/out/libergo.a, for Linux on x86-64 processors of level v2 (SSE4.2). Tokenizing takes at most some 9 kB of stack, reading stored
  * records some 200 bytes, lines and columns less. The library allocates nothing, and calls nothing but memmove and memset, which the
  * compiler puts in; a host without a C library must have these two. It keeps nothing between calls: calls from several threads at once are fine as
@@ -36,6 +36,17 @@ extern "C" {
  * three parts of memory must be readable, the last two also writable, for their lengths, and must not overlap: the proof takes that from
  * the caller. */
 uint32_t ergo_tokenize(const uint8_t *script, size_t n, uint8_t *records, size_t m, uint8_t *answer, size_t k);
+
+/* Tokenizes a contact: a script that an entry of the address book holds. What ergo_tokenize says holds here too; only the limits are smaller, and
+ * both are themselves allowed. A script of more than ERGO_CONTACT_BYTES bytes is refused by ERGO_OVER_LIMIT (27), one of more than
+ * ERGO_CONTACT_TOKENS tokens, line ends and Eof included, by ERGO_TOO_MANY_TOKENS (28). Of both the place is 0, and so are the two numbers behind it.
+ *
+ * The order of refusals is 20, then 17, 27, 18, then the first of 1 to 16, then 28, then 19: 5,000 bytes that are not UTF-8 are refused by 27, and an
+ * open string behind 600 tokens by 7. 28 also comes where no buffer is lent.
+ *
+ * The buffer: ERGO_CONTACT_RECORDS bytes are enough for every contact, so that one call does. Of a script of more than ERGO_CONTACT_BYTES bytes none
+ * is read. */
+uint32_t ergo_tokenize_contact(const uint8_t *script, size_t n, uint8_t *records, size_t m, uint8_t *answer, size_t k);
 
 /* Whether the bytes of the script from start to end (end not included) are a text: 0 if so, else ERGO_TOKEN_TEXT (21). A token's text is then
  * script + start, of end - start bytes. It is 21 where start is past end, end is past n, or either lies inside a character: on a byte 0x80 to
@@ -132,6 +143,10 @@ uint32_t ergo_line_column(const uint8_t *script, size_t n, const uint32_t *index
 
 #define ERGO_SCRIPT_LIMIT 16777216u /* bytes: a longer script is refused by 17 */
 
+/* Of ergo_tokenize_contact: a script of more bytes is refused by 27, one of more tokens by 28. */
+#define ERGO_CONTACT_BYTES 4096u
+#define ERGO_CONTACT_TOKENS 512u
+
 /* The lengths of answer blocks. */
 #define ERGO_ANSWER_BYTES 16u
 #define ERGO_STEP_BYTES 40u /* of ergo_read_record */
@@ -184,6 +199,9 @@ uint32_t ergo_line_column(const uint8_t *script, size_t n, const uint32_t *index
 #define ERGO_RECORD_PER_BYTE ERGO_INT_LIT_LENGTH
 #define ERGO_RECORD_BOUND(n) (ERGO_RECORD_PER_BYTE * (size_t)(n) + ERGO_RECORD_HEAD)
 
+/* Bytes enough for the records of every contact: each token costs at most a LongLit's record, and Eof costs a head. 511 times 0L needs all of it. */
+#define ERGO_CONTACT_RECORDS ((ERGO_CONTACT_TOKENS - 1u) * ERGO_LONG_LIT_LENGTH + ERGO_RECORD_HEAD)
+
 /* Numbers enough for the line starts of every script of n bytes: each byte could be an LF. */
 #define ERGO_INDEX_BOUND(n) ((size_t)(n) + 1)
 
@@ -224,8 +242,9 @@ enum ergo_kind {
 };
 
 /* The numbers handed back, each with the place that the block gives and what to do: for 1 to 16 the script's author, for 17 to 21 the host's,
- * for 22 to 24, which only ergo_read_roll and ergo_read_record give, whoever keeps the stored roll, and for 25 and 26, which only
- * ergo_index_lines and ergo_line_column give, the host's author again. */
+ * for 22 to 24, which only ergo_read_roll and ergo_read_record give, whoever keeps the stored roll, for 25 and 26, which only
+ * ergo_index_lines and ergo_line_column give, the host's author again, and for 27 and 28, which only ergo_tokenize_contact gives, the author of the
+ * contact's script. */
 enum ergo_number {
     ERGO_ACCEPTED = 0,
     ERGO_LONE_CR = 1,            /* the CR: end lines by LF or CR LF; a CR alone may stand only in strings, comments and backticks */
@@ -259,8 +278,11 @@ enum ergo_number {
                                   * another: fetch it again and hand it over alone, or tokenize the script again */
     ERGO_BAD_PLACE = 25,         /* 0, of ergo_line_column only: the place asked for is past the script's end or inside a character, on a byte 0x80
                                   * to 0xBF; ask for the place of a token or of a refusal of this script, or its length */
-    ERGO_SHORT_INDEX = 26        /* 0: fewer numbers were lent than the script has lines; lend as many as ergo_index_lines says at
+    ERGO_SHORT_INDEX = 26,       /* 0: fewer numbers were lent than the script has lines; lend as many as ergo_index_lines says at
                                   * ERGO_ANSWER_AT_LINES */
+    ERGO_OVER_LIMIT = 27,        /* 0: the contact has more than ERGO_CONTACT_BYTES bytes; shorten it */
+    ERGO_TOO_MANY_TOKENS = 28    /* 0: the contact has more than ERGO_CONTACT_TOKENS tokens, line ends and Eof included; use fewer, by joining lines
+                                  * for instance */
 };
 
 #ifdef __cplusplus

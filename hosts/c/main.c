@@ -1,5 +1,5 @@
-/* Prints the tokens of a script, one per line: kind, start, end, cut and values; or `refused N at P`. With --records it writes the script's
- * records to standard output instead: a roll. With --roll the file is such a roll, and its tokens are printed without the script. With --place
+/* Prints the tokens of a script, one per line: kind, start, end, cut and values; or `refused N at P`. With --contact the script is an entry of the
+ * address book, with its limits. With --records it writes the script's records to standard output instead: a roll. With --roll the file is such a roll, and its tokens are printed without the script. With --place
  * it prints the line and the column of a place in the script. hosts/build builds it. */
 #include "ergo_token.h"
 
@@ -71,13 +71,48 @@ static int refused(FILE *out, const uint8_t *answer)
     return 1;
 }
 
+/* Prints the tokens of a script by its records. */
+static int print_tokens(const uint8_t *script, size_t n, const uint8_t *records, size_t bytes)
+{
+    size_t at;
+    for (at = 0; at < bytes; at += (size_t)number(records + at + ERGO_AT_LENGTH, 2)) {
+        const uint8_t *record = records + at;
+        uint64_t start = number(record + ERGO_AT_START, 4), end = number(record + ERGO_AT_END, 4);
+        print_token(number(record + ERGO_AT_KIND, 2), start, end, record[ERGO_AT_CUT], record + ERGO_RECORD_HEAD);
+        if (ergo_token_text(script, n, (uint32_t)start, (uint32_t)end) != 0) {
+            fprintf(stderr, "a record without a text\n");
+            return 2;
+        }
+    }
+    return 0;
+}
+
+/* Prints the tokens of a contact. One call does: no contact needs more bytes than are lent. */
+static int show_contact(const char *path)
+{
+    static uint8_t records[ERGO_CONTACT_RECORDS];
+    uint8_t answer[ERGO_ANSWER_BYTES];
+    uint8_t *script;
+    size_t n;
+    int status;
+
+    script = read_file(path, ERGO_SCRIPT_LIMIT + 1, &n);
+    if (ergo_tokenize_contact(script, n, records, sizeof records, answer, sizeof answer) != ERGO_ACCEPTED)
+        status = refused(stdout, answer);
+    else
+        status = print_tokens(script, n, records, (size_t)number(answer + ERGO_ANSWER_AT_RECORD_BYTES, 4));
+    free(script);
+    return status;
+}
+
 /* Prints the tokens of a script, or writes its records. */
 static int show_script(const char *path, int as_records)
 {
     uint8_t answer[ERGO_ANSWER_BYTES];
     uint8_t *script, *records;
-    size_t n, bytes, at;
+    size_t n, bytes;
     uint32_t refusal;
+    int status = 0;
 
     /* Of a script that is too long, one byte past the limit is enough to be refused. */
     script = read_file(path, ERGO_SCRIPT_LIMIT + 1, &n);
@@ -99,18 +134,11 @@ static int show_script(const char *path, int as_records)
     }
     if (as_records && fwrite(records, 1, bytes, stdout) != bytes)
         fail("standard output");
-    for (at = 0; at < bytes && !as_records; at += (size_t)number(records + at + ERGO_AT_LENGTH, 2)) {
-        const uint8_t *record = records + at;
-        uint64_t start = number(record + ERGO_AT_START, 4), end = number(record + ERGO_AT_END, 4);
-        print_token(number(record + ERGO_AT_KIND, 2), start, end, record[ERGO_AT_CUT], record + ERGO_RECORD_HEAD);
-        if (ergo_token_text(script, n, (uint32_t)start, (uint32_t)end) != 0) {
-            fprintf(stderr, "a record without a text\n");
-            return 2;
-        }
-    }
+    if (!as_records)
+        status = print_tokens(script, n, records, bytes);
     free(records);
     free(script);
-    return 0;
+    return status;
 }
 
 /* So many bytes of a roll are read: one more than can be read in steps. Where size_t has 32 bits, no roll is too long for that. */
@@ -209,6 +237,8 @@ int main(int argc, char **argv)
     int status;
     if (argc == 2) {
         status = show_script(argv[1], 0);
+    } else if (argc == 3 && strcmp(argv[1], "--contact") == 0) {
+        status = show_contact(argv[2]);
     } else if (argc == 3 && strcmp(argv[1], "--records") == 0) {
         status = show_script(argv[2], 1);
     } else if (argc == 3 && strcmp(argv[1], "--roll") == 0) {
@@ -216,7 +246,7 @@ int main(int argc, char **argv)
     } else if (argc == 4 && strcmp(argv[1], "--place") == 0 && read_place(argv[2], &place)) {
         status = show_place(argv[3], place);
     } else {
-        fprintf(stderr, "usage: %s [--records | --roll | --place PLACE] FILE\n", argv[0]);
+        fprintf(stderr, "usage: %s [--contact | --records | --roll | --place PLACE] FILE\n", argv[0]);
         return 2;
     }
     if (fflush(stdout) != 0 || ferror(stdout)) /* what is left in a buffer could still fail */

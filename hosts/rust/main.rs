@@ -1,5 +1,5 @@
-// Prints the tokens of a script, one per line: kind, start, end, cut and values; or `refused N at P`. With --records it writes the script's
-// records to standard output instead: a roll. With --roll the file is such a roll, and its tokens are printed without the script. With --place
+// Prints the tokens of a script, one per line: kind, start, end, cut and values; or `refused N at P`. With --contact the script is an entry of the
+// address book, with its limits. With --records it writes the script's records to standard output instead: a roll. With --roll the file is such a roll, and its tokens are printed without the script. With --place
 // it prints the line and the column of a place in the script. hosts/build builds it.
 use std::ffi::OsStr;
 use std::io::Write;
@@ -9,6 +9,7 @@ mod ergo {
     #[link(name = "ergo", kind = "static")]
     extern "C" {
         fn ergo_tokenize(script: *const u8, n: usize, records: *mut u8, m: usize, answer: *mut u8, k: usize) -> u32;
+        fn ergo_tokenize_contact(script: *const u8, n: usize, records: *mut u8, m: usize, answer: *mut u8, k: usize) -> u32;
         fn ergo_token_text(script: *const u8, n: usize, start: u32, end: u32) -> u32;
         fn ergo_read_roll(roll: *const u8, n: usize, answer: *mut u8, k: usize) -> u32;
         fn ergo_read_record(roll: *const u8, n: usize, at: u32, previous: u32, answer: *mut u8, k: usize) -> u32;
@@ -45,6 +46,23 @@ mod ergo {
         match call(script, &mut records) {
             (0, _, _) => Ok(records),
             (number, _, _) => super::fail(&format!("refused {number} after measuring")),
+        }
+    }
+
+    // Enough for the records of every contact: 511 times a LongLit's, and Eof's.
+    const CONTACT_RECORDS: usize = 511 * 21 + 13;
+
+    // The records of a contact: one call does.
+    pub fn tokenize_contact(script: &[u8]) -> Result<Vec<u8>, Refused> {
+        let mut records = vec![0; CONTACT_RECORDS];
+        let mut answer = [0u8; 16];
+        let (r, a) = (records.as_mut_ptr(), answer.as_mut_ptr());
+        match unsafe { ergo_tokenize_contact(script.as_ptr(), script.len(), r, records.len(), a, answer.len()) } {
+            0 => {
+                records.truncate(word(&answer, 12) as usize);
+                Ok(records)
+            }
+            number => Err(Refused { number, place: word(&answer, 4) }),
         }
     }
 
@@ -195,6 +213,7 @@ fn read_place(text: &OsStr) -> Option<u32> {
 // What to do with the file.
 enum Task {
     Tokens,
+    Contact,
     Records,
     Roll,
     Place(u32),
@@ -212,15 +231,17 @@ fn main() {
     let arguments: Vec<_> = std::env::args_os().skip(1).collect();
     let task = match &arguments[..] {
         [path] => Some((Task::Tokens, path)),
+        [option, path] if option == "--contact" => Some((Task::Contact, path)),
         [option, path] if option == "--records" => Some((Task::Records, path)),
         [option, path] if option == "--roll" => Some((Task::Roll, path)),
         [option, place, path] if option == "--place" => read_place(place).map(|place| (Task::Place(place), path)),
         _ => None,
     };
-    let Some((task, path)) = task else { fail("usage: rust [--records | --roll | --place PLACE] FILE") };
+    let Some((task, path)) = task else { fail("usage: rust [--contact | --records | --roll | --place PLACE] FILE") };
     let file = std::fs::read(path).unwrap_or_else(|error| fail(&format!("{}: {error}", Path::new(path).display())));
     let answer = match task {
         Task::Tokens => ergo::tokenize(&file).map(|records| show_script(&file, &records)),
+        Task::Contact => ergo::tokenize_contact(&file).map(|records| show_script(&file, &records)),
         Task::Records => ergo::tokenize(&file),
         Task::Roll => show_roll(&file),
         Task::Place(place) => show_place(&file, place),

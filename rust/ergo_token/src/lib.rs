@@ -31,10 +31,19 @@ mod view;
 pub use lines::{position, Lines, Position, Positions};
 pub use refusal::Refusal;
 pub use roll::Roll;
-pub use view::view;
+pub use view::{view, view_contact};
 
 /// A longer script is refused by 17.
 pub const SCRIPT_LIMIT: usize = 16_777_216;
+
+/// The most bytes that [`tokenize_contact`] takes: a longer script is refused by 27.
+pub const CONTACT_BYTES: usize = 4096;
+
+/// The most tokens that [`tokenize_contact`] takes, line ends and Eof included: with more, a script is refused by 28.
+pub const CONTACT_TOKENS: usize = 512;
+
+/// Bytes enough for the records of every contact.
+pub const CONTACT_RECORDS: usize = (CONTACT_TOKENS - 1) * LONG_LIT_LENGTH + RECORD_HEAD;
 
 /// The length of a record's head, which its values follow. Of a kind without values the whole record is just the head.
 pub const RECORD_HEAD: usize = 13;
@@ -63,6 +72,7 @@ mod sys {
     #[link(name = "ergo", kind = "static")]
     extern "C" {
         pub fn ergo_tokenize(script: *const u8, n: usize, records: *mut u8, m: usize, answer: *mut u8, k: usize) -> u32;
+        pub fn ergo_tokenize_contact(script: *const u8, n: usize, records: *mut u8, m: usize, answer: *mut u8, k: usize) -> u32;
         pub fn ergo_token_text(script: *const u8, n: usize, start: u32, end: u32) -> u32;
         pub fn ergo_read_roll(roll: *const u8, n: usize, answer: *mut u8, k: usize) -> u32;
         pub fn ergo_index_lines(script: *const u8, n: usize, index: *mut u32, m: usize, answer: *mut u8, k: usize) -> u32;
@@ -89,38 +99,65 @@ fn answered(answer: [u8; 16]) -> (u32, Size) {
     (word(&answer, 4), Size { count: word(&answer, 8), bytes: word(&answer, 12) })
 }
 
+// A function that tokenizes.
+type Entry = unsafe extern "C" fn(*const u8, usize, *mut u8, usize, *mut u8, usize) -> u32;
+
 // One call: the number handed back, the place, and the size.
-fn call(script: &[u8], records: &mut [u8]) -> (u32, u32, Size) {
+fn call(entry: Entry, script: &[u8], records: &mut [u8]) -> (u32, u32, Size) {
     let mut answer = [0u8; 16];
     // SAFETY: the three slices are valid for their lengths, and the two that are lent for writing are borrowed for it, so none overlap.
-    let number = unsafe { sys::ergo_tokenize(script.as_ptr(), script.len(), records.as_mut_ptr(), records.len(), answer.as_mut_ptr(), answer.len()) };
+    let number = unsafe { entry(script.as_ptr(), script.len(), records.as_mut_ptr(), records.len(), answer.as_mut_ptr(), answer.len()) };
     let (place, size) = answered(answer);
     (number, place, size)
 }
 
-/// Measures a script: the size of its records, or why it is refused. Nothing is written.
-pub fn measure(script: &[u8]) -> Result<Size, Refusal> {
-    match call(script, &mut []) {
+fn measure_by(entry: Entry, script: &[u8]) -> Result<Size, Refusal> {
+    match call(entry, script, &mut []) {
         (19, _, size) => Ok(size),
         (number, place, _) => Err(Refusal { number, place }),
     }
 }
 
-/// Writes the records of a script into `records`, from its start on. The bytes past them keep their values; on a refusal all bytes do. Where
-/// the records need more than was lent the refusal is 19, and [`measure`] tells the need.
-pub fn write(script: &[u8], records: &mut [u8]) -> Result<Size, Refusal> {
-    match call(script, records) {
+fn write_by(entry: Entry, script: &[u8], records: &mut [u8]) -> Result<Size, Refusal> {
+    match call(entry, script, records) {
         (0, _, size) => Ok(size),
         (number, place, _) => Err(Refusal { number, place }),
     }
 }
 
+fn tokenize_by(entry: Entry, script: &[u8]) -> Result<Tokens<'_>, Refusal> {
+    let need = measure_by(entry, script)?;
+    let mut records = vec![0; need.bytes as usize];
+    let size = write_by(entry, script, &mut records)?;
+    Ok(Tokens { script, records, count: size.count })
+}
+
+/// Measures a script: the size of its records, or why it is refused. Nothing is written.
+pub fn measure(script: &[u8]) -> Result<Size, Refusal> {
+    measure_by(sys::ergo_tokenize, script)
+}
+
+/// Writes the records of a script into `records`, from its start on. The bytes past them keep their values; on a refusal all bytes do. Where
+/// the records need more than was lent the refusal is 19, and [`measure`] tells the need.
+pub fn write(script: &[u8], records: &mut [u8]) -> Result<Size, Refusal> {
+    write_by(sys::ergo_tokenize, script, records)
+}
+
 /// The tokens of a script, or why it is refused. It measures first, and then lends just the bytes that the records need.
 pub fn tokenize(script: &[u8]) -> Result<Tokens<'_>, Refusal> {
-    let need = measure(script)?;
-    let mut records = vec![0; need.bytes as usize];
-    let size = write(script, &mut records)?;
-    Ok(Tokens { script, records, count: size.count })
+    tokenize_by(sys::ergo_tokenize, script)
+}
+
+/// The tokens of a contact, which is a script of at most [`CONTACT_BYTES`] bytes with at most [`CONTACT_TOKENS`] tokens, or why it is refused: as by
+/// [`tokenize`], or by 27 for its bytes and 28 for its tokens.
+///
+/// ```
+/// assert_eq!(ergo_token::tokenize_contact(b"x = 7").expect("a refusal").count(), 4);
+/// assert_eq!(ergo_token::tokenize_contact(&[b' '; 4097]).unwrap_err().number, 27);
+/// assert_eq!(ergo_token::tokenize_contact(&[b';'; 512]).unwrap_err().number, 28);
+/// ```
+pub fn tokenize_contact(script: &[u8]) -> Result<Tokens<'_>, Refusal> {
+    tokenize_by(sys::ergo_tokenize_contact, script)
 }
 
 /// The text of the script from `start` to `end` (`end` not included), or refusal 21 where `start` is past `end`, `end` is past the script, or

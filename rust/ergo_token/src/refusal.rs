@@ -6,8 +6,9 @@ use std::fmt;
 pub struct Refusal {
     /// 1 to 16: the script is no sequence of tokens. 17: it is too long. 18: it is not UTF-8. 19, of [`write`](crate::write) only: too few bytes
     /// were lent. 21: of [`token_text`](crate::token_text) only. 22 to 24, of [`Roll::read`](crate::Roll::read) only: the stored roll can't be
-    /// read. 25, where a position is asked for: the place is past the script's end or inside a character. (20, a wrong answer block, and 26, too
-    /// few numbers for the index of lines, do not occur here.)
+    /// read. 25, where a position is asked for: the place is past the script's end or inside a character. 27 and 28, of
+    /// [`tokenize_contact`](crate::tokenize_contact) only: the contact has too many bytes or tokens. (20, a wrong answer block, and 26, too few
+    /// numbers for the index of lines, do not occur here.)
     pub number: u32,
     /// A byte offset from 0 into the script, or for 22 to 24 into the roll, modulo 2^32; 0 where the header names none.
     pub place: u32,
@@ -70,6 +71,11 @@ impl Refusal {
                 "ask for the place of a token or of a refusal of this script, or for its length",
             ),
             26 => ("the script has more lines than numbers were lent for their starts", "lend as many numbers as there are lines"),
+            27 => ("the contact has more than 4096 bytes", "shorten it to 4096 bytes"),
+            28 => (
+                "the contact has more than 512 tokens, line ends and the script's end included",
+                "use fewer tokens; joining lines, for instance, saves one for each",
+            ),
             _ => ("the library's header knows no such refusal", "link the libergo.a that this wrapper was written for"),
         }
     }

@@ -1,4 +1,4 @@
-use crate::{position, tokenize, Lines, Refusal, Token, TokenKind, Tokens};
+use crate::{position, tokenize, tokenize_contact, Lines, Refusal, Token, TokenKind, Tokens};
 use std::io::{self, Write};
 
 // At most so many characters of a token's text, and so many of a line on each side of the caret.
@@ -151,14 +151,23 @@ fn refused(out: &mut impl Write, script: &[u8], refusal: Refusal) -> io::Result<
     writeln!(out, "{} | {}{}{cr}^", blanks(&number), blanks(more_before), blanks(&before))
 }
 
-/// Writes the tokens of a script for its author, one to a line: line and column (both from 1, the column in characters), kind, text, value. A
-/// token that carries the cut is marked, with the line end that is hard by it. For a refused script: number, place, line and column, what
-/// was met, what to do, and the line with a caret. Answers whether the script is accepted.
-pub fn view(out: &mut impl Write, script: &[u8]) -> io::Result<bool> {
-    let answer = tokenize(script).and_then(|tokens| Ok((tokens, Lines::index(script)?)));
+fn view_by(out: &mut impl Write, script: &[u8], tokens: Result<Tokens<'_>, Refusal>) -> io::Result<bool> {
+    let answer = tokens.and_then(|tokens| Ok((tokens, Lines::index(script)?)));
     match &answer {
         Ok((tokens, lines)) => accepted(out, tokens, lines)?,
         Err(refusal) => refused(out, script, *refusal)?,
     }
     Ok(answer.is_ok())
+}
+
+/// Writes the tokens of a script for its author, one to a line: line and column (both from 1, the column in characters), kind, text, value. A
+/// token that carries the cut is marked, with the line end that is hard by it. For a refused script: number, place, line and column, what
+/// was met, what to do, and the line with a caret. Answers whether the script is accepted.
+pub fn view(out: &mut impl Write, script: &[u8]) -> io::Result<bool> {
+    view_by(out, script, tokenize(script))
+}
+
+/// As [`view`], of a contact.
+pub fn view_contact(out: &mut impl Write, script: &[u8]) -> io::Result<bool> {
+    view_by(out, script, tokenize_contact(script))
 }

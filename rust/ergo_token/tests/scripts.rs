@@ -1,5 +1,6 @@
 // The wrapper on the examples of RULES (docs/RULES.md): the header's and the C example's script, the listing, the twelve marked scripts, and each refusal's.
-use ergo_token::{measure, record_bound, token_text, tokenize, view, write, Kw, Refusal, Size, Token, TokenKind};
+use ergo_token::{measure, record_bound, token_text, tokenize, tokenize_contact, view, view_contact, write, Kw, Refusal, Size, Token, TokenKind};
+use ergo_token::{CONTACT_BYTES, CONTACT_RECORDS, CONTACT_TOKENS, SCRIPT_LIMIT};
 use ergo_token::{INT_LIT_LENGTH, LONG_LIT_LENGTH, NEWLINE_LENGTH, RECORD_HEAD, STR_LENGTH};
 
 // The record bytes of `a`: an identifier and Eof.
@@ -142,6 +143,30 @@ fn too_long() {
 }
 
 #[test]
+fn contacts() {
+    // Both bounds themselves are taken; the compiler takes more.
+    let (commas, spaces) = ([b','; CONTACT_TOKENS], [b' '; CONTACT_BYTES + 1]);
+    let number = |script: &[u8]| tokenize_contact(script).map(|tokens| tokens.count()).map_err(|refusal| (refusal.number, refusal.place));
+    assert_eq!((number(&commas[1..]), number(&commas)), (Ok(CONTACT_TOKENS), Err((28, 0))));
+    assert_eq!((number(&spaces[1..]), number(&spaces)), (Ok(1), Err((27, 0))));
+    assert_eq!(tokens(std::str::from_utf8(&commas).unwrap()).len(), CONTACT_TOKENS + 1);
+    assert_eq!(tokens(std::str::from_utf8(&spaces).unwrap()).len(), 1);
+    // Bytes count, and not characters.
+    assert_eq!(number(&[&spaces[2..], "\u{E9}".as_bytes()].concat()), Err((27, 0)));
+    // 27 goes before 18, and 28 behind 1 to 16.
+    assert_eq!((number(&[0xFF; 5000]), number(&[0xFF; CONTACT_BYTES])), (Err((27, 0)), Err((18, 0))));
+    assert_eq!(number(&[&commas[..], &commas, b"\""].concat()), Err((7, 2 * CONTACT_TOKENS as u32 + 1)));
+    assert_eq!(number(&vec![b' '; SCRIPT_LIMIT + 1]), Err((17, 0)));
+    // What is enough for every contact is just enough for this one.
+    let most = b"0L".repeat(CONTACT_TOKENS - 1);
+    assert_eq!(tokenize_contact(&most).unwrap().records().len(), CONTACT_RECORDS);
+    // Otherwise the answers are the same.
+    for script in ["", "x = 7 // n\n\"a\"", "a\rb", "\"str", "'(x"] {
+        assert_eq!(tokenize_contact(script.as_bytes()), tokenize(script.as_bytes()));
+    }
+}
+
+#[test]
 fn short_buffer() {
     let mut lent = [0xAA; BYTES_OF_A - 1];
     assert_eq!(write(b"a", &mut lent), Err(Refusal { number: 19, place: 0 }));
@@ -211,8 +236,8 @@ fn every_kind() {
 #[test]
 fn every_number_has_words() {
     let of = |number| Refusal { number, place: 3 };
-    let unknown = of(27);
-    for number in 1..=26 {
+    let unknown = of(29);
+    for number in 1..=28 {
         assert_ne!(of(number).meaning(), unknown.meaning());
         assert_ne!(of(number).advice(), unknown.advice());
         for other in 1..number {
@@ -265,6 +290,13 @@ fn view_of_a_refused_script() {
         let refusal = tokenize(script).unwrap_err();
         assert!(text.contains(refusal.meaning()) && text.contains(refusal.advice()), "{text}");
     }
+    // A contact is viewed likewise, with its own limits.
+    let mut out = Vec::new();
+    assert!(!view_contact(&mut out, &[b','; CONTACT_TOKENS]).unwrap());
+    let refusal = tokenize_contact(&[b','; CONTACT_TOKENS]).unwrap_err();
+    let head = format!("refused 28 at 0: line 1, column 1\nmet: {}\ndo:  {}\n1 | ,,,", refusal.meaning(), refusal.advice());
+    assert!(String::from_utf8(out).unwrap().starts_with(&head));
+    assert!(view_contact(&mut Vec::new(), b"x = 7").unwrap());
     // Long lines are shown about the caret.
     let long = format!("{}\u{20AC}{}", "a".repeat(300), "b".repeat(300));
     let line = format!("1 | ... {}\u{20AC}{} ...\n  | {:64}^\n", "a".repeat(60), "b".repeat(59), "");
