@@ -541,8 +541,10 @@ uint32_t peer_tokenize(const uint8_t *script, size_t n, uint8_t *records, size_t
     return (n <= SMALL ? by_stack : by_heap)(script, n, records, m, answer);
 }
 
-// bench/peer-check compares the peer in the place of the library, which has a second function.
+// bench/peer-check compares the peer in the place of the library, which has two more functions.
 #ifdef IN_PLACE_OF_ERGO
+enum { CONTACT_BYTES = 4096, CONTACT_TOKENS = 512 };
+
 static int inside(const uint8_t *script, size_t n, uint32_t at)
 {
     return at < n && (script[at] & 0xC0) == 0x80;
@@ -550,6 +552,19 @@ static int inside(const uint8_t *script, size_t n, uint32_t at)
 
 uint32_t ergo_tokenize(const uint8_t *script, size_t n, uint8_t *records, size_t m, uint8_t *answer, size_t k)
 {
+    return peer_tokenize(script, n, records, m, answer, k);
+}
+
+// The library has limits as an argument; this one measures first, since no contact is timed.
+uint32_t ergo_tokenize_contact(const uint8_t *script, size_t n, uint8_t *records, size_t m, uint8_t *answer, size_t k)
+{
+    Answer need;
+    if (k != BLOCK) return 20;
+    if (n > CONTACT_BYTES && n <= SCRIPT_LIMIT) return tell((Answer){27, 0, 0, 0}, NULL, NULL, 0, answer);
+    if (peer_tokenize(script, n, NULL, 0, answer, k) == 19) {
+        memcpy(&need, answer, BLOCK);
+        if (need.count > CONTACT_TOKENS) return tell((Answer){28, 0, 0, 0}, NULL, NULL, 0, answer);
+    }
     return peer_tokenize(script, n, records, m, answer, k);
 }
 
