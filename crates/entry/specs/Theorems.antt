@@ -51,5 +51,5 @@ pub record CompilerTheorems (script buffer block : List ℕ) : Type 0 where
 
 -- Of a contact's limits: no contact needs more than 10,744 record bytes, and a host that lends them is never refused by 19.
 pub record ContactTheorems (script buffer block : List ℕ) : Type 0 where
-  pub need : (ts : List Token) → TokensOf script ts → tokenCount ts ≤ 512 → recordBytes ts ≤ contactNeed
+  pub need : (ts : List Token) → TokensOf script ts → IfSome contact.tokens (λ most. tokenCount ts ≤ most) → recordBytes ts ≤ contactNeed
   pub lent-enough : WellFormed script → contactNeed ≤ length buffer → length block ≡ 16 → Accepts contact script buffer block

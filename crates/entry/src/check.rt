@@ -8,8 +8,8 @@ use crate::refusal::{Refusal, Refused};
 pub const MOST_BYTES: usize = 16777216;
 
 /// 17, at 0, where the script is too long whatever the limit; 27, at 0, where it has more bytes than the limit; 18, at the length of its longest valid
-/// prefix, where it is not UTF-8. Compiled into each caller: a short script pays for the call.
-#[inline(always)]
+/// prefix, where it is not UTF-8.
+#[inline(always)] // for short scripts: a call hands its answer on through memory
 #[tactic(auto, unfolding(crate::specs::computed::Check::checkOf))]
 pub fn check_text(script: &[u8], most: usize) -> Result<(), Refused>
     ensures value { result ≡ checkOf most script.now }

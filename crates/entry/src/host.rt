@@ -73,7 +73,7 @@ fn tokenize_by(
 }
 
 // The same with a buffer of so many bytes on the stack, which is cleared in each call: a short script has a small one. Out of line, since the buffers
-// of all three sizes lie in one frame where these functions are compiled into their caller.
+// of all three sizes lie in one frame where these functions are compiled into their caller. The limits are lent: by value they would be copied here.
 #[inline(never)]
 fn tokenize_with<const BYTES: usize>(
     script: &[u8],
@@ -89,15 +89,10 @@ fn tokenize_with<const BYTES: usize>(
     tokenize_by(&mut scratch, script, records, answer, limits)
 }
 
-/// The number is 0 where the script is accepted: then the records stand at the buffer's start. Every refusal leaves the buffer as it was.
-/// The first clause gives the number and every lent byte for all limits and lengths; the second says what follows: that these are what is declared,
-/// that a host which lends enough is refused only where there is no reading or a limit is not kept, and the examples of RULES and REQUESTS.
-pub fn tokenize_within(
-    script: &[u8],
-    records: &mut [u8],
-    answer: &mut [u8],
-    limits: &Limits,
-) -> u32
+/// Tokenizes a script within limits. The number is 0 where it is accepted: then the records stand at the buffer's start. Every refusal leaves the
+/// buffer as it was. The first clause gives the number and every lent byte for all limits and lengths; the second says what follows: that these are what
+/// is declared, that a host which lends enough is refused only where there is no reading or a limit is not kept, and the examples of RULES and REQUESTS.
+pub fn tokenize_within(script: &[u8], records: &mut [u8], answer: &mut [u8], limits: &Limits) -> u32
     ensures answer_after { seen result records.new answer.new ≡ hostFor limits.now script.now records.old answer.old }
     ensures host_theorems { HostTheorems limits.now script.now records.old answer.old }
 {
@@ -113,7 +108,7 @@ pub fn tokenize_within(
     tokenize_with::<LONG_SCRATCH>(script, records, answer, limits)
 }
 
-/// The compiler's: 16,777,216 bytes, and no limit for tokens.
+/// Tokenizes a script for the compiler: of at most 16,777,216 bytes, with any number of tokens.
 #[tactic(auto, using(crate::proofs::theorems::Hosts::compiler_theorems))]
 pub fn tokenize(script: &[u8], records: &mut [u8], answer: &mut [u8]) -> u32
     ensures answer_after { seen result records.new answer.new ≡ hostOf script.now records.old answer.old }
@@ -123,7 +118,7 @@ pub fn tokenize(script: &[u8], records: &mut [u8], answer: &mut [u8]) -> u32
     tokenize_within(script, records, answer, &Limits::COMPILER)
 }
 
-/// The address book's: 4,096 bytes and 512 tokens. 10,744 bytes are enough for the records.
+/// Tokenizes a contact, which is an entry of the address book: of at most 4,096 bytes, with at most 512 tokens. 10,744 bytes are enough for its records.
 #[tactic(auto, using(crate::proofs::theorems::Hosts::contact_theorems))]
 pub fn tokenize_contact(script: &[u8], records: &mut [u8], answer: &mut [u8]) -> u32
     ensures answer_after { seen result records.new answer.new ≡ hostFor contact script.now records.old answer.old }

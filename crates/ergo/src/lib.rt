@@ -24,11 +24,7 @@ pub extern "C" fn ergo_tokenize(script: &[u8], records: &mut [u8], answer: &mut 
 }
 
 #[unsafe(no_mangle)]
-pub extern "C" fn ergo_tokenize_contact(
-    script: &[u8],
-    records: &mut [u8],
-    answer: &mut [u8],
-) -> u32
+pub extern "C" fn ergo_tokenize_contact(script: &[u8], records: &mut [u8], answer: &mut [u8]) -> u32
     ensures answer_after { seen result records.new answer.new ≡ hostFor contact script.now records.old answer.old }
     ensures host_theorems { HostTheorems contact script.now records.old answer.old }
     ensures contact_theorems { ContactTheorems script.now records.old answer.old }

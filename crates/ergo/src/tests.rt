@@ -52,16 +52,34 @@ fn tokenizes_contact(rt: HostRuntime) {
     let spaces = [b' '; 4097];
     let mut records = [9u8; 6670];
     let mut answer = [9u8; 16];
-    assert_eq!(rt; ergo_tokenize_contact(&commas[1..], &mut records, &mut answer), 0);
+    assert_eq!(rt;
+        ergo_tokenize_contact(&commas[1..], &mut records, &mut answer),
+        0
+    );
     assert_eq!(rt; answer, [0, 0, 0, 0, 0, 0, 0, 0, 0, 2, 0, 0, 0, 26, 0, 0]);
-    assert_eq!(rt; &records[6643..], &[0x0D, 0, 0x12, 0, 0xFF, 1, 0, 0, 0xFF, 1, 0, 0, 0, 9, 9, 9, 9, 9, 9, 9, 9, 9, 9, 9, 9, 9, 9][..]);
+    assert_eq!(rt;
+        &records[6643..],
+        &[
+            0x0D, 0, 0x12, 0, 0xFF, 1, 0, 0, 0xFF, 1, 0, 0, 0, 9, 9, 9, 9, 9, 9, 9, 9, 9, 9, 9, 9,
+            9, 9
+        ][..]
+    );
     let before = records;
-    assert_eq!(rt; ergo_tokenize_contact(&commas, &mut records, &mut answer), 28);
+    assert_eq!(rt;
+        ergo_tokenize_contact(&commas, &mut records, &mut answer),
+        28
+    );
     assert_eq!(rt; answer, [28, 0, 0, 0, 0, 0, 0, 0, 0, 0, 0, 0, 0, 0, 0, 0]);
-    assert_eq!(rt; ergo_tokenize_contact(&spaces, &mut records, &mut answer), 27);
+    assert_eq!(rt;
+        ergo_tokenize_contact(&spaces, &mut records, &mut answer),
+        27
+    );
     assert_eq!(rt; answer, [27, 0, 0, 0, 0, 0, 0, 0, 0, 0, 0, 0, 0, 0, 0, 0]);
     assert_eq!(rt; records, before);
-    assert_eq!(rt; ergo_tokenize_contact(&spaces[1..], &mut records, &mut answer), 0);
+    assert_eq!(rt;
+        ergo_tokenize_contact(&spaces[1..], &mut records, &mut answer),
+        0
+    );
     assert_eq!(rt; ergo_tokenize(&spaces, &mut records, &mut answer), 0);
     assert_eq!(rt; ergo_tokenize_contact(&commas, &mut [], &mut []), 20);
 }

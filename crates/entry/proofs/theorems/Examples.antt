@@ -10,7 +10,7 @@ pub examples : Examples
 unfolding entered hosted verdict checkOf tokenText hasText
 examples = record {
   scripts-hold = refl;
-  too-long = λ s room long. rw long;
+  too-long = λ limits s room long. rw long;
   contact-bytes = refl;
   contact-tokens = refl;
   contact-met = refl;

@@ -186,8 +186,8 @@ module _ (limits : Limits) (script buffer block : List ℕ) where
         one-reading = (theorems script).one-reading;
         has-tokens = λ ps h. let c = complete script ps h in (c.0, c.2);
         writes = λ ps ts h t m f.
-          let k : TokensOf script ts = record { pieces = ps; reading = h; tokens = t } in
-          sees-only (Sees.accepted (read-as ts k m f) (room ts k f));
+            let k : TokensOf script ts = record { pieces = ps; reading = h; tokens = t } in
+            sees-only (Sees.accepted (read-as ts k m f) (room ts k f));
       }
     where
       read-as : (ts : List Token) → TokensOf script ts → length script ≤ limits.bytes → IfSome limits.tokens (λ most. tokenCount ts ≤ most)
@@ -207,7 +207,7 @@ module _ (limits : Limits) (script buffer block : List ℕ) where
         numbers = number-by sees-host;
         script-theorems = theorems script;
         lent-enough = λ small L. accepts small L.utf8 L.sixteen
-          (λ ts k f. let n = need script ts (answer-tokens script ts k) in let room = L.room in omega arith);
+            (λ ts k f. let n = need script ts (answer-tokens script ts k) in let room = L.room in omega arith);
         examples = examples;
       }
 
@@ -229,12 +229,11 @@ module _ (script buffer block : List ℕ) where
       record {
         numbers = compiler-by (sees-host compiler script buffer block);
         exactly = λ L l.
-          let a = (host-theorems compiler script buffer block).lent-enough (omega arith) L in
-          (
-            (λ z. let k = a.exactly.0 z in (k.tokensOf.pieces, k.tokensOf.reading)),
-            λ h. let c = complete script h.0 h.1 in
-              a.exactly.1 (record { within = l; tokens = c.0; tokensOf = record { pieces = h.0; reading = h.1; tokens = c.2 }; few = tt }),
-          );
+            let a = (host-theorems compiler script buffer block).lent-enough (omega arith) L in (
+              (λ z. let k = a.exactly.0 z in (k.tokensOf.pieces, k.tokensOf.reading)),
+              λ h. let c = complete script h.0 h.1 in
+                  a.exactly.1 (record { within = l; tokens = c.0; tokensOf = record { pieces = h.0; reading = h.1; tokens = c.2 }; few = tt }),
+            );
       }
 
   pub contact_theorems : ContactTheorems script buffer block
@@ -242,5 +241,5 @@ module _ (script buffer block : List ℕ) where
       record {
         need = λ ts k f. contact-need ts (last-eof script ts k) f;
         lent-enough = λ utf8 room e. accepts contact script buffer block (omega arith) utf8 e
-          (λ ts k f. let n = contact-need ts (last-eof script ts k) f in omega arith);
+            (λ ts k f. let n = contact-need ts (last-eof script ts k) f in omega arith);
       }

@@ -13,7 +13,7 @@ pieceRefused e = record { what = refusal.Piece e.what; place = e.place }
 -- the refusal that has the number j; for a number that none has, a piece's last
 unfoldable pub refusalBy : ℕ → Refusal
 refusalBy j =
-    let small = if j == 28 then refusal.TooManyTokens else refusal.Piece (piece.refusalBy j) in
-    let over = if j == 27 then refusal.OverLimit else small in
-    let utf8 = if j == 18 then refusal.NotUtf8 else over in
-    if j == 17 then refusal.TooLong else utf8
+    if j == 17 then refusal.TooLong else
+    if j == 18 then refusal.NotUtf8 else
+    if j == 27 then refusal.OverLimit else
+    if j == 28 then refusal.TooManyTokens else refusal.Piece (piece.refusalBy j)

@@ -7,6 +7,7 @@ use Rattle.chars.specs.computed.Encoded.{script}
 use Rattle.token.specs.paper.Records.{mostBytes, mostNeed}
 use Rattle.token.specs.computed.Listing.{holdBy}
 use Rattle.token.specs.computed.Examples.{marked, listingExample, refusalExamples, tieExamples, traps}
+use Rattle.entry.specs.declared.limits.Limits.{Limits}
 use Rattle.entry.specs.paper.Limits.{compiler, contact, contactNeed}
 use Rattle.entry.specs.paper.Host.{seen}
 use Rattle.entry.specs.computed.Host.{rejected, verdict}
@@ -20,8 +21,8 @@ illFormed = (0x61 ∷ 0xC0 ∷ 0x80 ∷ []) ∷ (0xED ∷ 0xA0 ∷ 0x80 ∷ []) 
 pub record Examples : Type 0 where
   -- the twelve marked scripts, the listing's example, refusals 1 to 16, ties and traps: by the listing of a script
   pub scripts-hold : IsTrue (holdBy entered (marked ++ listingExample ++ refusalExamples ++ tieExamples ++ traps))
-  -- 17, for every script that is so long
-  pub too-long : (s : List ℕ) (room : ℕ) → IsTrue (nat_lt mostBytes (length s)) → verdict compiler s room ≡ rejected 17 0
+  -- 17, for every script that is so long, whatever the limits
+  pub too-long : (limits : Limits) (s : List ℕ) (room : ℕ) → IsTrue (nat_lt mostBytes (length s)) → verdict limits s room ≡ rejected 17 0
   -- 18: the place is the length of the longest valid prefix
   pub not-utf8 : map entered illFormed
       ≡ map codes ("refused 18 at 1\n" ∷ "refused 18 at 0\n" ∷ "refused 18 at 1\n" ∷ "refused 18 at 1\n" ∷ [])
@@ -39,10 +40,10 @@ pub record Examples : Type 0 where
   -- The bound on the record bytes is met: with nothing lent the empty script is told all 13 of it, and `1` all 30.
   pub bound-met : map (λ s. hosted compiler s [] (replicate 16 9)) (script "" ∷ script "1" ∷ [])
       ≡ seen 19 [] (blockOf 19 0 1 (mostNeed 0)) ∷ seen 19 [] (blockOf 19 0 2 (mostNeed 1)) ∷ []
-  -- 27: a contact of 4,097 bytes, also where they are no UTF-8; of 4,096, which no token starts with, it is not met
+  -- 27: a contact of 4,097 bytes, UTF-8 or not; of 4,096 that are not, 18
   pub contact-bytes : map (λ s. hosted contact s [] (replicate 16 9)) (replicate 4097 0x20 ∷ replicate 4097 0xFF ∷ replicate 4096 0xFF ∷ [])
       ≡ seen 27 [] (blockOf 27 0 0 0) ∷ seen 27 [] (blockOf 27 0 0 0) ∷ seen 18 [] (blockOf 18 0 0 0) ∷ []
-  -- 28: a contact of 512 commas has 513 tokens, and of 511 it has 512; an open string goes before it
+  -- 28: a contact of 512 commas has 513 tokens; of 511 it has 512, and with nothing lent gets 19; an open string goes before 28
   pub contact-tokens : map (λ s. hosted contact s [] (replicate 16 9)) (replicate 512 0x2C ∷ replicate 511 0x2C ∷ (replicate 600 0x2C ++ script "\"") ∷ [])
       ≡ seen 28 [] (blockOf 28 0 0 0) ∷ seen 19 [] (blockOf 19 0 512 6656) ∷ seen 7 [] (blockOf 7 601 0 0) ∷ []
   -- The bound on a contact's record bytes is met: 511 times `0L` are told all 10,744 of it.
