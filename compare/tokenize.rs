@@ -345,7 +345,7 @@ mod compare {
             self.counted(|bench| {
                 bench.call(Entry::Compiler, script, &want, ample, 16, 0);
                 bench.call(Entry::Compiler, script, &want, lent, block, 255);
-                bench.call(Entry::Contact, script, &want, lent, block, 0);
+                bench.call(Entry::Contact, script, &want, lent, block, if number % 2 == 0 { 0 } else { 255 });
             });
         }
 
@@ -404,16 +404,21 @@ mod compare {
 
         fn null_calls(&mut self) {
             let null = std::ptr::null_mut();
-            let mut block = [9u8; 16];
-            let number = unsafe { ergo_tokenize(null, 0, null, 0, block.as_mut_ptr(), 16) };
-            if number != 19 || block != [19, 0, 0, 0, 0, 0, 0, 0, 1, 0, 0, 0, HEAD as u8, 0, 0, 0] {
-                self.note(format!("empty script and buffer at null: {number}, {block:?}"));
+            for tokenize in [ergo_tokenize, ergo_tokenize_contact] {
+                let mut block = [9u8; 16];
+                let number = unsafe { tokenize(null, 0, null, 0, block.as_mut_ptr(), 16) };
+                if number != 19 || block != [19, 0, 0, 0, 0, 0, 0, 0, 1, 0, 0, 0, HEAD as u8, 0, 0, 0] {
+                    self.note(format!("empty script and buffer at null: {number}, {block:?}"));
+                }
+                let number = unsafe { tokenize(null, 0, null, 0, null, 0) };
+                if number != 20 {
+                    self.note(format!("empty block at null: {number}"));
+                }
             }
-            let number = unsafe { ergo_tokenize(null, 0, null, 0, null, 0) };
-            if number != 20 || unsafe { ergo_token_text(null, 0, 0, 0) } != 0 || unsafe { ergo_token_text(null, 0, 0, 1) } != 21 {
-                self.note(format!("empty block or text at null: {number}"));
+            if unsafe { ergo_token_text(null, 0, 0, 0) } != 0 || unsafe { ergo_token_text(null, 0, 0, 1) } != 21 {
+                self.note("empty text at null".into());
             }
-            self.calls += 4;
+            self.calls += 6;
         }
 
         // A script at a contact's limits, by both functions, with what it needs and with what is enough for every contact.
@@ -424,15 +429,17 @@ mod compare {
                 assert!(need <= CONTACT_RECORDS, "a contact needs more than {CONTACT_RECORDS} bytes: {}", shown(script));
                 self.greatest = self.greatest.max(need);
             }
-            self.at(script, &want, &[(need, 16), (need.saturating_sub(1), 16), (0, 16), (CONTACT_RECORDS, 16), (need, 15)]);
+            let lengths = [(need, 16), (need.saturating_sub(1), 16), (0, 16), (CONTACT_RECORDS, 16), (need, 15)];
+            self.at(script, &want, &lengths, 0);
+            self.at(script, &want, &lengths, 255);
         }
 
         // Calls with buffers and blocks of given lengths.
-        pub fn at(&mut self, script: &[u8], want: &Wanted, lengths: &[(usize, usize)]) {
+        pub fn at(&mut self, script: &[u8], want: &Wanted, lengths: &[(usize, usize)], mask: u8) {
             self.counted(|bench| {
                 for &(lent, block) in lengths {
-                    bench.call(Entry::Compiler, script, want, lent, block, 0);
-                    bench.call(Entry::Contact, script, want, lent, block, 0);
+                    bench.call(Entry::Compiler, script, want, lent, block, mask);
+                    bench.call(Entry::Contact, script, want, lent, block, mask);
                 }
             });
         }
@@ -516,6 +523,9 @@ const LOW_CHARACTERS: u64 = 63_488;
 #[cfg(linked)]
 const CHARACTERS: u64 = LOW_CHARACTERS + 0x10_0000 / 61;
 
+// Those of the examples that are refused by 1 to 16, in this order.
+const REFUSED: std::ops::Range<usize> = 21..37;
+
 // The examples of RULES: "Marked scripts", "Refusals of a piece" and "Listing".
 const EXAMPLES: [&str; 44] = [
     "",
@@ -590,9 +600,9 @@ fn long_scripts(bench: &mut compare::Bench) {
         let longest = &script[..script.len().min(LIMIT)];
         let want = wanted(longest);
         let need = want.bytes as usize;
-        bench.at(longest, &want, &[(need, 16), (need.saturating_sub(1), 16), (0, 15)]);
+        bench.at(longest, &want, &[(need, 16), (need.saturating_sub(1), 16), (0, 15)], 0);
         if script.len() > LIMIT {
-            bench.at(script, &wanted(script), &[(64, 16), (0, 16), (0, 15)]);
+            bench.at(script, &wanted(script), &[(64, 16), (0, 16), (0, 15)], 0);
         }
     }
 }
@@ -707,7 +717,7 @@ fn listed_scripts() -> Vec<Vec<u8>> {
 }
 
 // Of the accepted ones every fourth is lent a byte too little, and every fourth a few bytes more than it needs. Every third is a contact, and so are
-// all at the limits of one, which are lent what is enough for every contact.
+// all at the limits of one, which are lent what is enough for every contact, and, where tokenize takes them, a byte too little and nothing.
 fn print_list() {
     let mut out = Vec::new();
     let scripts = listed_scripts();
@@ -722,14 +732,20 @@ fn print_list() {
         put_case(&mut out, entry, script, &want, lent);
     }
     let mut cases = scripts.len();
+    let mut put = |entry, script: &[u8], want: &Wanted, lent| {
+        put_case(&mut out, entry, script, want, lent);
+        cases += 1;
+    };
     for script in &limits::listed() {
         let want = wanted(script);
-        put_case(&mut out, Entry::Contact, script, &want, CONTACT_RECORDS);
-        cases += 1;
+        put(Entry::Contact, script, &want, CONTACT_RECORDS);
+        if want.number == 0 {
+            put(Entry::Contact, script, &want, CONTACT_RECORDS.min(want.bytes as usize - 1));
+            put(Entry::Contact, script, &want, 0);
+        }
         // What the compiler takes beyond them.
         if want.number == 0 && want.number_at(Entry::Contact, CONTACT_RECORDS, 16) != 0 {
-            put_case(&mut out, Entry::Compiler, script, &want, CONTACT_RECORDS);
-            cases += 1;
+            put(Entry::Compiler, script, &want, CONTACT_RECORDS);
         }
     }
     std::io::stdout().write_all(&out).unwrap();

@@ -1,5 +1,5 @@
 -- What is proved of what the host sees, for every limits, script, buffer and block. Proved: proofs/theorems/Hosts.
-use Rattle.std.specs.Prelude.{ℕ, ◌≤◌, ◌≡◌, ◌≢◌, ◌⊎◌, ◌↔◌, List, [], ◌++◌, length, drop, IfSome}
+use Rattle.std.specs.Prelude.{ℕ, ◌≤◌, ◌≡◌, ◌≢◌, ◌⊎◌, ◌↔◌, List, [], ◌++◌, length, drop}
 use Rattle.words.specs.Words.{blockOf}
 use Rattle.chars.specs.paper.Utf8.{WellFormed}
 use Rattle.token.specs.paper.Kinds.{Token}
@@ -7,7 +7,7 @@ use Rattle.token.specs.paper.Reading.{Piece, Reading, Tokens, TokensOf}
 use Rattle.token.specs.paper.Records.{mostBytes, mostNeed, records, tokenCount, recordBytes}
 use Rattle.token.specs.Theorems.{Theorems}
 use Rattle.entry.specs.declared.limits.Limits.{Limits}
-use Rattle.entry.specs.paper.Limits.{contact, contactNeed, Keeps}
+use Rattle.entry.specs.paper.Limits.{contact, contactNeed, Few, Keeps}
 use Rattle.entry.specs.paper.Host.{Seen, seen, numberSeen, bufferSeen, Sees}
 use Rattle.entry.specs.computed.Host.{hostFor, hostOf}
 use Rattle.entry.specs.computed.Examples.{Examples}
@@ -25,7 +25,7 @@ pub record Accepts (limits : Limits) (script buffer block : List ℕ) : Type 0 w
   pub one-reading : (ps qs : List Piece) → Reading script ps → Reading script qs → ps ≡ qs
   pub has-tokens : (ps : List Piece) → Reading script ps → (ts : List Token) × Tokens script [] ps ts
   pub writes : (ps : List Piece) (ts : List Token) → Reading script ps → Tokens script [] ps ts
-      → length script ≤ limits.bytes → IfSome limits.tokens (λ most. tokenCount ts ≤ most)
+      → length script ≤ limits.bytes → Few limits ts
       → hostFor limits script buffer block ≡ seen 0 (records ts ++ drop (recordBytes ts) buffer) (blockOf 0 0 (tokenCount ts) (recordBytes ts))
 
 -- Of what the host sees.
@@ -43,13 +43,15 @@ pub record HostTheorems (limits : Limits) (script buffer block : List ℕ) : Typ
   -- And the examples of RULES and REQUESTS come out as they say.
   pub examples : Examples
 
--- Of the compiler's limits: 27 and 28 are never met, and with enough lent the number is 0 exactly when a reading exists.
+-- Of the compiler's limits: 27 and 28 are never met, and with enough lent the number is 0 exactly when a script of at most 16,777,216 bytes has a
+-- reading.
 pub record CompilerTheorems (script buffer block : List ℕ) : Type 0 where
-  pub numbers : numberSeen (hostOf script buffer block) ≤ 20
-  pub exactly : Lends script buffer block → length script ≤ mostBytes
+  pub compiler-numbers : numberSeen (hostOf script buffer block) ≤ 20
+  pub compiler-exactly : Lends script buffer block → length script ≤ mostBytes
       → (numberSeen (hostOf script buffer block) ≡ 0) ↔ ((ps : List Piece) × Reading script ps)
 
--- Of a contact's limits: no contact needs more than 10,744 record bytes, and a host that lends them is never refused by 19.
+-- Of a contact's limits: no contact needs more than 10,744 record bytes, and a host that lends them is never refused by 19 and has lent enough.
 pub record ContactTheorems (script buffer block : List ℕ) : Type 0 where
-  pub need : (ts : List Token) → TokensOf script ts → IfSome contact.tokens (λ most. tokenCount ts ≤ most) → recordBytes ts ≤ contactNeed
-  pub lent-enough : WellFormed script → contactNeed ≤ length buffer → length block ≡ 16 → Accepts contact script buffer block
+  pub contact-need : (ts : List Token) → TokensOf script ts → Few contact ts → recordBytes ts ≤ contactNeed
+  pub contact-room : contactNeed ≤ length buffer → numberSeen (hostFor contact script buffer block) ≢ 19
+  pub contact-lent : WellFormed script → contactNeed ≤ length buffer → length block ≡ 16 → Accepts contact script buffer block

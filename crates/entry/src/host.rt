@@ -108,7 +108,7 @@ pub fn tokenize_within(script: &[u8], records: &mut [u8], answer: &mut [u8], lim
     tokenize_with::<LONG_SCRATCH>(script, records, answer, limits)
 }
 
-/// Tokenizes a script for the compiler: of at most 16,777,216 bytes, with any number of tokens.
+/// Tokenizes a script for the compiler, as `tokenize_within` says: of at most 16,777,216 bytes, with any number of tokens, else refused by 17.
 #[tactic(auto, using(crate::proofs::theorems::Hosts::compiler_theorems))]
 pub fn tokenize(script: &[u8], records: &mut [u8], answer: &mut [u8]) -> u32
     ensures answer_after { seen result records.new answer.new ≡ hostOf script.now records.old answer.old }
@@ -118,7 +118,8 @@ pub fn tokenize(script: &[u8], records: &mut [u8], answer: &mut [u8]) -> u32
     tokenize_within(script, records, answer, &Limits::COMPILER)
 }
 
-/// Tokenizes a contact, which is an entry of the address book: of at most 4,096 bytes, with at most 512 tokens. 10,744 bytes are enough for its records.
+/// Tokenizes a contact, a script in an entry of the address book, as `tokenize_within` says: of at most 4,096 bytes, with at most 512 tokens, else
+/// refused by 27 or 28. 10,744 bytes are enough for its records.
 #[tactic(auto, using(crate::proofs::theorems::Hosts::contact_theorems))]
 pub fn tokenize_contact(script: &[u8], records: &mut [u8], answer: &mut [u8]) -> u32
     ensures answer_after { seen result records.new answer.new ≡ hostFor contact script.now records.old answer.old }

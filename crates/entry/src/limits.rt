@@ -1,4 +1,4 @@
-// How many bytes and tokens a script may have. REQUESTS, "Limits".
+// How many bytes and tokens a script may have. REQUESTS, "Limits in force".
 ghost use Rattle.std.specs.Prelude.{◌≡◌};
 ghost use Rattle.entry.specs.computed.Host.{tooMany};
 
@@ -18,7 +18,7 @@ impl Limits {
         tokens: None,
     };
 
-    /// A contact's, which is an entry of the address book: 4,096 bytes and 512 tokens.
+    /// Those of a contact, a script in an entry of the address book: 4,096 bytes and 512 tokens.
     pub const CONTACT: Limits = Limits {
         bytes: 4096,
         tokens: Some(512),

@@ -1,4 +1,4 @@
-// The refusals of a script that are met before its records are lent a buffer: 17 and 18 of every script, 1 to 16 of one that is read.
+// The refusals of a script that are met whatever is lent for its records: 17, 27 and 18 of every script, 1 to 16 and 28 of one that is read.
 ghost use Rattle.std.specs.Prelude.{◌≡◌};
 ghost use Rattle.entry.specs.paper.Refusals.{refusalNumber};
 ghost use Rattle.entry.specs.code.Refusal.{pieceRefused};

@@ -57,13 +57,12 @@ fn tokenizes_contact(rt: HostRuntime) {
         0
     );
     assert_eq!(rt; answer, [0, 0, 0, 0, 0, 0, 0, 0, 0, 2, 0, 0, 0, 26, 0, 0]);
+    // Eof, and the 14 bytes more that were lent.
     assert_eq!(rt;
-        &records[6643..],
-        &[
-            0x0D, 0, 0x12, 0, 0xFF, 1, 0, 0, 0xFF, 1, 0, 0, 0, 9, 9, 9, 9, 9, 9, 9, 9, 9, 9, 9, 9,
-            9, 9
-        ][..]
+        &records[6643..6656],
+        &[0x0D, 0, 0x12, 0, 0xFF, 1, 0, 0, 0xFF, 1, 0, 0, 0][..]
     );
+    assert_eq!(rt; &records[6656..], &[9u8; 14][..]);
     let before = records;
     assert_eq!(rt;
         ergo_tokenize_contact(&commas, &mut records, &mut answer),
@@ -76,12 +75,18 @@ fn tokenizes_contact(rt: HostRuntime) {
     );
     assert_eq!(rt; answer, [27, 0, 0, 0, 0, 0, 0, 0, 0, 0, 0, 0, 0, 0, 0, 0]);
     assert_eq!(rt; records, before);
+    assert_eq!(rt; ergo_tokenize_contact(&commas, &mut [], &mut answer), 28);
+    assert_eq!(rt;
+        ergo_tokenize_contact(&commas[1..], &mut [], &mut answer),
+        19
+    );
+    assert_eq!(rt; ergo_tokenize_contact(&commas, &mut [], &mut []), 20);
     assert_eq!(rt;
         ergo_tokenize_contact(&spaces[1..], &mut records, &mut answer),
         0
     );
     assert_eq!(rt; ergo_tokenize(&spaces, &mut records, &mut answer), 0);
-    assert_eq!(rt; ergo_tokenize_contact(&commas, &mut [], &mut []), 20);
+    assert_eq!(rt; ergo_tokenize(&commas, &mut records, &mut answer), 0);
 }
 
 #[test]

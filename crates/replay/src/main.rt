@@ -6,7 +6,7 @@
 //     the script's length
 //     how many bytes are lent for the records
 //     0 where tokenize is to answer, any other where tokenize_contact is
-//     the answer block that the published tokenize's answer gives, and 27 or 28: number, place, token count, record bytes
+//     the answer block, number, place, token count and record bytes: what the published tokenize answers, or 27 or 28
 //     the script
 //     where the number is 0, the records: as many bytes as the block says
 //

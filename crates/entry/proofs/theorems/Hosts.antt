@@ -20,7 +20,7 @@ use Rattle.token.specs.paper.Records.{tokenCount, recordBytes, mostBytes}
 use Rattle.token.specs.computed.Answer.{Answer, answer}
 use Rattle.entry.specs.declared.limits.Limits.{Limits}
 use Rattle.entry.specs.declared.refusal.Refused.{Refused}
-use Rattle.entry.specs.paper.Limits.{compiler, contact, Keeps}
+use Rattle.entry.specs.paper.Limits.{compiler, contact, contactNeed, Few, Keeps}
 use Rattle.entry.specs.paper.Host.{Seen, seen, numberSeen, bufferSeen, Clean, Read, Sees}
 use Rattle.entry.specs.computed.Host.{granted, rejected, lacking, tooMany, Verdict, byRoom, verdict, seenOf, hostFor}
 use Rattle.entry.specs.Theorems.{HostTheorems, CompilerTheorems, ContactTheorems, Accepts}
@@ -175,7 +175,7 @@ module _ (limits : Limits) (script buffer block : List ℕ) where
 
   -- where the lent bytes are enough for every reading that keeps the limits
   pub accepts : limits.bytes ≤ mostBytes → WellFormed script → length block ≡ 16
-      → ((ts : List Token) → TokensOf script ts → IfSome limits.tokens (λ most. tokenCount ts ≤ most) → recordBytes ts ≤ length buffer)
+      → ((ts : List Token) → TokensOf script ts → Few limits ts → recordBytes ts ≤ length buffer)
       → Accepts limits script buffer block
   accepts small utf8 e room =
       record {
@@ -190,7 +190,7 @@ module _ (limits : Limits) (script buffer block : List ℕ) where
             sees-only (Sees.accepted (read-as ts k m f) (room ts k f));
       }
     where
-      read-as : (ts : List Token) → TokensOf script ts → length script ≤ limits.bytes → IfSome limits.tokens (λ most. tokenCount ts ≤ most)
+      read-as : (ts : List Token) → TokensOf script ts → length script ≤ limits.bytes → Few limits ts
           → Read limits script block ts
       read-as ts k m f =
           record {
@@ -227,8 +227,8 @@ module _ (script buffer block : List ℕ) where
   pub compiler_theorems : CompilerTheorems script buffer block
   compiler_theorems =
       record {
-        numbers = compiler-by (sees-host compiler script buffer block);
-        exactly = λ L l.
+        compiler-numbers = compiler-by (sees-host compiler script buffer block);
+        compiler-exactly = λ L l.
             let a = (host-theorems compiler script buffer block).lent-enough (omega arith) L in (
               (λ z. let k = a.exactly.0 z in (k.tokensOf.pieces, k.tokensOf.reading)),
               λ h. let c = complete script h.0 h.1 in
@@ -239,7 +239,21 @@ module _ (script buffer block : List ℕ) where
   pub contact_theorems : ContactTheorems script buffer block
   contact_theorems =
       record {
-        need = λ ts k f. contact-need ts (last-eof script ts k) f;
-        lent-enough = λ utf8 room e. accepts contact script buffer block (omega arith) utf8 e
-            (λ ts k f. let n = contact-need ts (last-eof script ts k) f in omega arith);
+        contact-need = needs;
+        contact-room = λ room. room-by room (sees-host contact script buffer block);
+        contact-lent = λ utf8 room e. accepts contact script buffer block (omega arith) utf8 e
+            (λ ts k f. let n = needs ts k f in omega arith);
       }
+    where
+      needs : (ts : List Token) → TokensOf script ts → Few contact ts → recordBytes ts ≤ contactNeed
+      needs ts k f = contact-need ts (last-eof script ts k) f
+
+      room-by : contactNeed ≤ length buffer → {x : Seen} → Sees contact script buffer block x → numberSeen x ≡ 19 → ⊥
+      room-by room (Sees.twenty n) h = omega arith
+      room-by room (Sees.seventeen e l) h = omega arith
+      room-by room (Sees.twentySeven e l m) h = omega arith
+      room-by room (Sees.eighteen z v m) h = omega arith
+      room-by room (Sees.refused c k) h = let r = met-range k.first.met in let z = r.1 in omega arith
+      room-by room (Sees.twentyEight c k m) h = omega arith
+      room-by room (Sees.nineteen {ts} r m) h = let n = needs ts r.tokensOf r.few in omega arith
+      room-by room (Sees.accepted r m) h = omega arith

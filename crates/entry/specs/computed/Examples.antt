@@ -1,4 +1,4 @@
--- The examples of RULES: by the listing of a script, by what the host sees, and of token text. `HostTheorems` asks for them.
+-- The examples of RULES and REQUESTS: by the listing of a script, by what the host sees, and of token text. `HostTheorems` asks for them.
 use Rattle.std.specs.Prelude.{ℕ, ◌≡◌, IsTrue, List, [], ◌∷◌, ◌++◌, map, length, replicate, nat_lt}
 use Rattle.std.specs.List.{repeat}
 use Rattle.words.specs.Words.{blockOf}

@@ -1,5 +1,5 @@
 -- What the host sees: RULES, "Refusals of a call", "Order of refusals" and "Answer"; REQUESTS, "Limits".
-use Rattle.std.specs.Prelude.{ℕ, ◌≤◌, ◌<◌, ◌≡◌, ◌≢◌, List, ◌++◌, length, drop, IfSome, IsSomeAnd}
+use Rattle.std.specs.Prelude.{ℕ, ◌≤◌, ◌<◌, ◌≡◌, ◌≢◌, List, ◌++◌, length, drop, IsSomeAnd}
 use Rattle.chars.specs.paper.Utf8.{WellFormed, LongestValid}
 use Rattle.token.specs.paper.Kinds.{Token}
 use Rattle.token.specs.paper.Reading.{TokensOf}
@@ -7,6 +7,7 @@ use Rattle.token.specs.paper.Refusals.{Refused}
 use Rattle.token.specs.paper.Records.{mostBytes, records, tokenCount, recordBytes}
 use Rattle.words.specs.Words.{blockOf}
 use Rattle.entry.specs.declared.limits.Limits.{Limits}
+use Rattle.entry.specs.paper.Limits.{Few}
 
 -- what the host sees afterwards: the number handed back, the records buffer and the answer block
 pub data Seen : Type 0 where
@@ -18,10 +19,10 @@ numberSeen (seen j buffer block) = j
 abbrev pub bufferSeen : Seen → List ℕ
 bufferSeen (seen j buffer block) = buffer
 
--- RULES, "Order of refusals", and REQUESTS, "Limits": "20, then 17, 27, 18, the first of 1 to 16, then 28 and 19." What is not met before each of them, step by
--- step.
+-- RULES, "Order of refusals": "20, then 17, then 18, then the first of 1 to 16, then 19." REQUESTS, "Refusals by a limit", has two more: "20, then 17, 27, 18,
+-- the first of 1 to 16, then 28 and 19." What is not met before each of them, step by step.
 
--- neither 20, 17 nor 27: "A script of just so many bytes or tokens is within the limits."
+-- neither 20, 17 nor 27. REQUESTS, "Limits in force": "A script of just so many bytes or tokens is within the limits."
 pub record Sized (limits : Limits) (script block : List ℕ) : Type 0 where
   pub sixteen : length block ≡ 16
   pub in-limit : length script ≤ mostBytes
@@ -36,7 +37,7 @@ pub record Clean (limits : Limits) (script block : List ℕ) : Type 0 where
 pub record Read (limits : Limits) (script block : List ℕ) (ts : List Token) : Type 0 where
   pub clean : Clean limits script block
   pub tokensOf : TokensOf script ts
-  pub few : IfSome limits.tokens (λ most. tokenCount ts ≤ most)
+  pub few : Few limits ts
 
 -- What the host sees, by the refusals and their order. "Every refusal leaves the records buffer as it was."
 pub data Sees (limits : Limits) (script buffer block : List ℕ) : Seen → Type 0 where
@@ -44,18 +45,18 @@ pub data Sees (limits : Limits) (script buffer block : List ℕ) : Seen → Type
   twenty : length block ≢ 16 → Sees limits script buffer block (seen 20 buffer block)
   -- RULES, "Refusals of a call": "the script has more than 16,777,216 bytes"; at 0
   seventeen : length block ≡ 16 → mostBytes < length script → Sees limits script buffer block (seen 17 buffer (blockOf 17 0 0 0))
-  -- REQUESTS, "Limits": "the script has more bytes than the limit in force, and not more than 16,777,216"; at 0
+  -- REQUESTS, "Refusals by a limit": "the script has more bytes than the limit in force, and not more than 16,777,216"; at 0
   twentySeven : length block ≡ 16 → length script ≤ mostBytes → limits.bytes < length script
       → Sees limits script buffer block (seen 27 buffer (blockOf 27 0 0 0))
-  -- "the script is not well-formed UTF-8"; at "the length of the longest valid prefix"
+  -- RULES, "Refusals of a call": "the script is not well-formed UTF-8"; at "the length of the longest valid prefix"
   eighteen : {n : ℕ} → Sized limits script block → LongestValid script n → n < length script
       → Sees limits script buffer block (seen 18 buffer (blockOf 18 n 0 0))
   -- 1 to 16
   refused : {j a : ℕ} → Clean limits script block → Refused script j a → Sees limits script buffer block (seen j buffer (blockOf j a 0 0))
-  -- REQUESTS, "Limits": "the tokens are more than the limit in force, line ends and Eof included"; at 0
+  -- REQUESTS, "Refusals by a limit": "the tokens are more than the limit in force, line ends and Eof included"; at 0
   twentyEight : {ts : List Token} → Clean limits script block → TokensOf script ts → IsSomeAnd limits.tokens (λ most. most < tokenCount ts)
       → Sees limits script buffer block (seen 28 buffer (blockOf 28 0 0 0))
-  -- "the records need more bytes than were lent"; RULES, "Order of refusals": "it tells the token count and the record bytes"
+  -- RULES, "Refusals of a call": "the records need more bytes than were lent"; "Order of refusals": "it tells the token count and the record bytes"
   nineteen : {ts : List Token} → Read limits script block ts → length buffer < recordBytes ts
       → Sees limits script buffer block (seen 19 buffer (blockOf 19 0 (tokenCount ts) (recordBytes ts)))
   -- RULES, "Answer": "On acceptance the records stand at the buffer's start, and bytes behind them keep their values."

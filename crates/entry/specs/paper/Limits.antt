@@ -5,7 +5,7 @@ use Rattle.token.specs.paper.Reading.{TokensOf}
 use Rattle.token.specs.paper.Records.{mostBytes, tokenCount, headLength, longLength}
 use Rattle.entry.specs.declared.limits.Limits.{Limits}
 
--- "The compiler's limit is 16,777,216 bytes, and none for tokens."
+-- REQUESTS, "Limits in force": "The compiler's limit is 16,777,216 bytes; for tokens it has none."
 abbrev pub compiler : Limits
 compiler = record { bytes = mostBytes; tokens = None }
 
@@ -13,13 +13,17 @@ compiler = record { bytes = mostBytes; tokens = None }
 abbrev pub contact : Limits
 contact = record { bytes = 4096; tokens = Some 512 }
 
--- "A script keeps limits where it has a reading, and has no more bytes, and the reading no more tokens, than they say."
+-- no more tokens than the limit, where they have one
+abbrev pub Few : Limits → List Token → Type 0
+Few limits ts = IfSome limits.tokens (λ most. tokenCount ts ≤ most)
+
+-- REQUESTS, "Keeping limits": "A script keeps limits where it has a reading, and has no more bytes, and the reading no more tokens, than they say."
 pub record Keeps (limits : Limits) (script : List ℕ) : Type 0 where
   pub within : length script ≤ limits.bytes
   pub tokens : List Token
   pub tokensOf : TokensOf script tokens
-  pub few : IfSome limits.tokens (λ most. tokenCount tokens ≤ most)
+  pub few : Few limits tokens
 
--- "A contact needs at most 10,744 record bytes: 511 times a LongLit's 21, and Eof's 13."
+-- REQUESTS, "Record bytes of a contact": "A contact needs at most 10,744 record bytes: 511 times a LongLit's 21, and Eof's 13."
 abbrev pub contactNeed : ℕ
 contactNeed = longLength * 511 + headLength
