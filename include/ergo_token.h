@@ -38,14 +38,14 @@ extern "C" {
 uint32_t ergo_tokenize(const uint8_t *script, size_t n, uint8_t *records, size_t m, uint8_t *answer, size_t k);
 
 /* Tokenizes a contact: a script that an entry of the address book holds. What ergo_tokenize says holds here too; only the limits are smaller, and
- * both are themselves allowed. A script of more than ERGO_CONTACT_BYTES bytes is refused by ERGO_OVER_LIMIT (27), one of more than
- * ERGO_CONTACT_TOKENS tokens, line ends and Eof included, by ERGO_TOO_MANY_TOKENS (28). Of both the place is 0, and so are the two numbers behind it.
+ * both are themselves allowed. A script of more than ERGO_CONTACT_BYTES bytes is refused by ERGO_OVER_LIMIT (27), one of more than ERGO_SCRIPT_LIMIT
+ * bytes still by 17. One that would else be accepted, but has more than ERGO_CONTACT_TOKENS tokens, line ends and Eof included, is refused by
+ * ERGO_TOO_MANY_TOKENS (28). Of 27 and 28 the place is 0, and so are the two numbers behind it.
  *
  * The order of refusals is 20, then 17, 27, 18, then the first of 1 to 16, then 28, then 19: 5,000 bytes that are not UTF-8 are refused by 27, and an
  * open string behind 600 tokens by 7. 28 also comes where no buffer is lent.
  *
- * The buffer: ERGO_CONTACT_RECORDS bytes are enough for every contact, so that one call does. Of a script of more than ERGO_CONTACT_BYTES bytes none
- * is read. */
+ * The buffer: ERGO_CONTACT_RECORDS bytes are enough for every contact, so that one call does, and 19 never comes. */
 uint32_t ergo_tokenize_contact(const uint8_t *script, size_t n, uint8_t *records, size_t m, uint8_t *answer, size_t k);
 
 /* Whether the bytes of the script from start to end (end not included) are a text: 0 if so, else ERGO_TOKEN_TEXT (21). A token's text is then
@@ -53,9 +53,9 @@ uint32_t ergo_tokenize_contact(const uint8_t *script, size_t n, uint8_t *records
  * 0xBF. The start and end of every record are answered 0. */
 uint32_t ergo_token_text(const uint8_t *script, size_t n, uint32_t start, uint32_t end);
 
-/* Reads a stored roll, without its script: the n bytes at roll are to be the records of one script, as ergo_tokenize writes them. The answer
- * is 0 where every record can be read and the roll ends with its only Eof; else it is 22, 23 or 24, whichever is met first from the roll's
- * start on. The k bytes at answer are the answer block; k must be ERGO_ANSWER_BYTES. It gets four numbers of 4 bytes each:
+/* Reads a stored roll, without its script: the n bytes at roll are to be the records of one script, as ergo_tokenize or ergo_tokenize_contact writes
+ * them. The answer is 0 where every record can be read and the roll ends with its only Eof; else it is 22, 23 or 24, whichever is met first from the
+ * roll's start on. The k bytes at answer are the answer block; k must be ERGO_ANSWER_BYTES. It gets four numbers of 4 bytes each:
  *
  *     at 0   the number that is handed back
  *     at 4   the place of the refusal: the offset of the record, or as ergo_number says of 24
@@ -143,7 +143,7 @@ uint32_t ergo_line_column(const uint8_t *script, size_t n, const uint32_t *index
 
 #define ERGO_SCRIPT_LIMIT 16777216u /* bytes: a longer script is refused by 17 */
 
-/* Of ergo_tokenize_contact: a script of more bytes is refused by 27, one of more tokens by 28. */
+/* Of ergo_tokenize_contact: more bytes are refused by 27, and more tokens by 28. */
 #define ERGO_CONTACT_BYTES 4096u
 #define ERGO_CONTACT_TOKENS 512u
 
@@ -281,8 +281,8 @@ enum ergo_number {
     ERGO_SHORT_INDEX = 26,       /* 0: fewer numbers were lent than the script has lines; lend as many as ergo_index_lines says at
                                   * ERGO_ANSWER_AT_LINES */
     ERGO_OVER_LIMIT = 27,        /* 0: the contact has more than ERGO_CONTACT_BYTES bytes; shorten it */
-    ERGO_TOO_MANY_TOKENS = 28    /* 0: the contact has more than ERGO_CONTACT_TOKENS tokens, line ends and Eof included; use fewer, by joining lines
-                                  * for instance */
+    ERGO_TOO_MANY_TOKENS = 28    /* 0: the contact has more than ERGO_CONTACT_TOKENS tokens, line ends and Eof included; use fewer, and take out
+                                  * empty lines: each costs a token */
 };
 
 #ifdef __cplusplus

@@ -1,6 +1,6 @@
-// Prints the tokens of a script, one per line: kind, start, end, cut and values; or `refused N at P`. With --contact the script is an entry of the
-// address book, with its limits. With --records it writes the script's records to standard output instead: a roll. With --roll the file is such a roll, and its tokens are printed without the script. With --place
-// it prints the line and the column of a place in the script. hosts/build builds it.
+// Prints the tokens of a script, one per line: kind, start, end, cut and values; or `refused N at P`. With --contact the script is a contact, with
+// its limits. With --records it writes the script's records to standard output instead: a roll. With --roll the file is such a roll, and its tokens
+// are printed without the script. With --place it prints the line and the column of a place in the script. hosts/build builds it.
 use std::ffi::OsStr;
 use std::io::Write;
 use std::path::Path;

@@ -111,45 +111,33 @@ fn call(entry: Entry, script: &[u8], records: &mut [u8]) -> (u32, u32, Size) {
     (number, place, size)
 }
 
-fn measure_by(entry: Entry, script: &[u8]) -> Result<Size, Refusal> {
-    match call(entry, script, &mut []) {
+/// Measures a script: the size of its records, or why it is refused. Nothing is written.
+pub fn measure(script: &[u8]) -> Result<Size, Refusal> {
+    match call(sys::ergo_tokenize, script, &mut []) {
         (19, _, size) => Ok(size),
         (number, place, _) => Err(Refusal { number, place }),
     }
 }
 
-fn write_by(entry: Entry, script: &[u8], records: &mut [u8]) -> Result<Size, Refusal> {
-    match call(entry, script, records) {
+/// Writes the records of a script into `records`, from its start on. The bytes past them keep their values; on a refusal all bytes do. Where
+/// the records need more than was lent the refusal is 19, and [`measure`] tells the need.
+pub fn write(script: &[u8], records: &mut [u8]) -> Result<Size, Refusal> {
+    match call(sys::ergo_tokenize, script, records) {
         (0, _, size) => Ok(size),
         (number, place, _) => Err(Refusal { number, place }),
     }
 }
 
-fn tokenize_by(entry: Entry, script: &[u8]) -> Result<Tokens<'_>, Refusal> {
-    let need = measure_by(entry, script)?;
+/// The tokens of a script, or why it is refused. It measures first, and then lends just the bytes that the records need.
+pub fn tokenize(script: &[u8]) -> Result<Tokens<'_>, Refusal> {
+    let need = measure(script)?;
     let mut records = vec![0; need.bytes as usize];
-    let size = write_by(entry, script, &mut records)?;
+    let size = write(script, &mut records)?;
     Ok(Tokens { script, records, count: size.count })
 }
 
-/// Measures a script: the size of its records, or why it is refused. Nothing is written.
-pub fn measure(script: &[u8]) -> Result<Size, Refusal> {
-    measure_by(sys::ergo_tokenize, script)
-}
-
-/// Writes the records of a script into `records`, from its start on. The bytes past them keep their values; on a refusal all bytes do. Where
-/// the records need more than was lent the refusal is 19, and [`measure`] tells the need.
-pub fn write(script: &[u8], records: &mut [u8]) -> Result<Size, Refusal> {
-    write_by(sys::ergo_tokenize, script, records)
-}
-
-/// The tokens of a script, or why it is refused. It measures first, and then lends just the bytes that the records need.
-pub fn tokenize(script: &[u8]) -> Result<Tokens<'_>, Refusal> {
-    tokenize_by(sys::ergo_tokenize, script)
-}
-
 /// The tokens of a contact, which is a script of at most [`CONTACT_BYTES`] bytes with at most [`CONTACT_TOKENS`] tokens, or why it is refused: as by
-/// [`tokenize`], or by 27 for its bytes and 28 for its tokens.
+/// [`tokenize`], or by 27 for its bytes and 28 for its tokens. One call does, since no contact needs more than [`CONTACT_RECORDS`] bytes.
 ///
 /// ```
 /// assert_eq!(ergo_token::tokenize_contact(b"x = 7").expect("a refusal").count(), 4);
@@ -157,7 +145,15 @@ pub fn tokenize(script: &[u8]) -> Result<Tokens<'_>, Refusal> {
 /// assert_eq!(ergo_token::tokenize_contact(&[b';'; 512]).unwrap_err().number, 28);
 /// ```
 pub fn tokenize_contact(script: &[u8]) -> Result<Tokens<'_>, Refusal> {
-    tokenize_by(sys::ergo_tokenize_contact, script)
+    let mut records = vec![0; CONTACT_RECORDS];
+    match call(sys::ergo_tokenize_contact, script, &mut records) {
+        (0, _, size) => {
+            records.truncate(size.bytes as usize);
+            records.shrink_to_fit();
+            Ok(Tokens { script, records, count: size.count })
+        }
+        (number, place, _) => Err(Refusal { number, place }),
+    }
 }
 
 /// The text of the script from `start` to `end` (`end` not included), or refusal 21 where `start` is past `end`, `end` is past the script, or

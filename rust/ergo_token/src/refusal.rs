@@ -74,7 +74,7 @@ impl Refusal {
             27 => ("the contact has more than 4096 bytes", "shorten it to 4096 bytes"),
             28 => (
                 "the contact has more than 512 tokens, line ends and the script's end included",
-                "use fewer tokens; joining lines, for instance, saves one for each",
+                "use fewer tokens, and take out empty lines: each costs a token",
             ),
             _ => ("the library's header knows no such refusal", "link the libergo.a that this wrapper was written for"),
         }

@@ -1,5 +1,5 @@
-//! Prints the tokens of a script for its author, or why it is refused, as `ergo_token::view` writes it. With `--contact` it is an entry of the address
-//! book, with its limits.
+//! Prints the tokens of a script for its author, or why it is refused, as `ergo_token::view` writes it. With `--contact` the script is a contact, with
+//! its limits.
 //!
 //!     view [--contact] FILE
 //!
