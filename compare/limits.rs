@@ -1,4 +1,4 @@
-// Scripts at a contact's limits, REQUESTS, "Limits": of 4,095 to 4,097 bytes and of 511 to 513 tokens, with no other refusal and with each of them.
+// Scripts at a contact's limits, REQUESTS, "Limits": of 4,095 to 4,097 bytes and of 511 to 513 tokens, with no other refusal and with each of 1 to 16 and 18.
 use super::{wanted, CONTACT_BYTES, CONTACT_TOKENS, EXAMPLES, REFUSED};
 
 // What a script ends with: nothing, or what is refused by 1 to 16, in this order, or by 18.
@@ -45,7 +45,7 @@ pub fn listed() -> Vec<Vec<u8>> {
     list
 }
 
-// And those that are over both limits, and each of these tokens with each end.
+// And line ends up to the limit for bytes, far over that for tokens, and each of these tokens with each end.
 #[cfg(linked)]
 pub fn compared() -> Vec<Vec<u8>> {
     let tokens = CONTACT_TOKENS as usize;

@@ -39,6 +39,9 @@ enum Entry {
     Contact,
 }
 
+#[cfg(linked)]
+const ENTRIES: [Entry; 2] = [Entry::Compiler, Entry::Contact];
+
 // The lengths of records by RULES, "Record": of the head, before the values, and of the whole record of a kind with values.
 const HEAD: usize = 13;
 const INT_LIT: usize = HEAD + 4;
@@ -329,7 +332,7 @@ mod compare {
             self.note(format!("{}{name}, {lent} lent: number {got}, wanted {number}; block {block}, wanted {block_wanted}; {bytes}", shown(script)));
         }
 
-        // A script with a buffer that is ample, once more with a buffer or a block that its number chooses, and so as a contact.
+        // A script, by both functions, with a buffer that is ample, and once more with a buffer or a block that its number chooses.
         pub fn script(&mut self, script: &[u8], number: u64) {
             let want = wanted(script);
             let need = want.bytes as usize;
@@ -343,9 +346,10 @@ mod compare {
                 _ => (need, 16),
             };
             self.counted(|bench| {
-                bench.call(Entry::Compiler, script, &want, ample, 16, 0);
-                bench.call(Entry::Compiler, script, &want, lent, block, 255);
-                bench.call(Entry::Contact, script, &want, lent, block, if number % 2 == 0 { 0 } else { 255 });
+                for entry in ENTRIES {
+                    bench.call(entry, script, &want, ample, 16, 0);
+                    bench.call(entry, script, &want, lent, block, 255);
+                }
             });
         }
 
@@ -354,14 +358,15 @@ mod compare {
             let want = wanted(script);
             let need = want.bytes as usize;
             self.counted(|bench| {
-                for lent in 0..=need + 1 {
-                    bench.call(Entry::Compiler, script, &want, lent, 16, 0);
-                    bench.call(Entry::Compiler, script, &want, lent, 16, 255);
-                }
-                for block in 0..=40 {
-                    for lent in [0, need.saturating_sub(1), need, need + 1] {
-                        bench.call(Entry::Compiler, script, &want, lent, block, 0);
-                        bench.call(Entry::Contact, script, &want, lent, block, 0);
+                for entry in ENTRIES {
+                    for lent in 0..=need + 1 {
+                        bench.call(entry, script, &want, lent, 16, 0);
+                        bench.call(entry, script, &want, lent, 16, 255);
+                    }
+                    for block in 0..=40 {
+                        for lent in [0, need.saturating_sub(1), need, need + 1] {
+                            bench.call(entry, script, &want, lent, block, 0);
+                        }
                     }
                 }
             });
@@ -421,7 +426,7 @@ mod compare {
             self.calls += 6;
         }
 
-        // A script at a contact's limits, by both functions, with what it needs and with what is enough for every contact.
+        // A script at a contact's limits, with what it needs and with what is enough for every contact.
         pub fn limit(&mut self, script: &[u8]) {
             let want = wanted(script);
             let need = want.bytes as usize;
@@ -430,16 +435,18 @@ mod compare {
                 self.greatest = self.greatest.max(need);
             }
             let lengths = [(need, 16), (need.saturating_sub(1), 16), (0, 16), (CONTACT_RECORDS, 16), (need, 15)];
-            self.at(script, &want, &lengths, 0);
-            self.at(script, &want, &lengths, 255);
+            self.at(script, &want, &lengths, &[0, 255]);
         }
 
-        // Calls with buffers and blocks of given lengths.
-        pub fn at(&mut self, script: &[u8], want: &Wanted, lengths: &[(usize, usize)], mask: u8) {
+        // Calls of both functions with buffers and blocks of given lengths.
+        pub fn at(&mut self, script: &[u8], want: &Wanted, lengths: &[(usize, usize)], masks: &[u8]) {
             self.counted(|bench| {
-                for &(lent, block) in lengths {
-                    bench.call(Entry::Compiler, script, want, lent, block, mask);
-                    bench.call(Entry::Contact, script, want, lent, block, mask);
+                for entry in ENTRIES {
+                    for &(lent, block) in lengths {
+                        for &mask in masks {
+                            bench.call(entry, script, want, lent, block, mask);
+                        }
+                    }
                 }
             });
         }
@@ -600,9 +607,9 @@ fn long_scripts(bench: &mut compare::Bench) {
         let longest = &script[..script.len().min(LIMIT)];
         let want = wanted(longest);
         let need = want.bytes as usize;
-        bench.at(longest, &want, &[(need, 16), (need.saturating_sub(1), 16), (0, 15)], 0);
+        bench.at(longest, &want, &[(need, 16), (need.saturating_sub(1), 16), (0, 15)], &[0]);
         if script.len() > LIMIT {
-            bench.at(script, &wanted(script), &[(64, 16), (0, 16), (0, 15)], 0);
+            bench.at(script, &wanted(script), &[(64, 16), (0, 16), (0, 15)], &[0]);
         }
     }
 }
@@ -740,7 +747,9 @@ fn print_list() {
         let want = wanted(script);
         put(Entry::Contact, script, &want, CONTACT_RECORDS);
         if want.number == 0 {
-            put(Entry::Contact, script, &want, CONTACT_RECORDS.min(want.bytes as usize - 1));
+            if want.bytes as usize <= CONTACT_RECORDS {
+                put(Entry::Contact, script, &want, want.bytes as usize - 1);
+            }
             put(Entry::Contact, script, &want, 0);
         }
         // What the compiler takes beyond them.

@@ -143,7 +143,7 @@ uint32_t ergo_line_column(const uint8_t *script, size_t n, const uint32_t *index
 
 #define ERGO_SCRIPT_LIMIT 16777216u /* bytes: a longer script is refused by 17 */
 
-/* Of ergo_tokenize_contact: more bytes are refused by 27, and more tokens by 28. */
+/* Of ergo_tokenize_contact: a script of more bytes is refused by 27, and one that would else be accepted, of more tokens by 28. */
 #define ERGO_CONTACT_BYTES 4096u
 #define ERGO_CONTACT_TOKENS 512u
 
@@ -156,7 +156,7 @@ uint32_t ergo_line_column(const uint8_t *script, size_t n, const uint32_t *index
 #define ERGO_ANSWER_AT_PLACE 4u
 
 /* In a block of ERGO_ANSWER_BYTES: */
-#define ERGO_ANSWER_AT_COUNT 8u /* of ergo_tokenize and ergo_read_roll */
+#define ERGO_ANSWER_AT_COUNT 8u /* of ergo_tokenize, ergo_tokenize_contact and ergo_read_roll */
 #define ERGO_ANSWER_AT_RECORD_BYTES 12u
 #define ERGO_ANSWER_AT_LINES 8u /* of ergo_index_lines */
 #define ERGO_ANSWER_AT_LINE 8u  /* of ergo_line_column */

@@ -118,8 +118,8 @@ pub fn tokenize(script: &[u8], records: &mut [u8], answer: &mut [u8]) -> u32
     tokenize_within(script, records, answer, &Limits::COMPILER)
 }
 
-/// Tokenizes a contact, a script in an entry of the address book, as `tokenize_within` says: of at most 4,096 bytes, with at most 512 tokens, else
-/// refused by 27 or 28. 10,744 bytes are enough for its records.
+/// Tokenizes a contact, a script in an entry of the address book, as `tokenize_within` says: of at most 4,096 bytes, with at most 512 tokens.
+/// One of more bytes is refused by 27, over 16,777,216 by 17; one that has a reading with more tokens, by 28. 10,744 bytes are enough for its records.
 #[tactic(auto, using(crate::proofs::theorems::Hosts::contact_theorems))]
 pub fn tokenize_contact(script: &[u8], records: &mut [u8], answer: &mut [u8]) -> u32
     ensures answer_after { seen result records.new answer.new ≡ hostFor contact script.now records.old answer.old }

@@ -13,7 +13,7 @@ compiler = record { bytes = mostBytes; tokens = None }
 abbrev pub contact : Limits
 contact = record { bytes = 4096; tokens = Some 512 }
 
--- no more tokens than the limit, where they have one
+-- no more tokens than the limits allow
 abbrev pub Few : Limits → List Token → Type 0
 Few limits ts = IfSome limits.tokens (λ most. tokenCount ts ≤ most)
 
