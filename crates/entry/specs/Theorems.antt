@@ -1,4 +1,4 @@
--- What is proved of what the host sees, for every limits, script, buffer and block. Proved: proofs/theorems/Hosts.
+-- What is proved of what the host sees, for all limits, scripts, buffers and blocks. Proved: proofs/theorems/Hosts.
 use Rattle.std.specs.Prelude.{ℕ, ◌≤◌, ◌≡◌, ◌≢◌, ◌⊎◌, ◌↔◌, List, [], ◌++◌, length, drop}
 use Rattle.words.specs.Words.{blockOf}
 use Rattle.chars.specs.paper.Utf8.{WellFormed}
@@ -43,14 +43,14 @@ pub record HostTheorems (limits : Limits) (script buffer block : List ℕ) : Typ
   -- And the examples of RULES and REQUESTS come out as they say.
   pub examples : Examples
 
--- Of the compiler's limits: 27 and 28 are never met, and with enough lent the number is 0 exactly when a script of at most 16,777,216 bytes has a
+-- Within the compiler's limits: 27 and 28 are never met, and with enough lent the number is 0 exactly when a script of at most 16,777,216 bytes has a
 -- reading.
 pub record CompilerTheorems (script buffer block : List ℕ) : Type 0 where
   pub compiler-numbers : numberSeen (hostOf script buffer block) ≤ 20
   pub compiler-exactly : Lends script buffer block → length script ≤ mostBytes
       → (numberSeen (hostOf script buffer block) ≡ 0) ↔ ((ps : List Piece) × Reading script ps)
 
--- Of a contact's limits: no contact needs more than 10,744 record bytes, and a host that lends them is never refused by 19 and has lent enough.
+-- Within a contact's limits: no contact needs more than 10,744 record bytes, and a host that lends them is never refused by 19 and has lent enough.
 pub record ContactTheorems (script buffer block : List ℕ) : Type 0 where
   pub contact-need : (ts : List Token) → TokensOf script ts → Few contact ts → recordBytes ts ≤ contactNeed
   pub contact-room : contactNeed ≤ length buffer → numberSeen (hostFor contact script buffer block) ≢ 19

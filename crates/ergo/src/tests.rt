@@ -45,15 +45,15 @@ fn tokenizes_nothing(rt: HostRuntime) {
     assert_eq!(rt; records, [0x0D, 0, 0x12, 0, 0, 0, 0, 0, 0, 0, 0, 0, 0]);
 }
 
-// A contact may have 512 tokens, Eof included, and 4,096 bytes; the compiler takes more of both.
+// A contact may have 512 tokens, Eof included, and 4,096 bytes.
 #[test]
 fn tokenizes_contact(rt: HostRuntime) {
-    let commas = [b','; 512];
-    let spaces = [b' '; 4097];
+    let commas = [b','; 511];
     let mut records = [9u8; 6670];
     let mut answer = [9u8; 16];
+    assert_eq!(rt; ergo_tokenize_contact(&commas, &mut [], &mut answer), 19);
     assert_eq!(rt;
-        ergo_tokenize_contact(&commas[1..], &mut records, &mut answer),
+        ergo_tokenize_contact(&commas, &mut records, &mut answer),
         0
     );
     assert_eq!(rt; answer, [0, 0, 0, 0, 0, 0, 0, 0, 0, 2, 0, 0, 0, 26, 0, 0]);
@@ -63,28 +63,32 @@ fn tokenizes_contact(rt: HostRuntime) {
         &[0x0D, 0, 0x12, 0, 0xFF, 1, 0, 0, 0xFF, 1, 0, 0, 0][..]
     );
     assert_eq!(rt; &records[6656..], &[9u8; 14][..]);
-    let before = records;
+    assert_eq!(rt;
+        ergo_tokenize_contact(&[b' '; 4096], &mut records, &mut answer),
+        0
+    );
+}
+
+// With one more of either it is refused, and the compiler takes it.
+#[test]
+fn refuses_contact(rt: HostRuntime) {
+    let commas = [b','; 512];
+    let spaces = [b' '; 4097];
+    let mut records = [9u8; 6670];
+    let mut answer = [9u8; 16];
     assert_eq!(rt;
         ergo_tokenize_contact(&commas, &mut records, &mut answer),
         28
     );
     assert_eq!(rt; answer, [28, 0, 0, 0, 0, 0, 0, 0, 0, 0, 0, 0, 0, 0, 0, 0]);
+    assert_eq!(rt; ergo_tokenize_contact(&commas, &mut [], &mut answer), 28);
     assert_eq!(rt;
         ergo_tokenize_contact(&spaces, &mut records, &mut answer),
         27
     );
     assert_eq!(rt; answer, [27, 0, 0, 0, 0, 0, 0, 0, 0, 0, 0, 0, 0, 0, 0, 0]);
-    assert_eq!(rt; records, before);
-    assert_eq!(rt; ergo_tokenize_contact(&commas, &mut [], &mut answer), 28);
-    assert_eq!(rt;
-        ergo_tokenize_contact(&commas[1..], &mut [], &mut answer),
-        19
-    );
-    assert_eq!(rt; ergo_tokenize_contact(&commas, &mut [], &mut []), 20);
-    assert_eq!(rt;
-        ergo_tokenize_contact(&spaces[1..], &mut records, &mut answer),
-        0
-    );
+    assert_eq!(rt; ergo_tokenize_contact(&commas, &mut records, &mut []), 20);
+    assert_eq!(rt; records, [9; 6670]);
     assert_eq!(rt; ergo_tokenize(&spaces, &mut records, &mut answer), 0);
     assert_eq!(rt; ergo_tokenize(&commas, &mut records, &mut answer), 0);
 }

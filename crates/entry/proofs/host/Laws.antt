@@ -32,7 +32,7 @@ use Rattle.words.specs.Words.{blockOf}
 use Rattle.token.proofs.Base.{zero-one}
 use Rattle.token.proofs.theorems.Alone.{records-length}
 use Rattle.words.proofs.Stores.{sets-front}
-use Rattle.entry.proofs.host.Checks.{CheckedAs, long, over, invalid, good, checked-as, check-good, passed}
+use Rattle.entry.proofs.host.Checks.{CheckedAs, long, over, invalid, good, checked-as, passed}
 use Rattle.entry.proofs.host.Verdicts.{verdict-checked, verdict-rest, room-many, room-granted, room-lacking, room-rejected}
 
 -- ---- judging: 17, 27, 18, 1 to 16, 28
@@ -98,7 +98,7 @@ module _ (limits : Limits) (s : List ℕ) where
 
   module _ (u : Unit {0}) (q : Ok u ≡ checkOf limits.bytes s) where
     passes : checkOf limits.bytes s ≡ Ok tt
-    passes = let p = passed limits.bytes s u q in check-good limits.bytes s p.0 p.1 p.2
+    passes = sym q
 
     -- refused by a piece
     pub judge-refused : (j a : ℕ) → answer s ≡ refused j a → (room : ℕ) → verdict limits s room ≡ rejected j a

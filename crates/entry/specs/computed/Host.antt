@@ -17,7 +17,7 @@ pub data Verdict : Type 0 where
   rejected : ℕ → ℕ → Verdict
   lacking : List Token → Verdict
 
--- more tokens than the limit, where they have one
+-- more tokens than the limit, where there is one
 abbrev pub tooMany : Option ℕ → ℕ → Bool
 tooMany None n = false
 tooMany (Some most) n = nat_lt most n
@@ -43,7 +43,7 @@ seenOf (granted ts) buffer = seen 0 (records ts ++ drop (recordBytes ts) buffer)
 seenOf (rejected j a) buffer = seen j buffer (blockOf j a 0 0)
 seenOf (lacking ts) buffer = seen 19 buffer (blockOf 19 0 (tokenCount ts) (recordBytes ts))
 
--- under limits, and under the compiler's
+-- within limits, and within the compiler's
 unfoldable pub hostFor : Limits → List ℕ → List ℕ → List ℕ → Seen
 hostFor limits script buffer block =
     let judged = seenOf (verdict limits script (length buffer)) buffer in
