@@ -1,3 +1,4 @@
 pub mod Examples
 pub mod Contacts
 pub mod Hosts
+pub mod Measuring

@@ -3,3 +3,4 @@ pub mod Check
 pub mod Host
 pub mod Listing
 pub mod Examples
+pub mod Measure

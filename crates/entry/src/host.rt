@@ -12,7 +12,8 @@ ghost use Rattle.entry.specs.Theorems.{CompilerTheorems, ContactTheorems, HostTh
 use crate::check::check_text;
 use crate::limits::Limits;
 use crate::refusal::{Refusal, Refused};
-use token::records::{Need, measure, write};
+use token::counts::Need;
+use token::records::{measure, write};
 use words::write::{put_block, put_refused};
 
 // Bytes on the stack for records that are stored before the script is known to be accepted, by the script's length: those of most scripts of at
@@ -27,8 +28,10 @@ pub const SHORT_SCRATCH: usize = 2048;
 
 pub const LONG_SCRATCH: usize = 8192;
 
-// What the records need, or the refusals 17, 27, 18, 1 to 16, 28 in their order. `scratch` has the records that fit into it, where the script is read.
-fn judge(scratch: &mut [u8], script: &[u8], limits: &Limits) -> Result<Need, Refused>
+/// What the records need, or the refusals 17, 27, 18, 1 to 16, 28 in their order. `scratch` has the records that fit into it, where the script is
+/// read.
+#[inline(always)] // for short scripts: out of line it hands its answer on through memory
+pub fn judge(scratch: &mut [u8], script: &[u8], limits: &Limits) -> Result<Need, Refused>
     ensures value { (room : ℕ) → result ≡ judgedOf (verdict limits.now script.now room) }
     ensures refusal { IfErr result (λ e. (room : ℕ) → verdict limits.now script.now room ≡ rejected (refusalNumber e.what) e.place) }
     ensures judged { IfOk result (λ need. Judged limits.now script.now need) }

@@ -7,8 +7,9 @@ ghost use Rattle.words.specs.Words.{told};
 ghost use Rattle.entry.specs.paper.Host.{seen};
 ghost use Rattle.entry.specs.paper.Limits.{compiler, contact};
 ghost use Rattle.entry.specs.computed.Host.{hostFor, hostOf};
+ghost use Rattle.entry.specs.computed.Measure.{measureTold};
 ghost use Rattle.entry.specs.paper.TokenText.{textNumber};
-ghost use Rattle.entry.specs.Theorems.{CompilerTheorems, ContactTheorems, HostTheorems};
+ghost use Rattle.entry.specs.Theorems.{CompilerTheorems, ContactTheorems, HostTheorems, MeasureTheorems};
 ghost use Rattle.rolls.specs.computed.Host.{rollTold, recordTold};
 ghost use Rattle.rolls.specs.Theorems.{RollTheorems};
 ghost use Rattle.lines.specs.computed.Host.{indexSeen, positionTold};
@@ -30,6 +31,14 @@ pub extern "C" fn ergo_tokenize_contact(script: &[u8], records: &mut [u8], answe
     ensures contact_theorems { ContactTheorems script.now records.old answer.old }
 {
     entry::host::tokenize_contact(script, records, answer)
+}
+
+#[unsafe(no_mangle)]
+pub extern "C" fn ergo_measure(script: &[u8], answer: &mut [u8]) -> u32
+    ensures answer_after { told result answer.new ≡ measureTold script.now answer.old }
+    ensures measure_theorems { MeasureTheorems script.now answer.old }
+{
+    entry::measure::measure(script, answer)
 }
 
 #[unsafe(no_mangle)]

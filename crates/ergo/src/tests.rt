@@ -28,10 +28,45 @@ fn tokenizes(rt: HostRuntime) {
 }
 
 #[test]
-fn measures(rt: HostRuntime) {
+fn needs_more(rt: HostRuntime) {
     let mut answer = [9u8; 16];
     assert_eq!(rt; ergo_tokenize(b"a", &mut [], &mut answer), 19);
     assert_eq!(rt; answer, [19, 0, 0, 0, 0, 0, 0, 0, 2, 0, 0, 0, 26, 0, 0, 0]);
+}
+
+// `7 8L "a"` and a line end: with Eof five tokens, of which four have values. The block keeps nothing that it had.
+#[test]
+fn measures(rt: HostRuntime) {
+    let script = b"7 8L \"a\"\n";
+    let mut records = [9u8; 86];
+    let mut need = [9u8; 32];
+    let mut answer = [9u8; 16];
+    assert_eq!(rt; ergo_measure(script, &mut need), 0);
+    assert_eq!(rt;
+        need,
+        [
+            0, 0, 0, 0, 0, 0, 0, 0, 5, 0, 0, 0, 86, 0, 0, 0, 1, 0, 0, 0, 1, 0, 0, 0, 1, 0, 0, 0, 1,
+            0, 0, 0,
+        ]
+    );
+    assert_eq!(rt; ergo_tokenize(script, &mut records[..85], &mut answer), 19);
+    assert_eq!(rt; ergo_tokenize(script, &mut records, &mut answer), 0);
+}
+
+#[test]
+fn measures_refused(rt: HostRuntime) {
+    let mut need = [9u8; 32];
+    assert_eq!(rt; ergo_measure(b"7 \"", &mut need), 7);
+    assert_eq!(rt;
+        need,
+        [
+            7, 0, 0, 0, 3, 0, 0, 0, 0, 0, 0, 0, 0, 0, 0, 0, 0, 0, 0, 0, 0, 0, 0, 0, 0, 0, 0, 0, 0,
+            0, 0, 0,
+        ]
+    );
+    let mut short = [9u8; 31];
+    assert_eq!(rt; ergo_measure(b"7", &mut short), 20);
+    assert_eq!(rt; short, [9u8; 31]);
 }
 
 #[test]

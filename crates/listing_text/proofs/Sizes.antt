@@ -92,13 +92,9 @@ answer-short (seen number records block) least =
 
 same-room : {script buffer block : List ℕ} {x : Seen} → Sees compiler script buffer block x → length (bufferSeen x) ≡ length buffer
 same-room (Sees.twenty z) = refl
-same-room (Sees.seventeen e l) = refl
-same-room (Sees.twentySeven e l m) = refl
-same-room (Sees.eighteen z v l) = refl
-same-room (Sees.refused c h) = refl
-same-room (Sees.twentyEight c h m) = refl
-same-room (Sees.nineteen r l) = refl
-same-room {script} {buffer} (Sees.accepted {ts} r l) =
+same-room (Sees.rejected e h) = refl
+same-room (Sees.nineteen e r l) = refl
+same-room {script} {buffer} (Sees.accepted {ts} e r l) =
     omega (arith, length-append (records ts) (drop (recordBytes ts) buffer), records-length ts, length-drop (recordBytes ts) buffer)
 
 -- at most ten times what is lent for the records

@@ -1,4 +1,5 @@
 pub mod Measures
+pub mod Counts
 pub mod Reach
 pub mod Ends
 pub mod Told

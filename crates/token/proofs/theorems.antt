@@ -21,5 +21,6 @@ pub mod Flags
 pub mod Walks
 pub mod Alone
 pub mod Bounded
+pub mod Spread
 pub mod Theorems
 pub mod Told

@@ -1,11 +1,11 @@
 -- What is proved for every script: the computed answer is what is declared (`paper`). Proved: proofs/theorems.
-use Rattle.std.specs.Prelude.{ℕ, ◌≤◌, ◌≡◌, ◌⊎◌, ◌↔◌, List, [], length}
+use Rattle.std.specs.Prelude.{ℕ, ◌+◌, ◌≤◌, ◌≡◌, ◌⊎◌, ◌↔◌, List, [], length}
 use Rattle.chars.specs.paper.Utf8.{LongestValid}
 use Rattle.chars.specs.computed.Valid.{validPrefix}
 use Rattle.token.specs.paper.Kinds.{Token}
 use Rattle.token.specs.paper.Reading.{Piece, Reading, Tokens, TokensOf}
 use Rattle.token.specs.paper.Refusals.{Refused}
-use Rattle.token.specs.paper.Records.{mostNeed, records, recordBytes}
+use Rattle.token.specs.paper.Records.{mostNeed, records, tokenCount, recordBytes, countsOf, exactNeed}
 use Rattle.token.specs.computed.Answer.{answer, tokenized, refused}
 
 -- Of a script.
@@ -27,5 +27,13 @@ pub record Theorems (script : List ℕ) : Type 0 where
   pub never-both : (ps : List Piece) (j a : ℕ) → Reading script ps → Refused script j a → ⊥
   -- Its record bytes are the sum of the records' lengths.
   pub bytes : (ts : List Token) → length (records ts) ≡ recordBytes ts
+  -- REQUESTS, "Exact need", of every list of tokens: "13 times the token count, plus 4 for each IntLit, 8 for each LongLit and Str, 1 for each
+  -- Newline."
+  pub exact : (ts : List Token) → recordBytes ts ≡ exactNeed (tokenCount ts) (countsOf ts)
+  -- Why the bound follows: "every token but Eof takes at least one byte of the script, a LongLit and a Str at least two; no token is of two of the
+  -- four kinds, and Eof is of none."
+  pub spread : (ts : List Token) → TokensOf script ts → tokenCount ts + (countsOf ts).long_lits + (countsOf ts).strs ≤ length script + 1
+  pub one-kind-each : (ts : List Token) → TokensOf script ts
+      → (countsOf ts).int_lits + (countsOf ts).long_lits + (countsOf ts).strs + (countsOf ts).newlines + 1 ≤ tokenCount ts
   -- RULES, "Record bound": "A script of n bytes that has a reading needs at most 17 times n plus 13 record bytes."
   pub need : (ts : List Token) → TokensOf script ts → recordBytes ts ≤ mostNeed (length script)

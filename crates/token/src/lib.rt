@@ -2,6 +2,7 @@
 #![tactic(auto)]
 
 pub mod kinds; // keywords and token kinds, their record numbers and lengths
+pub mod counts; // what the records of a script need
 mod cursor; // a place in a script, and what stands there
 pub mod refusal; // what a script is refused for, and where
 mod piece; // what reading one piece answers

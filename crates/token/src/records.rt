@@ -1,55 +1,31 @@
-// The records of a script: counted, and stored where they fit. RULES, "Records of a script".
-ghost use Rattle.std.specs.Prelude.{◌≡◌, ◌≤◌, ◌+◌, ◌-◌, ◌/◌, length, IfOk, IfErr};
+// The records of a script: measured, and stored where they fit. RULES, "Records of a script".
+ghost use Rattle.std.specs.Prelude.{◌≡◌, ◌≤◌, length, IfOk, IfErr};
 ghost use Rattle.std.proofs.lemmas.List.Edits.{sets};
 ghost use Rattle.token.specs.computed.Answer.{answer, refused};
-ghost use Rattle.token.specs.paper.Records.{mostBytes, headLength, recordOf, records};
-ghost use Rattle.token.specs.code.Records.{storedIf, measuredOf, need, Needs, Held, Fits, begun, storedFrom, tokensIn, eofAt};
+ghost use Rattle.token.specs.paper.Records.{mostBytes, records};
+ghost use Rattle.token.specs.code.Records.{measuredOf, Needs, Held, Fits, begun, storedFrom, tokensIn};
 ghost use Rattle.token.specs.code.Refusal.{refusalNumber};
 
-use crate::form::put_if;
-use crate::kinds::{Form, TokenKind};
+use crate::counts::{Counts, Need};
 use crate::refusal::Refused;
 use crate::walk::walk;
 use words::write::copy;
 
-/// What the records of a script need: how many tokens it has, and how many bytes their records.
-#[derive(Clone, Copy, Debug, PartialEq, Eq)]
-pub struct Need {
-    pub tokens: usize,
-    pub bytes: usize,
-}
-
-// The end of script: stores its record where it fits, and says what was counted.
-#[tactic(auto, using(crate::proofs::records::Ends::sizes))]
-fn finish(out: &mut [u8], w: usize, values: usize, last: usize, cut: bool) -> Need
-    requires room { w + headLength ≤ 18446744073709551615 }
-    requires values_in { values ≤ w }
-    ensures value { result ≡ need ((w + headLength - values) / headLength) (w + headLength) }
-    ensures out_after { out.new ≡ storedIf out.old w (recordOf (eofAt last cut)) }
-{
-    put_if(out, w, Form::plain(TokenKind::EOF), last, last, cut);
-    let bytes = w + TokenKind::HEAD_LENGTH as usize;
-    Need {
-        tokens: (bytes - values) / TokenKind::HEAD_LENGTH as usize,
-        bytes,
-    }
-}
-
-// One walk over the script: it counts tokens and record bytes, and stores each record that fits, up to the end of script or to what is refused.
+// One walk over the script: what its records need, with each record stored that fits, up to the end of script or to what is refused.
 fn walk_script(out: &mut [u8], s: &[u8]) -> Result<Need, Refused>
     requires { length s.now ≤ mostBytes }
-    ensures value { result ≡ measuredOf 0 0 (answer s.now) }
+    ensures value { result ≡ measuredOf (answer s.now) }
     ensures out_after { out.new ≡ storedFrom s.now begun out.old }
 {
-    let x = walk(out, s)?;
-    Ok(finish(out, x.bytes, x.values, s.len(), x.cut))
+    let mut counts = Counts::new();
+    walk(out, s, &mut counts)
 }
 
 /// What the records of a script need, or why it has none. `scratch` then has each record that fits into it, before a refusal too.
 #[tactic(auto, using(crate::proofs::records::Told::told))]
 pub fn measure(scratch: &mut [u8], s: &[u8]) -> Result<Need, Refused>
     requires { length s.now ≤ mostBytes }
-    ensures value { result ≡ measuredOf 0 0 (answer s.now) }
+    ensures value { result ≡ measuredOf (answer s.now) }
     ensures needs { IfOk result (λ need. Needs (answer s.now) need) }
     ensures refusal { IfErr result (λ e. answer s.now ≡ refused (refusalNumber e.what) e.place) }
     ensures scratch_after { scratch.new ≡ storedFrom s.now begun scratch.old }

@@ -1,19 +1,20 @@
 // One walk over a script, to its end or to what is refused: each piece is read where it stands, and each token's record is stored where it fits.
-ghost use Rattle.std.specs.Prelude.{◌≡◌, IsTrue, IsFalse, not, ◌&&◌, ◌||◌, List, ℕ, ◌+◌, ◌≤◌, ◌<◌, ◌==◌, length, drop, slice_index, Err, IfOk, IfErr, IfSome, IfNone, IsErr};
+ghost use Rattle.std.specs.Prelude.{◌≡◌, IsTrue, IsFalse, not, ◌&&◌, ◌||◌, List, ℕ, ◌+◌, ◌≤◌, ◌<◌, ◌==◌, length, drop, slice_index, Ok, Err, IfOk, IfErr, IfSome, IfNone, IsErr};
 ghost use Rattle.chars.specs.paper.Classes.{isIdStart};
 ghost use Rattle.chars.specs.paper.Text.{from, headIs};
 ghost use Rattle.token.specs.paper.Tests.{isAny, opSign, opensBlock, opensComment};
-ghost use Rattle.token.specs.paper.Records.{mostBytes, headLength, lineLength};
+ghost use Rattle.token.specs.paper.Records.{mostBytes, headLength, lineLength, recordOf, valueNeed};
 ghost use Rattle.token.specs.computed.Answer.{scan, scanNumber};
-ghost use Rattle.token.specs.code.Records.{storedIf, measuredFrom, storedFrom, begun};
+ghost use Rattle.token.specs.code.Records.{storedIf, measuredFrom, storedFrom, countedFrom, noneCounted, begun, eofAt};
 ghost use Rattle.token.specs.code.Form.{byForm, plainForm};
 ghost use Rattle.token.specs.code.ByteClass.{classAt, blankClass, digitClass, lfClass, crClass, tickClass, backtickClass, quoteClass, keywordClass, signKeywordClass, slashClass, wideClass, upToBlank, startsWord, asksMore, isSign, inWord};
 ghost use Rattle.token.specs.code.Names.{hereOf, lowBefore};
 ghost use Rattle.token.specs.code.Piece.{pieceOf};
-ghost use Rattle.token.specs.code.Walk.{beginning, movedTo, plainBehind, valuesBehind, lineBehind, commentBehind, blockBehind, runGoesOn, nameNumber, operatorNumber, Good, Left, LeftTo, Prefixes, Refuses, Steps};
+ghost use Rattle.token.specs.code.Walk.{beginning, movedTo, tokenBehind, needAt, lineBehind, commentBehind, blockBehind, runGoesOn, nameNumber, operatorNumber, Good, Counted, Left, LeftTo, Prefixes, Refuses, Steps};
 
 use crate::byte_class::Class;
 use crate::charsym::lex_char_sym;
+use crate::counts::{Counts, Need};
 use crate::cursor::{Cursor, byte_at, skip_more};
 use crate::digits::{digit_value, lex_number};
 use crate::form::{put_head_if, put_if, put_record};
@@ -34,15 +35,14 @@ const INT: usize = TokenKind::INT_LIT_LENGTH as usize;
 
 const LONG: usize = TokenKind::LONG_LIT_LENGTH as usize;
 
-/// Where a walk stands: its place with the class of its byte, the record bytes so far, and how many of them are values. `line` and `mark` are what
-/// `bytes` was just behind the last line end and the last comment: these came since the last token exactly if it is so still, so a token changes
-/// neither. `cut` is set, where the token that ends the gap there has the cut.
+/// Where a walk stands: its place with the class of its byte, and the record bytes so far. `line` and `mark` are what `bytes` was just behind the
+/// last line end and the last comment: these came since the last token exactly if it is so still, so a token changes neither. `cut` is set, where the
+/// token that ends the gap there has the cut.
 #[derive(Clone, Copy, Debug, PartialEq, Eq)]
 pub struct Stand {
     pub at: usize,
     pub class: Class,
     pub bytes: usize,
-    pub values: usize,
     pub line: usize,
     pub mark: usize,
     pub cut: bool,
@@ -57,7 +57,6 @@ impl Stand {
             at: Cursor::new().at,
             class: Class::at(s, 0),
             bytes: 0,
-            values: 0,
             line: 1,
             mark: 1,
             cut: false,
@@ -76,32 +75,15 @@ fn at_place(x: Stand, to: Here) -> Stand
     }
 }
 
-// Behind a token without values.
-fn behind(x: Stand, end: Here) -> Stand
-    requires { x.bytes + headLength ≤ 18446744073709551615 }
-    ensures { result ≡ plainBehind x end }
-{
-    Stand {
-        at: end.at,
-        class: end.class,
-        bytes: x.bytes + HEAD,
-        cut: false,
-        ..x
-    }
-}
-
-// Behind a token with values, whose record has this length.
-fn behind_values(x: Stand, end: Here, length: usize) -> Stand
-    requires some { headLength ≤ length }
-    requires room { x.bytes + length ≤ 18446744073709551615 }
-    requires values { x.values ≤ x.bytes }
-    ensures { result ≡ valuesBehind x end length }
+// Behind a token whose record has this length.
+fn behind(x: Stand, end: Here, length: usize) -> Stand
+    requires { x.bytes + length ≤ 18446744073709551615 }
+    ensures { result ≡ tokenBehind x end length }
 {
     Stand {
         at: end.at,
         class: end.class,
         bytes: x.bytes + length,
-        values: x.values + (length - HEAD),
         cut: false,
         ..x
     }
@@ -109,15 +91,13 @@ fn behind_values(x: Stand, end: Here, length: usize) -> Stand
 
 // Behind a line end.
 fn behind_line(s: &[u8], x: Stand, end: usize) -> Stand
-    requires room { x.bytes + lineLength ≤ 18446744073709551615 }
-    requires values { x.values ≤ x.bytes }
+    requires { x.bytes + lineLength ≤ 18446744073709551615 }
     ensures { result ≡ lineBehind s.now x end }
 {
     Stand {
         at: end,
         class: Class::at(s, end),
         bytes: x.bytes + LINE,
-        values: x.values + (LINE - HEAD),
         line: x.bytes + LINE,
         ..x
     }
@@ -136,16 +116,17 @@ fn behind_comment(s: &[u8], x: Stand, end: usize) -> Stand
 }
 
 // Each of the following is a step: past what stands there, with its record stored where it fits. One that refuses answers by Err, one that leaves its
-// piece to another reader by None, and neither stores anything then. All ask for `short` and `good`, which are no invariant of `Stand`, since they speak
-// of the script: a state that carried the script with it would not stay in registers. What two or three have in common is one function; where they
-// differ in what reads the piece, a common one would take the reader, its equation and its class, and be longer than they are.
+// piece to another reader by None, and neither stores or counts anything then. All ask for `short` and `good`, and those that are lent the counts for
+// `counted`: no invariants of `Stand`, since they speak of the script and the counts, and a state that carried these with it would not stay in
+// registers. What two or three have in common is one function; where they differ in what reads the piece, a common one would take the reader, its
+// equation and its class, and be longer than they are.
 
 // Past the blank that stands there and those behind it. Most blanks stand alone.
 fn blank_step(s: &[u8], x: Stand) -> Stand
     requires short { length s.now ≤ mostBytes }
     requires good { Good s.now x }
     requires blank { IsTrue (x.class.number == blankClass) }
-    ensures on { (out : List ℕ) → Steps s.now x out result out }
+    ensures on { (c : Counts) (out : List ℕ) → Counted x c → Steps s.now x c out result c out }
     ensures further { x.at < result.at }
 {
     let class = Class::at(s, x.at + 1);
@@ -168,42 +149,47 @@ fn sign_step(out: &mut [u8], s: &[u8], x: Stand) -> Stand
     requires good { Good s.now x }
     requires sign { IsTrue (upToBlank x.class.number) }
     requires no_blank { IsFalse (x.class.number == blankClass) }
-    ensures on { Steps s.now x out.old result out.new }
+    ensures on { (c : Counts) → Counted x c → Steps s.now x c out.old result c out.new }
     ensures further { result.at ≡ x.at + 1 }
 {
     put_head_if(out, x.bytes, x.class.sign_head(), x.at, x.at + 1, x.cut);
-    behind(x, here_at(s, x.at + 1))
+    behind(x, here_at(s, x.at + 1), HEAD)
 }
 
 // An LF.
-fn line_step(out: &mut [u8], s: &[u8], x: Stand) -> Stand
+fn line_step(out: &mut [u8], s: &[u8], counts: &mut Counts, x: Stand) -> Stand
     requires short { length s.now ≤ mostBytes }
     requires good { Good s.now x }
+    requires counted { Counted x counts.old }
     requires lf { IsTrue (x.class.number == lfClass) }
-    ensures on { Steps s.now x out.old result out.new }
+    ensures on { Steps s.now x counts.old out.old result counts.new out.new }
     ensures further { result.at ≡ x.at + 1 }
 {
-    let form = Form::line(x.mark == x.bytes);
-    put_if(out, x.bytes, form, x.at, x.at + 1, false);
+    let kind = TokenKind::Newline(x.mark == x.bytes);
+    put_if(out, x.bytes, kind.form(), x.at, x.at + 1, false);
+    counts.add(kind);
     behind_line(s, x, x.at + 1)
 }
 
 // A CR: a line end before an LF, else refused.
-fn return_step(out: &mut [u8], s: &[u8], x: Stand) -> Result<Stand, Refused>
+fn return_step(out: &mut [u8], s: &[u8], counts: &mut Counts, x: Stand) -> Result<Stand, Refused>
     requires short { length s.now ≤ mostBytes }
     requires good { Good s.now x }
+    requires counted { Counted x counts.old }
     requires cr { IsTrue (x.class.number == crClass) }
-    ensures on { IfOk result (λ y. Steps s.now x out.old y out.new) }
+    ensures on { IfOk result (λ y. Steps s.now x counts.old out.old y counts.new out.new) }
     ensures further { IfOk result (λ y. x.at < y.at) }
-    ensures refused { IfErr result (λ e. Refuses s.now x out.old e) }
+    ensures refused { IfErr result (λ e. Refuses s.now x counts.old out.old e) }
     ensures kept { IfErr result (λ e. out.new ≡ out.old) }
+    ensures uncounted { IfErr result (λ e. counts.new ≡ counts.old) }
     ensures alone { IfErr result (λ e. IsFalse (slice_index s.now (x.at + 1) == 0x0A)) }
 {
     if byte_at(s, x.at + 1) != b'\n' {
         return Err(Refusal::LoneCr.at(x.at));
     }
-    let form = Form::line(x.mark == x.bytes);
-    put_if(out, x.bytes, form, x.at, x.at + 2, false);
+    let kind = TokenKind::Newline(x.mark == x.bytes);
+    put_if(out, x.bytes, kind.form(), x.at, x.at + 2, false);
+    counts.add(kind);
     Ok(behind_line(s, x, x.at + 2))
 }
 
@@ -223,9 +209,9 @@ fn block_step(s: &[u8], x: Stand) -> Result<Stand, Refused>
     requires short { length s.now ≤ mostBytes }
     requires good { Good s.now x }
     requires opened { IsTrue (opensBlock (from s.now x.at)) }
-    ensures on { IfOk result (λ y. (out : List ℕ) → Steps s.now x out y out) }
+    ensures on { IfOk result (λ y. (c : Counts) (out : List ℕ) → Counted x c → Steps s.now x c out y c out) }
     ensures further { IfOk result (λ y. x.at < y.at) }
-    ensures refused { IfErr result (λ e. (out : List ℕ) → Refuses s.now x out e) }
+    ensures refused { IfErr result (λ e. (c : Counts) (out : List ℕ) → Refuses s.now x c out e) }
 {
     let closed = Cursor { at: x.at }.consume_block_comment(s);
     let Some(end) = closed else {
@@ -243,9 +229,9 @@ fn comment_step(s: &[u8], x: Stand) -> Result<Stand, Refused>
     requires short { length s.now ≤ mostBytes }
     requires good { Good s.now x }
     requires opened { IsTrue (opensComment (from s.now x.at)) }
-    ensures on { IfOk result (λ y. (out : List ℕ) → Steps s.now x out y out) }
+    ensures on { IfOk result (λ y. (c : Counts) (out : List ℕ) → Counted x c → Steps s.now x c out y c out) }
     ensures further { IfOk result (λ y. x.at < y.at) }
-    ensures refused { IfErr result (λ e. (out : List ℕ) → Refuses s.now x out e) }
+    ensures refused { IfErr result (λ e. (c : Counts) (out : List ℕ) → Refuses s.now x c out e) }
 {
     if byte_at(s, x.at + 1) == b'/' {
         let end = Cursor { at: x.at }.consume_line_comment(s);
@@ -279,33 +265,37 @@ fn put_run_if(out: &mut [u8], s: &[u8], x: Stand, end: Here)
 }
 
 // A number of one digit, as many are.
-fn digit_step(out: &mut [u8], s: &[u8], x: Stand, end: Here) -> Stand
+fn digit_step(out: &mut [u8], s: &[u8], counts: &mut Counts, x: Stand, end: Here) -> Stand
     requires short { length s.now ≤ mostBytes }
     requires good { Good s.now x }
+    requires counted { Counted x counts.old }
     requires digit { IsTrue (x.class.number == digitClass) }
     requires end_is { end ≡ hereOf s.now (x.at + 1) }
     requires alone { IsFalse (inWord end.class.number) }
-    ensures on { Steps s.now x out.old result out.new }
+    ensures on { Steps s.now x counts.old out.old result counts.new out.new }
     ensures further { result.at ≡ x.at + 1 }
 {
-    let form = Form::int(digit_value(s, x.at));
-    put_if(out, x.bytes, form, x.at, end.at, x.cut);
-    behind_values(x, end, INT)
+    let kind = TokenKind::IntLit(digit_value(s, x.at) as u32);
+    put_if(out, x.bytes, kind.form(), x.at, end.at, x.cut);
+    counts.add(kind);
+    behind(x, end, INT)
 }
 
 // A number; None, where it is refused.
-fn number_step(out: &mut [u8], s: &[u8], x: Stand) -> Option<Stand>
+fn number_step(out: &mut [u8], s: &[u8], counts: &mut Counts, x: Stand) -> Option<Stand>
     requires short { length s.now ≤ mostBytes }
     requires good { Good s.now x }
+    requires counted { Counted x counts.old }
     requires digit { IsTrue (x.class.number == digitClass) }
-    ensures on { IfSome result (λ y. Steps s.now x out.old y out.new) }
+    ensures on { IfSome result (λ y. Steps s.now x counts.old out.old y counts.new out.new) }
     ensures further { IfSome result (λ y. x.at < y.at) }
     ensures kept { IfNone result (out.new ≡ out.old) }
+    ensures uncounted { IfNone result (counts.new ≡ counts.old) }
     ensures none { IfNone result (IsErr (pieceOf (length s.now) (scanNumber (from s.now x.at)))) }
 {
     let next = here_at(s, x.at + 1);
     if !next.class.in_word() {
-        return Some(digit_step(out, s, x, next));
+        return Some(digit_step(out, s, counts, x, next));
     }
     let piece = lex_number(s, Cursor { at: x.at });
     let Ok((kind, end)) = piece else {
@@ -315,12 +305,14 @@ fn number_step(out: &mut [u8], s: &[u8], x: Stand) -> Option<Stand>
         TokenKind::IntLit(v) => {
             let form = Form::int(v as u64);
             put_if(out, x.bytes, form, x.at, end.at, x.cut);
-            Some(behind_values(x, here_at(s, end.at), INT))
+            counts.add(kind);
+            Some(behind(x, here_at(s, end.at), INT))
         }
         TokenKind::LongLit(v) => {
             let form = Form::long(v);
             put_if(out, x.bytes, form, x.at, end.at, x.cut);
-            Some(behind_values(x, here_at(s, end.at), LONG))
+            counts.add(kind);
+            Some(behind(x, here_at(s, end.at), LONG))
         }
         _ => None,
     }
@@ -352,208 +344,262 @@ fn put_word_if(out: &mut [u8], s: &[u8], x: Stand, end: usize)
 
 // A token that was read there: its record is stored, where it fits, or it is refused.
 #[inline(always)]
-fn put_piece(out: &mut [u8], s: &[u8], x: Stand, piece: Piece) -> Result<Stand, Refused>
+fn put_piece(
+    out: &mut [u8],
+    s: &[u8],
+    counts: &mut Counts,
+    x: Stand,
+    piece: Piece,
+) -> Result<Stand, Refused>
     requires short { length s.now ≤ mostBytes }
     requires good { Good s.now x }
+    requires counted { Counted x counts.old }
     requires within { x.at < length s.now }
     requires no_gap { IsFalse (isAny " \t\n\r" (from s.now x.at)) }
     requires no_comment { IsFalse (opensComment (from s.now x.at)) }
     requires piece_is { piece ≡ pieceOf (length s.now) (scan (length s.now) (from s.now x.at)) }
-    ensures on { IfOk result (λ y. Steps s.now x out.old y out.new) }
+    ensures on { IfOk result (λ y. Steps s.now x counts.old out.old y counts.new out.new) }
     ensures further { IfOk result (λ y. x.at < y.at) }
-    ensures refused { IfErr result (λ e. Refuses s.now x out.old e) }
+    ensures refused { IfErr result (λ e. Refuses s.now x counts.old out.old e) }
     ensures kept { IfErr result (λ e. out.new ≡ out.old) }
+    ensures uncounted { IfErr result (λ e. counts.new ≡ counts.old) }
 {
     // `let else` is one of the forms that were asked for; `?` would do as much.
     let Ok((kind, end)) = piece else {
         return Err(piece.unwrap_err());
     };
+    counts.add(kind); // behind the store it took 2 per cent more where a name prefixes a string
     let form = kind.form();
     put_if(out, x.bytes, form, x.at, end.at, x.cut);
-    Ok(behind_values(x, here_at(s, end.at), form.length as usize))
+    Ok(behind(x, here_at(s, end.at), form.length as usize))
 }
 
 // A number, with its refusal.
 #[inline(always)]
-fn digits_step(out: &mut [u8], s: &[u8], x: Stand) -> Result<Stand, Refused>
+fn digits_step(out: &mut [u8], s: &[u8], counts: &mut Counts, x: Stand) -> Result<Stand, Refused>
     requires short { length s.now ≤ mostBytes }
     requires good { Good s.now x }
+    requires counted { Counted x counts.old }
     requires digit { IsTrue (x.class.number == digitClass) }
-    ensures on { IfOk result (λ y. Steps s.now x out.old y out.new) }
+    ensures on { IfOk result (λ y. Steps s.now x counts.old out.old y counts.new out.new) }
     ensures further { IfOk result (λ y. x.at < y.at) }
-    ensures refused { IfErr result (λ e. Refuses s.now x out.old e) }
+    ensures refused { IfErr result (λ e. Refuses s.now x counts.old out.old e) }
     ensures kept { IfErr result (λ e. out.new ≡ out.old) }
+    ensures uncounted { IfErr result (λ e. counts.new ≡ counts.old) }
 {
     let piece = lex_number(s, Cursor { at: x.at });
-    put_piece(out, s, x, piece)
+    put_piece(out, s, counts, x, piece)
 }
 
 // A character or a symbol.
 #[inline(always)]
-fn char_sym_step(out: &mut [u8], s: &[u8], x: Stand) -> Result<Stand, Refused>
+fn char_sym_step(out: &mut [u8], s: &[u8], counts: &mut Counts, x: Stand) -> Result<Stand, Refused>
     requires short { length s.now ≤ mostBytes }
     requires good { Good s.now x }
+    requires counted { Counted x counts.old }
     requires tick { IsTrue (x.class.number == tickClass) }
-    ensures on { IfOk result (λ y. Steps s.now x out.old y out.new) }
+    ensures on { IfOk result (λ y. Steps s.now x counts.old out.old y counts.new out.new) }
     ensures further { IfOk result (λ y. x.at < y.at) }
-    ensures refused { IfErr result (λ e. Refuses s.now x out.old e) }
+    ensures refused { IfErr result (λ e. Refuses s.now x counts.old out.old e) }
     ensures kept { IfErr result (λ e. out.new ≡ out.old) }
+    ensures uncounted { IfErr result (λ e. counts.new ≡ counts.old) }
 {
     let piece = lex_char_sym(s, Cursor { at: x.at });
-    put_piece(out, s, x, piece)
+    put_piece(out, s, counts, x, piece)
 }
 
 // An operator, whose first sign ends at `next`.
 #[inline(always)]
-fn run_step(out: &mut [u8], s: &[u8], x: Stand, next: Cursor) -> Result<Stand, Refused>
+fn run_step(
+    out: &mut [u8],
+    s: &[u8],
+    counts: &mut Counts,
+    x: Stand,
+    next: Cursor,
+) -> Result<Stand, Refused>
     requires short { length s.now ≤ mostBytes }
     requires good { Good s.now x }
+    requires counted { Counted x counts.old }
     requires sign { IsTrue (opSign (from s.now x.at)) }
     requires no_comment { IsFalse (opensComment (from s.now x.at)) }
     requires next_within { next.at ≤ length s.now }
     requires next_same { from s.now next.at ≡ drop 1 (from s.now x.at) }
-    ensures on { IfOk result (λ y. Steps s.now x out.old y out.new) }
+    ensures on { IfOk result (λ y. Steps s.now x counts.old out.old y counts.new out.new) }
     ensures further { IfOk result (λ y. x.at < y.at) }
-    ensures refused { IfErr result (λ e. Refuses s.now x out.old e) }
+    ensures refused { IfErr result (λ e. Refuses s.now x counts.old out.old e) }
     ensures kept { IfErr result (λ e. out.new ≡ out.old) }
+    ensures uncounted { IfErr result (λ e. counts.new ≡ counts.old) }
 {
     let piece = lex_op_run(s, Cursor { at: x.at }, x.class, next);
-    put_piece(out, s, x, piece)
+    put_piece(out, s, counts, x, piece)
 }
 
 // An operator that begins with a sign of ASCII.
 #[inline(always)]
-fn ascii_run_step(out: &mut [u8], s: &[u8], x: Stand) -> Result<Stand, Refused>
+fn ascii_run_step(out: &mut [u8], s: &[u8], counts: &mut Counts, x: Stand) -> Result<Stand, Refused>
     requires short { length s.now ≤ mostBytes }
     requires good { Good s.now x }
+    requires counted { Counted x counts.old }
     requires sign { IsTrue (isSign x.class.number) }
     requires no_comment { IsFalse (opensComment (from s.now x.at)) }
-    ensures on { IfOk result (λ y. Steps s.now x out.old y out.new) }
+    ensures on { IfOk result (λ y. Steps s.now x counts.old out.old y counts.new out.new) }
     ensures further { IfOk result (λ y. x.at < y.at) }
-    ensures refused { IfErr result (λ e. Refuses s.now x out.old e) }
+    ensures refused { IfErr result (λ e. Refuses s.now x counts.old out.old e) }
     ensures kept { IfErr result (λ e. out.new ≡ out.old) }
+    ensures uncounted { IfErr result (λ e. counts.new ≡ counts.old) }
 {
-    run_step(out, s, x, Cursor { at: x.at + 1 })
+    run_step(out, s, counts, x, Cursor { at: x.at + 1 })
 }
 
 // What begins with a `/`: a comment, or an operator.
 #[inline(always)]
-fn slash_step(out: &mut [u8], s: &[u8], x: Stand) -> Result<Stand, Refused>
+fn slash_step(out: &mut [u8], s: &[u8], counts: &mut Counts, x: Stand) -> Result<Stand, Refused>
     requires short { length s.now ≤ mostBytes }
     requires good { Good s.now x }
+    requires counted { Counted x counts.old }
     requires slash { IsTrue (x.class.number == slashClass) }
-    ensures on { IfOk result (λ y. Steps s.now x out.old y out.new) }
+    ensures on { IfOk result (λ y. Steps s.now x counts.old out.old y counts.new out.new) }
     ensures further { IfOk result (λ y. x.at < y.at) }
-    ensures refused { IfErr result (λ e. Refuses s.now x out.old e) }
+    ensures refused { IfErr result (λ e. Refuses s.now x counts.old out.old e) }
     ensures kept { IfErr result (λ e. out.new ≡ out.old) }
+    ensures uncounted { IfErr result (λ e. counts.new ≡ counts.old) }
 {
     if opens_with(byte_at(s, x.at + 1)) {
         return comment_step(s, x);
     }
-    ascii_run_step(out, s, x)
+    ascii_run_step(out, s, counts, x)
 }
 
 // An identifier, a keyword, or the string that an identifier prefixes. Its first character ends at `next`.
 #[inline(always)]
-fn name_step(out: &mut [u8], s: &[u8], x: Stand, next: Cursor) -> Result<Stand, Refused>
+fn name_step(
+    out: &mut [u8],
+    s: &[u8],
+    counts: &mut Counts,
+    x: Stand,
+    next: Cursor,
+) -> Result<Stand, Refused>
     requires short { length s.now ≤ mostBytes }
     requires good { Good s.now x }
+    requires counted { Counted x counts.old }
     requires starts { IsTrue (headIs isIdStart (from s.now x.at)) }
     requires next_within { next.at ≤ length s.now }
     requires next_same { from s.now next.at ≡ drop 1 (from s.now x.at) }
-    ensures on { IfOk result (λ y. Steps s.now x out.old y out.new) }
+    ensures on { IfOk result (λ y. Steps s.now x counts.old out.old y counts.new out.new) }
     ensures further { IfOk result (λ y. x.at < y.at) }
-    ensures refused { IfErr result (λ e. Refuses s.now x out.old e) }
+    ensures refused { IfErr result (λ e. Refuses s.now x counts.old out.old e) }
     ensures kept { IfErr result (λ e. out.new ≡ out.old) }
+    ensures uncounted { IfErr result (λ e. counts.new ≡ counts.old) }
 {
     let piece = lex_ident(s, Cursor { at: x.at }, x.class, next);
-    put_piece(out, s, x, piece)
+    put_piece(out, s, counts, x, piece)
 }
 
 // The same, where it begins with a letter, `$` or `_` of ASCII.
 #[inline(always)]
-fn ascii_name_step(out: &mut [u8], s: &[u8], x: Stand) -> Result<Stand, Refused>
+fn ascii_name_step(
+    out: &mut [u8],
+    s: &[u8],
+    counts: &mut Counts,
+    x: Stand,
+) -> Result<Stand, Refused>
     requires short { length s.now ≤ mostBytes }
     requires good { Good s.now x }
+    requires counted { Counted x counts.old }
     requires no_sign { IsFalse (upToBlank x.class.number) }
     requires begins { IsTrue (startsWord x.class.number) }
-    ensures on { IfOk result (λ y. Steps s.now x out.old y out.new) }
+    ensures on { IfOk result (λ y. Steps s.now x counts.old out.old y counts.new out.new) }
     ensures further { IfOk result (λ y. x.at < y.at) }
-    ensures refused { IfErr result (λ e. Refuses s.now x out.old e) }
+    ensures refused { IfErr result (λ e. Refuses s.now x counts.old out.old e) }
     ensures kept { IfErr result (λ e. out.new ≡ out.old) }
+    ensures uncounted { IfErr result (λ e. counts.new ≡ counts.old) }
 {
-    name_step(out, s, x, Cursor { at: x.at + 1 })
+    name_step(out, s, counts, x, Cursor { at: x.at + 1 })
 }
 
 // What begins with a character past ASCII: an operator, an identifier, or nothing.
 #[inline(always)]
-fn wide_step(out: &mut [u8], s: &[u8], x: Stand) -> Result<Stand, Refused>
+fn wide_step(out: &mut [u8], s: &[u8], counts: &mut Counts, x: Stand) -> Result<Stand, Refused>
     requires short { length s.now ≤ mostBytes }
     requires good { Good s.now x }
+    requires counted { Counted x counts.old }
     requires wide { IsTrue (x.class.number == wideClass) }
-    ensures on { IfOk result (λ y. Steps s.now x out.old y out.new) }
+    ensures on { IfOk result (λ y. Steps s.now x counts.old out.old y counts.new out.new) }
     ensures further { IfOk result (λ y. x.at < y.at) }
-    ensures refused { IfErr result (λ e. Refuses s.now x out.old e) }
+    ensures refused { IfErr result (λ e. Refuses s.now x counts.old out.old e) }
     ensures kept { IfErr result (λ e. out.new ≡ out.old) }
+    ensures uncounted { IfErr result (λ e. counts.new ≡ counts.old) }
 {
     let c = Cursor { at: x.at };
     if is_arrow_at(s, x.at) {
-        return run_step(out, s, x, c.step(s));
+        return run_step(out, s, counts, x, c.step(s));
     }
     let Some(next) = class_end::<IdStart>(s, x.at) else {
         return Err(Refusal::NoPiece.at(x.at));
     };
-    name_step(out, s, x, Cursor { at: next })
+    name_step(out, s, counts, x, Cursor { at: next })
 }
 
 // A plain string.
 #[inline(always)]
-fn string_step(out: &mut [u8], s: &[u8], x: Stand) -> Result<Stand, Refused>
+fn string_step(out: &mut [u8], s: &[u8], counts: &mut Counts, x: Stand) -> Result<Stand, Refused>
     requires short { length s.now ≤ mostBytes }
     requires good { Good s.now x }
+    requires counted { Counted x counts.old }
     requires quote { IsTrue (x.class.number == quoteClass) }
-    ensures on { IfOk result (λ y. Steps s.now x out.old y out.new) }
+    ensures on { IfOk result (λ y. Steps s.now x counts.old out.old y counts.new out.new) }
     ensures further { IfOk result (λ y. x.at < y.at) }
-    ensures refused { IfErr result (λ e. Refuses s.now x out.old e) }
+    ensures refused { IfErr result (λ e. Refuses s.now x counts.old out.old e) }
     ensures kept { IfErr result (λ e. out.new ≡ out.old) }
+    ensures uncounted { IfErr result (λ e. counts.new ≡ counts.old) }
 {
     let piece = lex_plain_string(s, Cursor { at: x.at });
-    put_piece(out, s, x, piece)
+    put_piece(out, s, counts, x, piece)
 }
 
 // A string that the name up to a place prefixes.
 #[inline(always)]
-fn prefixed_step(out: &mut [u8], s: &[u8], x: Stand, end: usize) -> Result<Stand, Refused>
+fn prefixed_step(
+    out: &mut [u8],
+    s: &[u8],
+    counts: &mut Counts,
+    x: Stand,
+    end: usize,
+) -> Result<Stand, Refused>
     requires short { length s.now ≤ mostBytes }
     requires good { Good s.now x }
+    requires counted { Counted x counts.old }
     requires within { x.at < length s.now }
     requires no_gap { IsFalse (isAny " \t\n\r" (from s.now x.at)) }
     requires no_comment { IsFalse (opensComment (from s.now x.at)) }
     requires prefixes { Prefixes s.now x.at end }
-    ensures on { IfOk result (λ y. Steps s.now x out.old y out.new) }
+    ensures on { IfOk result (λ y. Steps s.now x counts.old out.old y counts.new out.new) }
     ensures further { IfOk result (λ y. x.at < y.at) }
-    ensures refused { IfErr result (λ e. Refuses s.now x out.old e) }
+    ensures refused { IfErr result (λ e. Refuses s.now x counts.old out.old e) }
     ensures kept { IfErr result (λ e. out.new ≡ out.old) }
+    ensures uncounted { IfErr result (λ e. counts.new ≡ counts.old) }
 {
     let piece = lex_prefixed_string(s, x.at, Cursor { at: end });
-    put_piece(out, s, x, piece)
+    put_piece(out, s, counts, x, piece)
 }
 
 // A backtick, or the string that it prefixes. Each is stored for itself: joined in one `Piece`, they are slower.
 #[inline(always)]
-fn backtick_step(out: &mut [u8], s: &[u8], x: Stand) -> Result<Stand, Refused>
+fn backtick_step(out: &mut [u8], s: &[u8], counts: &mut Counts, x: Stand) -> Result<Stand, Refused>
     requires short { length s.now ≤ mostBytes }
     requires good { Good s.now x }
+    requires counted { Counted x counts.old }
     requires backtick { IsTrue (x.class.number == backtickClass) }
-    ensures on { IfOk result (λ y. Steps s.now x out.old y out.new) }
+    ensures on { IfOk result (λ y. Steps s.now x counts.old out.old y counts.new out.new) }
     ensures further { IfOk result (λ y. x.at < y.at) }
-    ensures refused { IfErr result (λ e. Refuses s.now x out.old e) }
+    ensures refused { IfErr result (λ e. Refuses s.now x counts.old out.old e) }
     ensures kept { IfErr result (λ e. out.new ≡ out.old) }
+    ensures uncounted { IfErr result (λ e. counts.new ≡ counts.old) }
 {
     let c = consume_backtick(s, Cursor { at: x.at })?;
     let end = here_at(s, c.at);
     if end.class == Class::QUOTE {
-        return prefixed_step(out, s, x, end.at);
+        return prefixed_step(out, s, counts, x, end.at);
     }
     put_if(
         out,
@@ -563,7 +609,7 @@ fn backtick_step(out: &mut [u8], s: &[u8], x: Stand) -> Result<Stand, Refused>
         end.at,
         x.cut,
     );
-    Ok(behind(x, end))
+    Ok(behind(x, end, HEAD))
 }
 
 // May what stands behind a word make more of it? A sign does only where an underscore came last.
@@ -586,10 +632,11 @@ fn run_goes_on(s: &[u8], end: Here) -> bool
 
 // As far as blanks, signs, words, line ends, runs of operator signs and numbers stand there of which no byte behind them makes more, as most pieces
 // are.
-fn walk_words(out: &mut [u8], s: &[u8], start: Stand) -> Stand
+fn walk_words(out: &mut [u8], s: &[u8], counts: &mut Counts, start: Stand) -> Stand
     requires short { length s.now ≤ mostBytes }
     requires good { Good s.now start }
-    ensures on { Steps s.now start out.old result out.new }
+    requires counted { Counted start counts.old }
+    ensures on { Steps s.now start counts.old out.old result counts.new out.new }
     ensures left { Left s.now result }
 {
     let mut x = start;
@@ -605,23 +652,23 @@ fn walk_words(out: &mut [u8], s: &[u8], start: Stand) -> Stand
                 return x;
             }
             put_word_if(out, s, x, end.at);
-            x = behind(x, end);
+            x = behind(x, end, HEAD);
         } else if x.class == Class::LF {
-            x = line_step(out, s, x);
+            x = line_step(out, s, counts, x);
         } else if x.class.in_run() {
             let end = run_end(s, x.at + 1);
             if run_goes_on(s, end) {
                 return x;
             }
             put_run_if(out, s, x, end);
-            x = behind(x, end);
+            x = behind(x, end, HEAD);
         } else if x.class == Class::CR {
-            let Ok(y) = return_step(out, s, x) else {
+            let Ok(y) = return_step(out, s, counts, x) else {
                 return x;
             };
             x = y;
         } else if x.class == Class::DIGIT {
-            let Some(y) = number_step(out, s, x) else {
+            let Some(y) = number_step(out, s, counts, x) else {
                 return x;
             };
             x = y;
@@ -631,37 +678,58 @@ fn walk_words(out: &mut [u8], s: &[u8], start: Stand) -> Stand
     }
 }
 
-/// From the script's start to its end, or to what is refused. While no cut is set, as nearly always, words and all that is as short go in a loop of
-/// their own.
-pub fn walk(out: &mut [u8], s: &[u8]) -> Result<Stand, Refused>
+// The end of script: its record is stored where it fits. Tokens were not counted: every record has one head, so they are the bytes that are no values,
+// divided by a head's length.
+#[tactic(auto, using(crate::proofs::records::Ends::sizes))]
+fn finish(out: &mut [u8], counts: Counts, x: Stand) -> Need
+    requires room { x.bytes + headLength ≤ 18446744073709551615 }
+    requires values_fit { valueNeed counts ≤ x.bytes }
+    ensures value { result ≡ needAt (x.bytes + headLength) counts }
+    ensures out_after { out.new ≡ storedIf out.old x.bytes (recordOf (eofAt x.at x.cut)) }
+{
+    put_if(out, x.bytes, Form::plain(TokenKind::EOF), x.at, x.at, x.cut);
+    let bytes = x.bytes + HEAD;
+    Need {
+        tokens: (bytes - counts.value_bytes()) / HEAD,
+        bytes,
+        counts,
+    }
+}
+
+/// From the script's start to its end, or to what is refused: what the records need. While no cut is set, as nearly always, words and all that is as
+/// short go in a loop of their own. The counts are lent, and begin at none: in memory, one that does not change costs nothing.
+pub fn walk(out: &mut [u8], s: &[u8], counts: &mut Counts) -> Result<Need, Refused>
     requires short { length s.now ≤ mostBytes }
-    ensures on { IfOk result (λ y. Steps s.now (beginning s.now) out.old y out.new) }
-    ensures ended { IfOk result (λ y. y.at ≡ length s.now) }
+    requires begins { counts.old ≡ noneCounted }
+    ensures needs { IfOk result (λ need. measuredFrom s.now begun ≡ Ok need) }
     ensures refused { IfErr result (λ e. measuredFrom s.now begun ≡ Err e) }
-    ensures out_after { IfErr result (λ e. out.new ≡ storedFrom s.now begun out.old) }
+    ensures out_after { out.new ≡ storedFrom s.now begun out.old }
+    ensures counts_after { counts.new ≡ countedFrom s.now begun }
 {
     // Made here and not handed over, so that the compiler knows that no cut is set.
     let mut x = Stand::start(s);
     // The same steps, of every piece, by the class of its first byte.
     loop {
         if !x.cut {
-            x = walk_words(out, s, x);
+            x = walk_words(out, s, counts, x);
         }
         x = match x.class {
-            Class::SLASH => slash_step(out, s, x)?,
-            Class::QUOTE => string_step(out, s, x)?,
-            Class::WIDE => wide_step(out, s, x)?,
-            Class::TICK => char_sym_step(out, s, x)?,
-            Class::BACKTICK => backtick_step(out, s, x)?,
-            Class::CR => return_step(out, s, x)?,
-            Class::LF => line_step(out, s, x),
+            Class::SLASH => slash_step(out, s, counts, x)?,
+            Class::QUOTE => string_step(out, s, counts, x)?,
+            Class::WIDE => wide_step(out, s, counts, x)?,
+            Class::TICK => char_sym_step(out, s, counts, x)?,
+            Class::BACKTICK => backtick_step(out, s, counts, x)?,
+            Class::CR => return_step(out, s, counts, x)?,
+            Class::LF => line_step(out, s, counts, x),
             Class::BLANK => blank_step(s, x),
-            Class::DIGIT => digits_step(out, s, x)?,
-            Class::START | Class::DOLLAR | Class::KEYWORD => ascii_name_step(out, s, x)?,
-            Class::SIGN | Class::SIGN_KEYWORD | Class::BACKSLASH => ascii_run_step(out, s, x)?,
+            Class::DIGIT => digits_step(out, s, counts, x)?,
+            Class::START | Class::DOLLAR | Class::KEYWORD => ascii_name_step(out, s, counts, x)?,
+            Class::SIGN | Class::SIGN_KEYWORD | Class::BACKSLASH => ascii_run_step(
+                out, s, counts, x,
+            )?,
             class if class.is_sign() => sign_step(out, s, x),
             _ if x.at < s.len() => return Err(Refusal::NoPiece.at(x.at)),
-            _ => return Ok(x),
+            _ => return Ok(finish(out, *counts, x)),
         };
     }
 }

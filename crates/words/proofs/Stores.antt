@@ -1,5 +1,5 @@
 -- Stores that follow one another are one store; what each writer of src/write.rt stores is one list.
-use Rattle.std.proofs.Common.{ℕ, suc, ◌≤◌, ◌+◌, ◌-◌, ◌*◌, ◌/◌, ◌%◌, ◌≡◌, refl, sym, ◌∙◌, ap, List, [], ◌∷◌, ◌++◌, append-nil, append_assoc, length, set, take, drop, length-take-le, drop-drop, add-zero, zero-add, arith}
+use Rattle.std.proofs.Common.{ℕ, suc, ◌≤◌, ◌+◌, ◌-◌, ◌*◌, ◌/◌, ◌%◌, ◌≡◌, refl, sym, ◌∙◌, ap, List, [], ◌∷◌, ◌++◌, append-nil, append_assoc, length, set, take, drop, length-append, length-take-le, drop-drop, add-zero, zero-add, arith}
 use Rattle.std.proofs.Math.Seq.{sets, sets-eq, drop-length}
 use Rattle.std.specs.Int.{w64, to_le_bytes}
 use Rattle.words.specs.Words.{le4, le8, blockOf}
@@ -91,3 +91,12 @@ put-four-numbers l m n o p w a b c d p1 p2 p3 p4 =
 -- over the whole block
 pub put-sixteen : (l m : List ℕ) (j a count bytes : ℕ) → length l ≡ 16 → m ≡ sets l 0 (blockOf j a count bytes) → m ≡ blockOf j a count bytes
 put-sixteen l m j a count bytes h p = p ∙ whole l (blockOf j a count bytes) (h ∙ sym (length-block j a count bytes))
+
+-- two blocks cover 32 bytes
+pub put-blocks : (l : List ℕ) (a b c d e f g h : ℕ) → length l ≡ 32
+    → sets (sets l 0 (blockOf a b c d)) 16 (blockOf e f g h) ≡ blockOf a b c d ++ blockOf e f g h
+put-blocks l a b c d e f g h k =
+    let n = length-block a b c d in
+    let m = length-block e f g h in
+    let size : length (blockOf a b c d ++ blockOf e f g h) ≡ 32 = simp (length-append, n, m) in
+    after (blockOf a b c d) (blockOf e f g h) l _ 0 16 refl (omega arith) ∙ whole l (blockOf a b c d ++ blockOf e f g h) (k ∙ sym size)

@@ -15,7 +15,7 @@ use Rattle.token.specs.computed.Answer.{Answer, tokenized, refused, answer}
 use Rattle.token.specs.paper.Records.{records, tokenCount, recordBytes}
 use Rattle.token.specs.code.Refusal as piece
 use Rattle.token.specs.code.Records.{Needs, tokensIn, begun, storedFrom}
-use Rattle.token.specs.declared.records.Need.{Need}
+use Rattle.token.specs.declared.counts.Need.{Need}
 use Rattle.token.specs.declared.refusal.Refusal as token
 use Rattle.token.specs.declared.refusal.Refusal.TheVariants as p
 use Rattle.entry.specs.declared.limits.Limits.{Limits}
@@ -72,11 +72,11 @@ judged-piece w a = judged-checked (refusal.Piece w) a (piece-by w)
 
 judged-granted : (ts : List Token) (n : Need) → Needs (tokenized ts) n → Ok n ≡ judgedOf (granted ts)
 unfolding judgedOf
-judged-granted ts n k = let t = k.tokens in let b = k.bytes in rw (← t, ← b) refl
+judged-granted ts n k = ap (λ m. Ok m) k.need
 
 judged-lacking : (ts : List Token) (n : Need) → Needs (tokenized ts) n → Ok n ≡ judgedOf (lacking ts)
 unfolding judgedOf
-judged-lacking ts n k = let t = k.tokens in let b = k.bytes in rw (← t, ← b) refl
+judged-lacking ts n k = ap (λ m. Ok m) k.need
 
 module _ (limits : Limits) (s : List ℕ) where
   -- refused by a test
@@ -113,7 +113,7 @@ module _ (limits : Limits) (s : List ℕ) where
       judge-many f room = go (answer s) refl h
         where
           go : (w : Answer) → answer s ≡ w → Needs w n → verdict limits s room ≡ rejected 28 0
-          go (tokenized ts) e k = verdict-rest limits s room passes ∙ room-many limits.tokens room (answer s) ts e (ap (tooMany limits.tokens) (sym k.tokens) ∙ f)
+          go (tokenized ts) e k = verdict-rest limits s room passes ∙ room-many limits.tokens room (answer s) ts e (ap (λ (m : Need). tooMany limits.tokens m.tokens) (sym k.need) ∙ f)
           go (refused j a) e k = let g = k.is-tokenized in zero-one (cc)
 
       pub many-by : tooMany limits.tokens n.tokens ≡ true → (room : ℕ) → Err (record { what = refusal.TooManyTokens; place = 0 }) ≡ judgedOf (verdict limits s room)
@@ -131,7 +131,7 @@ module _ (limits : Limits) (s : List ℕ) where
             go (tokenized ts) e k = room-by (leb (recordBytes ts) room) refl
               where
                 few : tooMany limits.tokens (tokenCount ts) ≡ false
-                few = ap (tooMany limits.tokens) (sym k.tokens) ∙ f
+                few = ap (λ (m : Need). tooMany limits.tokens m.tokens) (sym k.need) ∙ f
 
                 room-by : (b : Bool) → leb (recordBytes ts) room ≡ b → Ok n ≡ judgedOf (verdict limits s room)
                 room-by true g =
@@ -176,7 +176,7 @@ module _ (limits : Limits) (s buf block : List ℕ) where
       was-tokenized = go (answer s) refl d.needs
         where
           go : (w : Answer) → answer s ≡ w → Needs w n → (ts : List Token) × (answer s ≡ tokenized ts) × (n.tokens ≡ length ts) × (n.bytes ≡ recordBytes ts)
-          go (tokenized ts) e k = (ts, e, k.tokens, k.bytes)
+          go (tokenized ts) e k = (ts, e, ap (λ (m : Need). m.tokens) k.need, ap (λ (m : Need). m.bytes) k.need)
           go (refused j a) e k = let f = k.is-tokenized in zero-one (cc)
 
       pub entry-short : (blk : List ℕ) → length buf < n.bytes → blk ≡ blockOf 19 0 n.tokens n.bytes → seen 19 buf blk ≡ hostFor limits s buf block

@@ -3,11 +3,11 @@ use mathlib.Core.Path.{refl}
 use Rattle.entry.specs.computed.Check.{checkOf}
 use Rattle.entry.specs.computed.Host.{verdict}
 use Rattle.entry.specs.paper.TokenText.{hasText, tokenText}
-use Rattle.entry.specs.computed.Listing.{entered, hosted}
+use Rattle.entry.specs.computed.Listing.{entered, hosted, measuring}
 use Rattle.entry.specs.computed.Examples.{Examples}
 
 pub examples : Examples
-unfolding entered hosted verdict checkOf tokenText hasText
+unfolding entered hosted measuring verdict checkOf tokenText hasText
 examples = record {
   scripts-hold = refl;
   too-long = λ limits s room long. rw long;
@@ -20,6 +20,10 @@ examples = record {
   block-15 = refl;
   lent-27 = refl;
   bound-met = refl;
+  measured-five = refl;
+  measured = refl;
+  measured-refused = refl;
+  measured-31 = refl;
   text-21 = refl;
   text-ok = refl;
 }

@@ -15,13 +15,13 @@ use Rattle.chars.specs.paper.Utf8.{WellFormed}
 use Rattle.chars.proofs.theorems.Promises.{valid-laws}
 use Rattle.token.specs.paper.Kinds.{Token}
 use Rattle.token.specs.paper.Reading.{TokensOf}
-use Rattle.token.specs.paper.Refusals.{BadEscape, Met}
+use Rattle.token.specs.paper.Refusals as piece
 use Rattle.token.specs.paper.Records.{tokenCount, recordBytes, mostBytes}
 use Rattle.token.specs.computed.Answer.{Answer, answer}
 use Rattle.entry.specs.declared.limits.Limits.{Limits}
 use Rattle.entry.specs.declared.refusal.Refused.{Refused}
 use Rattle.entry.specs.paper.Limits.{compiler, contact, contactNeed, Few, Keeps}
-use Rattle.entry.specs.paper.Host.{Seen, seen, numberSeen, bufferSeen, Clean, Read, Sees}
+use Rattle.entry.specs.paper.Host.{Seen, seen, numberSeen, bufferSeen, Clean, Read, Rejects, Sees}
 use Rattle.entry.specs.computed.Host.{granted, rejected, lacking, tooMany, Verdict, byRoom, verdict, seenOf, hostFor}
 use Rattle.entry.specs.Theorems.{HostTheorems, CompilerTheorems, ContactTheorems, Accepts}
 use Rattle.entry.proofs.host.Checks.{CheckedAs, long, over, invalid, good, checked-as, check-long, check-over, check-invalid, check-good}
@@ -33,26 +33,26 @@ use Rattle.entry.proofs.theorems.Contacts.{contact-need}
 open valid-laws use {valid, longest-one, valid-all, all-valid}
 
 -- the numbers of the refusals of a piece
-escape-range : {b q : Text} {j : ℕ} → BadEscape b j q → (1 ≤ j) × (j ≤ 16)
-escape-range (BadEscape.e12 o) = (omega arith, omega arith)
-escape-range (BadEscape.e13 n l o z) = (omega arith, omega arith)
-escape-range (BadEscape.e14 o z) = (omega arith, omega arith)
+escape-range : {b q : Text} {j : ℕ} → piece.BadEscape b j q → (1 ≤ j) × (j ≤ 16)
+escape-range (piece.BadEscape.e12 o) = (omega arith, omega arith)
+escape-range (piece.BadEscape.e13 n l o z) = (omega arith, omega arith)
+escape-range (piece.BadEscape.e14 o z) = (omega arith, omega arith)
 
-pub met-range : {s q : Text} {j : ℕ} → Met s j q → (1 ≤ j) × (j ≤ 16)
-met-range (Met.m1 a b) = (omega arith, omega arith)
-met-range (Met.m2 a b) = (omega arith, omega arith)
-met-range (Met.m3 a b d) = (omega arith, omega arith)
-met-range (Met.m4 a) = (omega arith, omega arith)
-met-range (Met.m5 a) = (omega arith, omega arith)
-met-range (Met.m6 a b d) = (omega arith, omega arith)
-met-range (Met.m7 a b) = (omega arith, omega arith)
-met-range (Met.m8 a b d) = (omega arith, omega arith)
-met-range (Met.m9 a b) = (omega arith, omega arith)
-met-range (Met.m10 a b d) = (omega arith, omega arith)
-met-range (Met.m11 a b) = (omega arith, omega arith)
-met-range (Met.m12 a e) = escape-range e
-met-range (Met.m15 a b) = (omega arith, omega arith)
-met-range (Met.m16 a b d e) = (omega arith, omega arith)
+pub met-range : {s q : Text} {j : ℕ} → piece.Met s j q → (1 ≤ j) × (j ≤ 16)
+met-range (piece.Met.m1 a b) = (omega arith, omega arith)
+met-range (piece.Met.m2 a b) = (omega arith, omega arith)
+met-range (piece.Met.m3 a b d) = (omega arith, omega arith)
+met-range (piece.Met.m4 a) = (omega arith, omega arith)
+met-range (piece.Met.m5 a) = (omega arith, omega arith)
+met-range (piece.Met.m6 a b d) = (omega arith, omega arith)
+met-range (piece.Met.m7 a b) = (omega arith, omega arith)
+met-range (piece.Met.m8 a b d) = (omega arith, omega arith)
+met-range (piece.Met.m9 a b) = (omega arith, omega arith)
+met-range (piece.Met.m10 a b d) = (omega arith, omega arith)
+met-range (piece.Met.m11 a b) = (omega arith, omega arith)
+met-range (piece.Met.m12 a e) = escape-range e
+met-range (piece.Met.m15 a b) = (omega arith, omega arith)
+met-range (piece.Met.m16 a b d e) = (omega arith, omega arith)
 
 -- ---- the limit for tokens, computed
 
@@ -72,6 +72,74 @@ tokens-many : (most : Option ℕ) (n : ℕ) → tooMany most n ≡ true → IsSo
 tokens-many None n e = cc
 tokens-many (Some m) n e = ltb-true m n e
 
+-- ---- what is met whatever is lent
+
+module _ (limits : Limits) (script : List ℕ) (room : ℕ) where
+  judged : Clean limits script → verdict limits script room ≡ byRoom limits.tokens room (answer script)
+  judged h =
+      let e = valid-all script h.utf8 in
+      verdict-rest limits script room (check-good limits.bytes script h.sized.in-limit h.sized.within (omega arith))
+
+  -- what is declared is computed
+  pub rejects-only : {j a : ℕ} → Rejects limits script j a → verdict limits script room ≡ rejected j a
+  rejects-only (Rejects.seventeen l) = verdict-checked limits script room _ (check-long limits.bytes script l)
+  rejects-only (Rejects.twentySeven l m) = verdict-checked limits script room _ (check-over limits.bytes script l m)
+  rejects-only (Rejects.eighteen {n} z v m) =
+      let q : validPrefix script ≡ n = longest-one (valid script) v in
+      verdict-checked limits script room _ (check-invalid limits.bytes script z.in-limit z.within n q m)
+  rejects-only (Rejects.refused {j} {a} c h) = judged c ∙ room-rejected limits.tokens room (answer script) j a ((refusal script j a).1 h)
+  rejects-only (Rejects.twentyEight {ts} c h m) =
+      judged c ∙ room-many limits.tokens room (answer script) ts (answer-tokens script ts h) (many-tokens limits.tokens (tokenCount ts) m)
+
+  pub granted-only : {ts : List Token} → Read limits script ts → recordBytes ts ≤ room → verdict limits script room ≡ granted ts
+  granted-only {ts} r m =
+      judged r.clean
+      ∙ room-granted limits.tokens room (answer script) ts (answer-tokens script ts r.tokensOf) (few-tokens limits.tokens (tokenCount ts) r.few) m
+
+  pub lacking-only : {ts : List Token} → Read limits script ts → room < recordBytes ts → verdict limits script room ≡ lacking ts
+  lacking-only {ts} r m =
+      judged r.clean
+      ∙ room-lacking limits.tokens room (answer script) ts (answer-tokens script ts r.tokensOf) (few-tokens limits.tokens (tokenCount ts) r.few) m
+
+-- a script is refused, or read
+pub data Met (limits : Limits) (script : List ℕ) : Type 0 where
+  rejects : {j a : ℕ} → Rejects limits script j a → Met limits script
+  reads : {ts : List Token} → Read limits script ts → Met limits script
+
+module _ (limits : Limits) (script : List ℕ) where
+  -- and one of both in every case
+  pub met : Met limits script
+  met = tested (checked-as limits.bytes script)
+    where
+      counted : Clean limits script → (ts : List Token) → TokensOf script ts → (b : Bool) → tooMany limits.tokens (tokenCount ts) ≡ b
+          → Met limits script
+      counted c ts k true m = rejects (Rejects.twentyEight c k (tokens-many limits.tokens (tokenCount ts) m))
+      counted c ts k false m = reads (record { clean = c; tokensOf = k; few = tokens-few limits.tokens (tokenCount ts) m })
+
+      read : Clean limits script → (a : Answer) → answer script ≡ a → Met limits script
+      read c (Answer.tokenized ts) q = counted c ts (tokens-answer script ts q) (tooMany limits.tokens (tokenCount ts)) refl
+      read c (Answer.refused j a) q = rejects (Rejects.refused c ((refusal script j a).0 q))
+
+      tested : {x : Result (Unit {0}) Refused} → CheckedAs limits.bytes script x → Met limits script
+      tested (long l) = rejects (Rejects.seventeen l)
+      tested (over l m) = rejects (Rejects.twentySeven l m)
+      tested (invalid l m v) = rejects (Rejects.eighteen (record { in-limit = l; within = m }) (valid script) v)
+      tested (good l m v) = read (record { sized = record { in-limit = l; within = m }; utf8 = all-valid script v }) (answer script) refl
+
+  pub number-of : {j a : ℕ} → Rejects limits script j a → ((1 ≤ j) × (j ≤ 18)) ⊎ ((27 ≤ j) × (j ≤ 28))
+  number-of (Rejects.seventeen l) = inl (omega arith, omega arith)
+  number-of (Rejects.twentySeven l m) = inr (omega arith, omega arith)
+  number-of (Rejects.eighteen z v m) = inl (omega arith, omega arith)
+  number-of (Rejects.refused c k) = let r = met-range k.first.met in let l = r.0 in let h = r.1 in inl (omega arith, omega arith)
+  number-of (Rejects.twentyEight c k m) = inr (omega arith, omega arith)
+
+  -- where there are tokens that keep the limits nothing of the script is refused
+  pub keeps-read : WellFormed script → length script ≤ mostBytes → length script ≤ limits.bytes → (ts : List Token) → TokensOf script ts
+      → Few limits ts → Read limits script ts
+  keeps-read utf8 l m ts k f = record { clean = record { sized = record { in-limit = l; within = m }; utf8 = utf8 }; tokensOf = k; few = f }
+
+-- ---- what the host sees
+
 module _ (limits : Limits) (script buffer block : List ℕ) where
   host-20 : (length block ≡ 16 → ⊥) → hostFor limits script buffer block ≡ seen 20 buffer block
   unfolding hostFor
@@ -81,33 +149,13 @@ module _ (limits : Limits) (script buffer block : List ℕ) where
   unfolding hostFor
   host-16 e v h = rw (eq-eqb (length block) 16 e, h)
 
-  judged : Clean limits script block → verdict limits script (length buffer) ≡ byRoom limits.tokens (length buffer) (answer script)
-  judged h =
-      let e = valid-all script h.utf8 in
-      verdict-rest limits script (length buffer) (check-good limits.bytes script h.sized.in-limit h.sized.within (omega arith))
-
   -- what is declared is computed
   pub sees-only : {x : Seen} → Sees limits script buffer block x → hostFor limits script buffer block ≡ x
   unfolding seenOf
   sees-only (Sees.twenty n) = host-20 n
-  sees-only (Sees.seventeen e l) = host-16 e (rejected 17 0) (verdict-checked limits script (length buffer) _ (check-long limits.bytes script l))
-  sees-only (Sees.twentySeven e l m) = host-16 e (rejected 27 0) (verdict-checked limits script (length buffer) _ (check-over limits.bytes script l m))
-  sees-only (Sees.eighteen {n} z v m) =
-      let q : validPrefix script ≡ n = longest-one (valid script) v in
-      host-16 z.sixteen (rejected 18 n) (verdict-checked limits script (length buffer) _ (check-invalid limits.bytes script z.in-limit z.within n q m))
-  sees-only (Sees.refused {j} {a} c h) =
-      host-16 c.sized.sixteen (rejected j a) (judged c ∙ room-rejected limits.tokens (length buffer) (answer script) j a ((refusal script j a).1 h))
-  sees-only (Sees.twentyEight {ts} c h m) =
-      host-16 c.sized.sixteen (rejected 28 0)
-      (judged c ∙ room-many limits.tokens (length buffer) (answer script) ts (answer-tokens script ts h) (many-tokens limits.tokens (tokenCount ts) m))
-  sees-only (Sees.nineteen {ts} r m) =
-      host-16 r.clean.sized.sixteen (lacking ts)
-      (judged r.clean
-      ∙ room-lacking limits.tokens (length buffer) (answer script) ts (answer-tokens script ts r.tokensOf) (few-tokens limits.tokens (tokenCount ts) r.few) m)
-  sees-only (Sees.accepted {ts} r m) =
-      host-16 r.clean.sized.sixteen (granted ts)
-      (judged r.clean
-      ∙ room-granted limits.tokens (length buffer) (answer script) ts (answer-tokens script ts r.tokensOf) (few-tokens limits.tokens (tokenCount ts) r.few) m)
+  sees-only (Sees.rejected {j} {a} e h) = host-16 e (rejected j a) (rejects-only limits script (length buffer) h)
+  sees-only (Sees.nineteen {ts} e r m) = host-16 e (lacking ts) (lacking-only limits script (length buffer) r m)
+  sees-only (Sees.accepted {ts} e r m) = host-16 e (granted ts) (granted-only limits script (length buffer) r m)
 
   put : {x : Seen} → Sees limits script buffer block x → Sees limits script buffer block (hostFor limits script buffer block)
   put h = rw (sees-only h) h
@@ -116,62 +164,42 @@ module _ (limits : Limits) (script buffer block : List ℕ) where
   pub sees-host : Sees limits script buffer block (hostFor limits script buffer block)
   sees-host = sixteen (eqb (length block) 16) refl
     where
-      lent : {ts : List Token} → Read limits script block ts → (b : Bool) → leb (recordBytes ts) (length buffer) ≡ b
+      lent : length block ≡ 16 → {ts : List Token} → Read limits script ts → (b : Bool) → leb (recordBytes ts) (length buffer) ≡ b
           → Sees limits script buffer block (hostFor limits script buffer block)
-      lent {ts} r true h = put (Sees.accepted r (leb-true (recordBytes ts) (length buffer) h))
-      lent {ts} r false h = put (Sees.nineteen r (leb-false (recordBytes ts) (length buffer) h))
+      lent e {ts} r true h = put (Sees.accepted e r (leb-true (recordBytes ts) (length buffer) h))
+      lent e {ts} r false h = put (Sees.nineteen e r (leb-false (recordBytes ts) (length buffer) h))
 
-      counted : Clean limits script block → (ts : List Token) → TokensOf script ts → (b : Bool) → tooMany limits.tokens (tokenCount ts) ≡ b
-          → Sees limits script buffer block (hostFor limits script buffer block)
-      counted c ts k true m = put (Sees.twentyEight c k (tokens-many limits.tokens (tokenCount ts) m))
-      counted c ts k false m =
-          lent (record { clean = c; tokensOf = k; few = tokens-few limits.tokens (tokenCount ts) m }) (leb (recordBytes ts) (length buffer)) refl
-
-      read : Clean limits script block → (a : Answer) → answer script ≡ a → Sees limits script buffer block (hostFor limits script buffer block)
-      read c (Answer.tokenized ts) q = counted c ts (tokens-answer script ts q) (tooMany limits.tokens (tokenCount ts)) refl
-      read c (Answer.refused j a) q = put (Sees.refused c ((refusal script j a).0 q))
-
-      tested : {x : Result (Unit {0}) Refused} → length block ≡ 16 → CheckedAs limits.bytes script x
-          → Sees limits script buffer block (hostFor limits script buffer block)
-      tested e (long l) = put (Sees.seventeen e l)
-      tested e (over l m) = put (Sees.twentySeven e l m)
-      tested e (invalid l m v) = put (Sees.eighteen (record { sixteen = e; in-limit = l; within = m }) (valid script) v)
-      tested e (good l m v) =
-          read (record { sized = record { sixteen = e; in-limit = l; within = m }; utf8 = all-valid script v }) (answer script) refl
+      judged-by : length block ≡ 16 → Met limits script → Sees limits script buffer block (hostFor limits script buffer block)
+      judged-by e (rejects h) = put (Sees.rejected e h)
+      judged-by e (reads {ts} r) = lent e r (leb (recordBytes ts) (length buffer)) refl
 
       sixteen : (b : Bool) → eqb (length block) 16 ≡ b → Sees limits script buffer block (hostFor limits script buffer block)
-      sixteen true h = tested (eqb-true (length block) 16 h) (checked-as limits.bytes script)
+      sixteen true h = judged-by (eqb-true (length block) 16 h) (met limits script)
       sixteen false h = put (Sees.twenty (eqb-false (length block) 16 h))
 
   unchanged-by : {x : Seen} → Sees limits script buffer block x → (numberSeen x ≡ 0 → ⊥) → bufferSeen x ≡ buffer
   unchanged-by (Sees.twenty n) h = refl
-  unchanged-by (Sees.seventeen e l) h = refl
-  unchanged-by (Sees.twentySeven e l m) h = refl
-  unchanged-by (Sees.eighteen z v m) h = refl
-  unchanged-by (Sees.refused c k) h = refl
-  unchanged-by (Sees.twentyEight c k m) h = refl
-  unchanged-by (Sees.nineteen r m) h = refl
-  unchanged-by (Sees.accepted r m) h = absurd (h refl)
+  unchanged-by (Sees.rejected e k) h = refl
+  unchanged-by (Sees.nineteen e r m) h = refl
+  unchanged-by (Sees.accepted e r m) h = absurd (h refl)
 
   number-by : {x : Seen} → Sees limits script buffer block x → (numberSeen x ≤ 20) ⊎ ((27 ≤ numberSeen x) × (numberSeen x ≤ 28))
   number-by (Sees.twenty n) = inl (omega arith)
-  number-by (Sees.seventeen e l) = inl (omega arith)
-  number-by (Sees.twentySeven e l m) = inr (omega arith, omega arith)
-  number-by (Sees.eighteen z v m) = inl (omega arith)
-  number-by (Sees.refused c k) = let r = met-range k.first.met in let h = r.1 in inl (omega arith)
-  number-by (Sees.twentyEight c k m) = inr (omega arith, omega arith)
-  number-by (Sees.nineteen r m) = inl (omega arith)
-  number-by (Sees.accepted r m) = inl (omega arith)
+  number-by (Sees.rejected e k) = elim (number-of limits script k) [
+    | inl h ↦ let l = h.1 in inl (omega arith)
+    | inr h ↦ inr h
+  ]
+  number-by (Sees.nineteen e r m) = inl (omega arith)
+  number-by (Sees.accepted e r m) = inl (omega arith)
 
   kept-by : {x : Seen} → Sees limits script buffer block x → numberSeen x ≡ 0 → Keeps limits script
   kept-by (Sees.twenty n) h = absurd (omega arith)
-  kept-by (Sees.seventeen e l) h = absurd (omega arith)
-  kept-by (Sees.twentySeven e l m) h = absurd (omega arith)
-  kept-by (Sees.eighteen z v m) h = absurd (omega arith)
-  kept-by (Sees.refused c k) h = let r = met-range k.first.met in let z = r.0 in absurd (omega arith)
-  kept-by (Sees.twentyEight c k m) h = absurd (omega arith)
-  kept-by (Sees.nineteen r m) h = absurd (omega arith)
-  kept-by (Sees.accepted {ts} r m) h = record { within = r.clean.sized.within; tokens = ts; tokensOf = r.tokensOf; few = r.few }
+  kept-by (Sees.rejected e k) h = elim (number-of limits script k) [
+    | inl r ↦ let l = r.0 in absurd (omega arith)
+    | inr r ↦ let l = r.0 in absurd (omega arith)
+  ]
+  kept-by (Sees.nineteen e r m) h = absurd (omega arith)
+  kept-by (Sees.accepted {ts} e r m) h = record { within = r.clean.sized.within; tokens = ts; tokensOf = r.tokensOf; few = r.few }
 
   -- where the lent bytes are enough for every reading that keeps the limits
   pub accepts : limits.bytes ≤ mostBytes → WellFormed script → length block ≡ 16
@@ -181,23 +209,17 @@ module _ (limits : Limits) (script buffer block : List ℕ) where
       record {
         exactly = (
           kept-by sees-host,
-          λ k. ap numberSeen (sees-only (Sees.accepted (read-as k.tokens k.tokensOf k.within k.few) (room k.tokens k.tokensOf k.few))),
+          λ k. ap numberSeen (sees-only (Sees.accepted e (read-as k.tokens k.tokensOf k.within k.few) (room k.tokens k.tokensOf k.few))),
         );
         one-reading = (theorems script).one-reading;
         has-tokens = λ ps h. let c = complete script ps h in (c.0, c.2);
         writes = λ ps ts h t m f.
             let k : TokensOf script ts = record { pieces = ps; reading = h; tokens = t } in
-            sees-only (Sees.accepted (read-as ts k m f) (room ts k f));
+            sees-only (Sees.accepted e (read-as ts k m f) (room ts k f));
       }
     where
-      read-as : (ts : List Token) → TokensOf script ts → length script ≤ limits.bytes → Few limits ts
-          → Read limits script block ts
-      read-as ts k m f =
-          record {
-            clean = record { sized = record { sixteen = e; in-limit = omega arith; within = m }; utf8 = utf8 };
-            tokensOf = k;
-            few = f;
-          }
+      read-as : (ts : List Token) → TokensOf script ts → length script ≤ limits.bytes → Few limits ts → Read limits script ts
+      read-as ts k m f = keeps-read limits script utf8 (omega arith) m ts k f
 
   pub host-theorems : HostTheorems limits script buffer block
   host-theorems =
@@ -206,23 +228,26 @@ module _ (limits : Limits) (script buffer block : List ℕ) where
         unchanged = unchanged-by sees-host;
         numbers = number-by sees-host;
         script-theorems = theorems script;
-        lent-enough = λ small L. accepts small L.utf8 L.sixteen
-            (λ ts k f. let n = need script ts (answer-tokens script ts k) in let room = L.room in omega arith);
+        lent-enough = λ small L. accepts small L.utf8 L.sixteen (λ ts k f. let n = need script ts k in let room = L.room in omega arith);
         examples = examples;
       }
 
 -- ---- the compiler's limits, and a contact's
 
+-- within the compiler's neither 27 nor 28 is met
+pub compiler-number : (script : List ℕ) {j a : ℕ} → Rejects compiler script j a → (1 ≤ j) × (j ≤ 18)
+compiler-number script (Rejects.seventeen l) = (omega arith, omega arith)
+compiler-number script (Rejects.twentySeven l m) = absurd (omega arith)
+compiler-number script (Rejects.eighteen z v m) = (omega arith, omega arith)
+compiler-number script (Rejects.refused c k) = let r = met-range k.first.met in let l = r.0 in let h = r.1 in (omega arith, omega arith)
+compiler-number script (Rejects.twentyEight c k m) = absurd m
+
 module _ (script buffer block : List ℕ) where
   compiler-by : {x : Seen} → Sees compiler script buffer block x → numberSeen x ≤ 20
   compiler-by (Sees.twenty n) = omega arith
-  compiler-by (Sees.seventeen e l) = omega arith
-  compiler-by (Sees.twentySeven e l m) = absurd (omega arith)
-  compiler-by (Sees.eighteen z v m) = omega arith
-  compiler-by (Sees.refused c k) = let r = met-range k.first.met in let h = r.1 in omega arith
-  compiler-by (Sees.twentyEight c k m) = absurd m
-  compiler-by (Sees.nineteen r m) = omega arith
-  compiler-by (Sees.accepted r m) = omega arith
+  compiler-by (Sees.rejected e k) = let l = compiler-number script k in omega arith
+  compiler-by (Sees.nineteen e r m) = omega arith
+  compiler-by (Sees.accepted e r m) = omega arith
 
   pub compiler_theorems : CompilerTheorems script buffer block
   compiler_theorems =
@@ -250,10 +275,9 @@ module _ (script buffer block : List ℕ) where
 
       room-by : contactNeed ≤ length buffer → {x : Seen} → Sees contact script buffer block x → numberSeen x ≡ 19 → ⊥
       room-by room (Sees.twenty n) h = omega arith
-      room-by room (Sees.seventeen e l) h = omega arith
-      room-by room (Sees.twentySeven e l m) h = omega arith
-      room-by room (Sees.eighteen z v m) h = omega arith
-      room-by room (Sees.refused c k) h = let r = met-range k.first.met in let z = r.1 in omega arith
-      room-by room (Sees.twentyEight c k m) h = omega arith
-      room-by room (Sees.nineteen {ts} r m) h = let n = needs ts r.tokensOf r.few in omega arith
-      room-by room (Sees.accepted r m) h = omega arith
+      room-by room (Sees.rejected e k) h = elim (number-of contact script k) [
+        | inl r ↦ let l = r.1 in omega arith
+        | inr r ↦ let l = r.0 in omega arith
+      ]
+      room-by room (Sees.nineteen {ts} e r m) h = let n = needs ts r.tokensOf r.few in omega arith
+      room-by room (Sees.accepted e r m) h = omega arith

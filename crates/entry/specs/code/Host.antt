@@ -1,9 +1,10 @@
 -- What the code's judgement says, and what a buffer holds that it was lent.
-use Rattle.std.specs.Prelude.{ℕ, ◌≤◌, ◌≡◌, IsFalse, List, length, Result, Ok, Err}
+use Rattle.std.specs.Prelude.{ℕ, ◌≤◌, ◌≡◌, IsFalse, List, ◌++◌, length, Result, Ok, Err}
+use Rattle.words.specs.Words.{blockOf}
 use Rattle.token.specs.computed.Answer.{answer}
-use Rattle.token.specs.paper.Records.{recordBytes, mostBytes}
-use Rattle.token.specs.code.Records.{need, Needs, begun, storedFrom}
-use Rattle.token.specs.declared.records.Need.{Need}
+use Rattle.token.specs.paper.Records.{mostBytes}
+use Rattle.token.specs.code.Records.{needFor, Needs, begun, storedFrom}
+use Rattle.token.specs.declared.counts.Need.{Need}
 use Rattle.entry.specs.computed.Check.{checkOf}
 use Rattle.entry.specs.computed.Host.{granted, rejected, lacking, tooMany, Verdict}
 use Rattle.entry.specs.code.Refusal.{refusalBy}
@@ -12,9 +13,13 @@ use Rattle.entry.specs.declared.refusal.Refused.{Refused}
 
 -- the verdict with the tokens counted: what they need, whether it is lent or not
 unfoldable pub judgedOf : Verdict → Result Need Refused
-judgedOf (granted ts) = Ok (need (length ts) (recordBytes ts))
-judgedOf (lacking ts) = Ok (need (length ts) (recordBytes ts))
+judgedOf (granted ts) = Ok (needFor ts)
+judgedOf (lacking ts) = Ok (needFor ts)
 judgedOf (rejected j a) = Err (record { what = refusalBy j; place = a })
+
+-- eight numbers of what is needed, as a host is told them that measures
+abbrev pub blockBy : Need → List ℕ
+blockBy n = blockOf 0 0 n.tokens n.bytes ++ blockOf n.counts.int_lits n.counts.long_lits n.counts.strs n.counts.newlines
 
 -- the script passes 17, 27 and 18, is not refused otherwise, and its records need so much
 pub record Judged (limits : Limits) (script : List ℕ) (n : Need) : Type 0 where

@@ -1,7 +1,7 @@
 -- The examples of RULES and REQUESTS: by the listing of a script, by what the host sees, and of token text. `HostTheorems` asks for them.
 use Rattle.std.specs.Prelude.{ℕ, ◌≡◌, IsTrue, List, [], ◌∷◌, ◌++◌, map, length, replicate, nat_lt}
 use Rattle.std.specs.List.{repeat}
-use Rattle.words.specs.Words.{blockOf}
+use Rattle.words.specs.Words.{blockOf, told}
 use Rattle.chars.specs.paper.Quoted.{codes}
 use Rattle.chars.specs.computed.Encoded.{script}
 use Rattle.token.specs.paper.Records.{mostBytes, mostNeed}
@@ -12,7 +12,7 @@ use Rattle.entry.specs.paper.Limits.{compiler, contact, contactNeed}
 use Rattle.entry.specs.paper.Host.{seen}
 use Rattle.entry.specs.computed.Host.{rejected, verdict}
 use Rattle.entry.specs.paper.TokenText.{tokenText, textNumber}
-use Rattle.entry.specs.computed.Listing.{entered, hosted}
+use Rattle.entry.specs.computed.Listing.{entered, hosted, measuring}
 
 -- 18: 61 C0 80 hex: 1. Surrogates, what is over U+10FFFF, and a character cut short are no UTF-8 either.
 abbrev pub illFormed : List (List ℕ)
@@ -48,6 +48,12 @@ pub record Examples : Type 0 where
       ≡ seen 28 [] (blockOf 28 0 0 0) ∷ seen 19 [] (blockOf 19 0 512 6656) ∷ seen 7 [] (blockOf 7 601 0 0) ∷ []
   -- The bound on a contact's record bytes is met: 511 times `0L` are told all 10,744 of it.
   pub contact-met : hosted contact (repeat 511 (script "0L")) [] (replicate 16 9) ≡ seen 19 [] (blockOf 19 0 512 contactNeed)
+  -- Measured: `7 8L "a"` and a line end; then three numbers, three strings, four line ends, a name and Eof, which need 12 heads, and values of 4, 16,
+  -- 24 and 4 bytes: four counts that differ show the order. A script refused by 16, and a block of 31 bytes.
+  pub measured-five : measuring (script "7 8L \"a\"\n") (replicate 32 9) ≡ told 0 (blockOf 0 0 5 86 ++ blockOf 1 1 1 1)
+  pub measured : measuring (script "7 8L 9L \"a\" s\"b\" \"\"\n\n\n\nx") (replicate 32 9) ≡ told 0 (blockOf 0 0 12 204 ++ blockOf 1 2 3 4)
+  pub measured-refused : measuring (script "'(x") (replicate 32 9) ≡ told 16 (blockOf 16 1 0 0 ++ blockOf 0 0 0 0)
+  pub measured-31 : measuring (script "a") (replicate 31 9) ≡ told 20 (replicate 31 9)
   -- 21: `ab`, 1 to 3
   pub text-21 : textNumber (script "ab") 1 3 ≡ 21
   pub text-ok : tokenText (script "ab") 1 2 ≡ script "b"

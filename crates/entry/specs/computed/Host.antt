@@ -11,7 +11,7 @@ use Rattle.entry.specs.paper.Refusals.{refusalNumber}
 use Rattle.entry.specs.paper.Host.{seen, Seen}
 use Rattle.entry.specs.computed.Check.{checkOf}
 
--- the answer with `room` bytes lent: accepted, a refusal's number and place, or 19 with both counts
+-- the answer with `room` bytes lent: accepted, a refusal's number and place, or 19, with the tokens
 pub data Verdict : Type 0 where
   granted : List Token → Verdict
   rejected : ℕ → ℕ → Verdict

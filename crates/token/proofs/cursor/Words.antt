@@ -39,16 +39,18 @@ pub use Rattle.token.specs.code.Gap.{fourMore, fourPassed, nestAt, opensAt}
 unfoldable pub use Rattle.token.specs.code.Gap.{closedOf, fourOpen, openings}
 pub use Rattle.token.specs.code.Piece.{tokenTo}
 unfoldable pub use Rattle.token.specs.code.Piece.{pieceOf}
-pub use Rattle.token.specs.code.Records.{Fits, Held, Needs, Reaches, Standing, State, Trail, answerOf, begun, eofAt, measuredFrom, need, storedFrom, tokensIn, tokensOn, total, trailFrom}
-unfoldable pub use Rattle.token.specs.code.Records.{measuredOf, storedIf, stores, trail}
+pub use Rattle.token.specs.code.Records.{Fits, Held, Needs, Reaches, Standing, State, Trail, answerOf, begun, countedFrom, eofAt, measuredFrom, needFor, noneCounted, storedFrom, tokensIn, tokensOn, trailFrom, withToken}
+unfoldable pub use Rattle.token.specs.code.Records.{counting, countingAll, measuredAfter, measuredOf, needAfter, storedIf, stores, trail}
 pub use Rattle.token.specs.code.Refusal.{refusalNumber, refusedBy, refusedFor}
 unfoldable pub use Rattle.token.specs.code.Refusal.{refusalBy}
 pub use Rattle.token.specs.code.String.{EndAnswer, blockLess, blockMore, endAt, escEnd, sixteenAt, spanAt}
 unfoldable pub use Rattle.token.specs.code.String.{blocksOff, blocksTaken, closeSingle, dollarOf, endedOf, escapeOf, hexesOf, isOrdinary, lastOff, singleItem, tripleItem}
-pub use Rattle.token.specs.code.Walk.{Steps, beginning, gapAt, stateAt}
+pub use Rattle.token.specs.code.Walk.{Counted, Steps, beginning, gapAt, needAt, stateAt}
 pub use Rattle.token.specs.computed.Answer.{Answer, Closing, Found, blockOr, broken, closed, numberOf, numeral, plainOf, prefixedOf, prepend, refused, tokenized, unbroken, wrong}
 unfoldable pub use Rattle.token.specs.computed.Answer.{afterSlash, answer, close, closePlain, closeString, closeTriple, codesTo, digitsUpTo, exactHexes, plainContent, readDigits, scan, scanNumber, scanString, signOf, strip}
 pub use Rattle.token.specs.computed.Flags.{Gap, GapKind, fresh}
+pub use Rattle.token.specs.declared.counts.Counts.{Counts}
+pub use Rattle.token.specs.declared.counts.Need.{Need}
 pub use Rattle.token.specs.declared.cursor.Cursor.{Cursor}
 pub use Rattle.token.specs.declared.kinds.Form.{Form}
 pub use Rattle.token.specs.declared.kinds.TokenKind.{TokenKind}
@@ -56,8 +58,8 @@ pub use Rattle.token.specs.declared.refusal.Refused.{Refused}
 pub use Rattle.token.specs.declared.walk.Stand.{Stand}
 pub use Rattle.token.specs.paper.Kinds.{Kind, Token, TokenType, Word, isComment, keyword, kindNumber, kwNumber, symbolKeywords, word, wordKeywords}
 unfoldable pub use Rattle.token.specs.paper.Kinds.{runOf, wordOf}
-pub use Rattle.token.specs.paper.Records.{bit, headLength, intLength, lineLength, longLength, strLength, valuesOf}
-unfoldable pub use Rattle.token.specs.paper.Records.{fieldsOf, headOf, recordBytes, recordLength, recordOf, records, values}
+pub use Rattle.token.specs.paper.Records.{bit, countOf, exactNeed, headLength, intLength, isIntLit, isLongLit, isNewline, isStr, lineLength, longLength, strLength, tokenCount, valueNeed, valuesOf}
+unfoldable pub use Rattle.token.specs.paper.Records.{countsOf, fieldsOf, headOf, recordBytes, recordLength, recordOf, records, values}
 pub use Rattle.token.specs.paper.Shapes.{Single, singleChar, textOf, tripleChar}
 unfoldable pub use Rattle.token.specs.paper.Shapes.{HasShape, Stands, TokenShape}
 pub use Rattle.token.specs.paper.Tests.{backslash, closesBlock, digit, digitValue, dollarBrace, endOfLine, endsLine, hexAhead, hexDigit, isAny, letterL, opensBlock, opensComment, opensLine, quote, same, startsWith, threeQuotes}

@@ -1,7 +1,7 @@
 -- The walk token by token: one step of it, what it comes to, and the records of what it comes over.
 use Rattle.token.proofs.lexer.Laws.{strict-rest}
 use Rattle.token.proofs.theorems.Runs.{after-next, after-stop}
-use Rattle.token.proofs.lexer.Words.{ℕ, zero, suc, ◌+◌, ◌-◌, ◌≤◌, ◌≡◌, refl, sym, ◌∙◌, ap, Bool, List, [], ◌∷◌, length, drop, sets, length-sets, arith, Char, Text, place, afterRun, isAny, Token, recordLength, recordOf, records, recordBytes, Gap, GapKind, fresh, push, cutOf, Found, scan, Answer, tokenized, refused, prepend, gapBefore, walk, Trail, gapGoes, trail, answerOf, tokensOn, stores, storedIf, eofAt, TokenKind, zero-one, sets-append, by-test, ap₂}
+use Rattle.token.proofs.lexer.Words.{ℕ, zero, suc, ◌+◌, ◌-◌, ◌≤◌, ◌≡◌, refl, sym, ◌∙◌, ap, Bool, List, [], ◌∷◌, length, drop, sets, length-sets, arith, Char, Text, place, afterRun, isAny, Token, recordLength, recordOf, records, recordBytes, Gap, GapKind, fresh, push, cutOf, Found, scan, Answer, tokenized, refused, prepend, gapBefore, walk, Trail, gapGoes, trail, answerOf, tokensOn, stores, storedIf, eofAt, Counts, counting, countingAll, TokenKind, zero-one, sets-append, by-test, ap₂}
 use Rattle.token.proofs.theorems.Shorter.{Strict}
 use Rattle.token.proofs.lexer.Found.{blank-scan, gap-strict}
 use Rattle.token.proofs.form.Stores.{length-record, stored-in}
@@ -112,6 +112,20 @@ stores-turn v w t out next b l e q p =
 pub stores-end : (v : Trail) (t : Token) (out next : List ℕ) (b : ℕ) → v ≡ Trail.ends t → next ≡ storedIf out b (recordOf t) → next ≡ stores out b (tokensOn v)
 unfolding stores
 stores-end v t out next b e q = q ∙ sym (ap (λ z. stores out b (tokensOn z)) e)
+
+-- ---- tokens that are counted one after another
+
+pub counted-turn : (v w : Trail) (t : Token) (c : Counts) → v ≡ Trail.goes t w → countingAll (counting c t.kind) (tokensOn w) ≡ countingAll c (tokensOn v)
+unfolding countingAll
+counted-turn v w t c e = sym (ap (λ z. countingAll c (tokensOn z)) e)
+
+pub counted-end : (v : Trail) (t : Token) (c : Counts) → v ≡ Trail.ends t → counting c t.kind ≡ countingAll c (tokensOn v)
+unfolding countingAll
+counted-end v t c e = sym (ap (λ z. countingAll c (tokensOn z)) e)
+
+pub counted-stop : (v : Trail) (j a : ℕ) (c : Counts) → v ≡ Trail.stops j a → countingAll c (tokensOn v) ≡ c
+unfolding countingAll
+counted-stop v j a c e = ap (λ z. countingAll c (tokensOn z)) e
 
 pub stores-stop : (v : Trail) (j a : ℕ) (out : List ℕ) (b : ℕ) → v ≡ Trail.stops j a → out ≡ stores out b (tokensOn v)
 unfolding stores

@@ -40,17 +40,19 @@ pub use Rattle.token.specs.code.Names.{hereOf, lowBefore, runTo}
 unfoldable pub use Rattle.token.specs.code.Names.{bytesTo}
 pub use Rattle.token.specs.code.Piece.{PieceAnswer, tokenTo}
 unfoldable pub use Rattle.token.specs.code.Piece.{pieceOf}
-pub use Rattle.token.specs.code.Records.{Reaches, State, Trail, answerOf, eofAt, gapGoes, lineEndAt, tokensOn, trailFrom}
-unfoldable pub use Rattle.token.specs.code.Records.{storedIf, stores, trail}
+pub use Rattle.token.specs.code.Records.{Reaches, Standing, State, Trail, answerOf, begun, countedFrom, eofAt, gapGoes, lineEndAt, measuredFrom, noneCounted, storedFrom, tokensOn, trailFrom, withToken}
+unfoldable pub use Rattle.token.specs.code.Records.{counting, countingAll, storedIf, stores, trail}
 pub use Rattle.token.specs.code.Refusal.{refusedBy, refusedFor}
 unfoldable pub use Rattle.token.specs.code.Refusal.{refusalBy}
 pub use Rattle.token.specs.code.String.{endAt, escEnd, tickEnd}
 unfoldable pub use Rattle.token.specs.code.String.{backtickOf, escapeOf}
-pub use Rattle.token.specs.code.Walk.{Good, LeftTo, Prefixes, Refuses, Steps, beginning, blockBehind, commentBehind, countAt, gapAt, gapOf, lineBehind, movedTo, plainBehind, stateAt, valuesBehind}
+pub use Rattle.token.specs.code.Walk.{Counted, Good, LeftTo, Prefixes, Refuses, Steps, beginning, blockBehind, commentBehind, gapAt, gapOf, lineBehind, movedTo, needAt, stateAt, tokenBehind}
 unfoldable pub use Rattle.token.specs.code.Walk.{nameNumber, operatorNumber}
 pub use Rattle.token.specs.computed.Answer.{Answer, Esc, Found, Start, backtickOr, blockOr, broken, escapedOf, gapBefore, prefixedOf, prepend, refused, runOr, scanAs, tickNext, tokenized, unbroken, wordOr}
 unfoldable pub use Rattle.token.specs.computed.Answer.{afterIdent, afterSlash, close, closeString, codesTo, orPrefixed, scan, scanBacktick, scanBlock, scanCharSym, scanIdent, scanLine, scanNumber, scanOperator, scanReturn, scanString, signOf, startOf, walk}
 pub use Rattle.token.specs.computed.Flags.{Gap, GapKind, cutOf, fresh, push}
+pub use Rattle.token.specs.declared.counts.Counts.{Counts}
+pub use Rattle.token.specs.declared.counts.Need.{Need}
 pub use Rattle.token.specs.declared.cursor.Cursor.{Cursor}
 pub use Rattle.token.specs.declared.kinds.Form.{Form}
 pub use Rattle.token.specs.declared.kinds.Kw.{Kw}
@@ -60,7 +62,7 @@ pub use Rattle.token.specs.declared.refusal.Refused.{Refused}
 pub use Rattle.token.specs.declared.walk.Stand.{Stand}
 pub use Rattle.token.specs.paper.Kinds.{Token, kindNumber, symbolKeywords, wordKeywords}
 unfoldable pub use Rattle.token.specs.paper.Kinds.{runOf, wordOf}
-pub use Rattle.token.specs.paper.Records.{headLength, intLength, lineLength, longLength}
+pub use Rattle.token.specs.paper.Records.{exactNeed, headLength, intLength, lineLength, longLength, valueNeed}
 unfoldable pub use Rattle.token.specs.paper.Records.{fieldsOf, headOf, recordBytes, recordLength, recordOf, records, values}
 unfoldable pub use Rattle.token.specs.paper.Shapes.{HasShape, Stands}
 pub use Rattle.token.specs.paper.Shapes.{both}

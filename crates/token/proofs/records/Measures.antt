@@ -1,5 +1,5 @@
 -- Measuring and writing, turn by turn.
-use Rattle.token.proofs.cursor.Words.{ℕ, ◌+◌, ◌≤◌, ◌≡◌, refl, Bool, List, [], ◌∷◌, length, sets, arith, from, Token, fresh, Answer, tokenized, refused, prepend, answer, values, headLength, lineLength, recordLength, records, recordBytes, mostLength, le4, le8, measuredOf, tokensIn, Fits, answerOf, begun, trailFrom, storedFrom, total, TokenKind, refusedBy}
+use Rattle.token.proofs.cursor.Words.{ℕ, ◌≤◌, ◌≡◌, refl, sym, ap, Bool, Ok, List, [], ◌∷◌, length, sets, arith, from, Token, fresh, Answer, tokenized, refused, prepend, answer, values, headLength, lineLength, recordLength, records, mostLength, le4, le8, Need, needAfter, withToken, measuredAfter, tokensIn, Fits, answerOf, begun, trailFrom, storedFrom, TokenKind, refusedBy}
 use Rattle.token.specs.declared.kinds.TokenKind.TheVariants as tk
 use Rattle.token.proofs.lexer.Trails.{trail-answer, tokens-on, stores-fit}
 
@@ -22,17 +22,18 @@ eof-length = refl
 
 -- ---- measuring
 
-pub measured-turn : (v w : Answer) (t : Token) (c b l : ℕ) → v ≡ prepend t w → l ≡ recordLength t.kind → measuredOf (c + 1) (b + l) w ≡ measuredOf c b v
-unfolding measuredOf recordBytes
-measured-turn v w t c b l e q = grind arith
+pub measured-turn : (v w : Answer) (t : Token) (n : Need) → v ≡ prepend t w → measuredAfter (withToken n t) w ≡ measuredAfter n v
+unfolding measuredAfter needAfter
+measured-turn v (tokenized ts) t n e = ap (measuredAfter n) (sym e)
+measured-turn v (refused j a) t n e = ap (measuredAfter n) (sym e)
 
-pub measured-end : (v : Answer) (t : Token) (c b l : ℕ) → v ≡ tokenized (t ∷ []) → l ≡ recordLength t.kind → total (c + 1) (b + l) ≡ measuredOf c b v
-unfolding measuredOf recordBytes
-measured-end v t c b l e q = grind arith
+pub measured-end : (v : Answer) (t : Token) (n : Need) → v ≡ tokenized (t ∷ []) → Ok (withToken n t) ≡ measuredAfter n v
+unfolding measuredAfter needAfter
+measured-end v t n e = ap (measuredAfter n) (sym e)
 
-pub measured-stop : (v : Answer) (j a c b : ℕ) → v ≡ refused j a → refusedBy j a ≡ measuredOf c b v
-unfolding measuredOf
-measured-stop v j a c b e = grind arith
+pub measured-stop : (v : Answer) (j a : ℕ) (n : Need) → v ≡ refused j a → refusedBy j a ≡ measuredAfter n v
+unfolding measuredAfter
+measured-stop v j a n e = ap (measuredAfter n) (sym e)
 
 -- ---- the whole script
 

@@ -1,6 +1,5 @@
 -- What measuring promises of its answer: what records are needed, why there are none, and what the buffer holds.
-use Rattle.token.proofs.cursor.Words.{ℕ, ◌+◌, ◌≤◌, ◌≡◌, refl, sym, ◌∙◌, ap, List, [], ◌∷◌, length, take, take_at, arith, Result, Ok, Err, IfOk, IfErr, Token, recordLength, recordOf, records, recordBytes, Answer, refused, answer, storedIf, stores, measuredOf, Needs, Held, Fits, tokensIn, tokensOn, trailFrom, begun, storedFrom, refusalNumber, Refused, sets-front}
-use Rattle.token.specs.declared.records.Need.{Need}
+use Rattle.token.proofs.cursor.Words.{ℕ, ◌+◌, ◌≤◌, ◌≡◌, refl, sym, ◌∙◌, ap, List, [], ◌∷◌, length, take, take_at, arith, Result, Ok, Err, IfOk, IfErr, Token, recordLength, recordOf, records, recordBytes, Answer, refused, answer, storedIf, stores, measuredOf, Needs, Held, Fits, tokensIn, tokensOn, trailFrom, begun, storedFrom, refusalNumber, Refused, Need, sets-front}
 use Rattle.token.proofs.form.Stores.{stored-length}
 use Rattle.token.proofs.records.Measures.{begun-fits}
 use Rattle.token.proofs.theorems.Alone.{records-length}
@@ -12,7 +11,7 @@ stores-length out w [] = refl
 stores-length out w (t ∷ ts) = stores-length (storedIf out w (recordOf t)) (w + recordLength t.kind) ts ∙ stored-length out w (recordOf t)
 
 -- what is needed
-needs-of : (w : Answer) (n : Need) → Ok n ≡ measuredOf 0 0 w → Needs w n
+needs-of : (w : Answer) (n : Need) → Ok n ≡ measuredOf w → Needs w n
 unfolding measuredOf
 needs-of w n e = grind arith
 
@@ -22,17 +21,17 @@ held-of s out n h l =
     let ts = tokensIn (answer s) in
     let k = stores-length out 0 (tokensOn (trailFrom s begun)) in
     let y = records-length ts in
-    let b = h.bytes in
+    let b : n.bytes ≡ recordBytes ts = ap (λ (k : Need). k.bytes) h.need in
     let m : recordBytes ts ≤ length out = omega (arith, k, b, l) in
     let f = begun-fits s out (record { is-tokenized = h.is-tokenized; fits = m }) in
     ap (take n.bytes) (f ∙ sets-front out (records ts) (omega (arith, y, m))) ∙ take_at (records ts) _ n.bytes (y ∙ sym b)
 
 -- why there are none
-refusal-of : (s : List ℕ) (w : Answer) (e : Refused) → answer s ≡ w → Err e ≡ measuredOf 0 0 w → answer s ≡ refused (refusalNumber e.what) e.place
+refusal-of : (s : List ℕ) (w : Answer) (e : Refused) → answer s ≡ w → Err e ≡ measuredOf w → answer s ≡ refused (refusalNumber e.what) e.place
 unfolding measuredOf
 refusal-of s w e f q = let n = refused-number s in grind arith
 
-module _ (s : List ℕ) (r : Result Need Refused) (e : r ≡ measuredOf 0 0 (answer s)) where
+module _ (s : List ℕ) (r : Result Need Refused) (e : r ≡ measuredOf (answer s)) where
   pub told-needs : IfOk r (λ n. Needs (answer s) n)
   told-needs = let n = needs-of (answer s) in grind arith
 
@@ -40,10 +39,12 @@ module _ (s : List ℕ) (r : Result Need Refused) (e : r ≡ measuredOf 0 0 (ans
   told-refusal = let n = λ (e : Refused). refusal-of s (answer s) e refl in grind arith
 
   pub told-held : (out next : List ℕ) → next ≡ storedFrom s begun out → IfOk r (λ n. Held (answer s) n next)
-  told-held out next k = let n = λ (m : Need) (q : Ok m ≡ measuredOf 0 0 (answer s)). held-of s out m (needs-of (answer s) m q) in rw k (grind arith)
+  told-held out next k = let n = λ (m : Need) (q : Ok m ≡ measuredOf (answer s)). held-of s out m (needs-of (answer s) m q) in rw k (grind arith)
 
 -- what is needed fits into a buffer that has room
 pub needs-fit : (w : Answer) (n : Need) (room : ℕ) → Needs w n → n.bytes ≤ room → Fits w room
-needs-fit w n room h l = grind arith
+needs-fit w n room h l =
+    let b : n.bytes ≡ recordBytes (tokensIn w) = ap (λ (k : Need). k.bytes) h.need in
+    record { is-tokenized = h.is-tokenized; fits = omega (arith, b, l) }
 
 pub ruleset told = (told-needs, told-refusal, needs-fit)

@@ -1,26 +1,27 @@
 -- The computed answer is what is declared, for every script: specs/Theorems.
-use Rattle.std.proofs.Common.{ℕ, ◌≤◌, ◌≡◌, sym, ◌∙◌, ap, ◌⊎◌, inl, inr, ◌↔◌, List, [], ◌∷◌, length, arith}
-use Rattle.token.proofs.theorems.Words.{place, valid-laws, text-laws, Token, Piece, Reading, Tokens, TokensOf, First, Refused, tokenized, refused, answer, mostNeed, recordBytes}
+use Rattle.std.proofs.Common.{ℕ, ◌≤◌, ◌≡◌, sym, ◌∙◌, ap, ◌⊎◌, inl, inr, ◌↔◌, List, [], ◌∷◌, length}
+use Rattle.token.proofs.theorems.Words.{place, valid-laws, Token, Piece, Reading, Tokens, TokensOf, First, Refused, tokenized, refused, answer, mostNeed, recordBytes}
 use Rattle.token.specs.Theorems.{Theorems}
 use Rattle.token.proofs.theorems.Unique.{none-end, together, one-reading}
 use Rattle.token.proofs.theorems.Alone.{tokens-one, records-length}
 use Rattle.token.proofs.theorems.Mets.{met-end, first-of, first-only}
 use Rattle.token.proofs.theorems.Walks.{Walked, answer-finds}
+use Rattle.token.proofs.records.Counts.{exact}
+use Rattle.token.proofs.theorems.Spread.{spread, one-kind-each, bound}
 open valid-laws use {valid}
-open text-laws use {from-length}
 
 module _ (script : List ℕ) where
   -- where the answer has tokens, there is a reading, and these are its tokens
   pub sound : (ts : List Token) → answer script ≡ tokenized ts → (ps : List Piece) × Reading script ps × Tokens script [] ps ts
   sound ts e = elim (answer-finds script) [
-    | Walked.reads ps us f x y b ↦ let q : us ≡ ts = cc in (ps, x, rw (← q) y)
+    | Walked.reads ps us f x y ↦ let q : us ≡ ts = cc in (ps, x, rw (← q) y)
     | Walked.stops ps c t z f x y ↦ cc
   ]
 
   -- where there is a reading, the answer has its tokens
   pub complete : (ps : List Piece) → Reading script ps → (ts : List Token) × (answer script ≡ tokenized ts) × Tokens script [] ps ts
   complete ps h = elim (answer-finds script) [
-    | Walked.reads qs ts f x y b ↦ (ts, f, rw (one-reading script ps qs h x) y)
+    | Walked.reads qs ts f x y ↦ (ts, f, rw (one-reading script ps qs h x) y)
     | Walked.stops qs c t z f x y ↦ let e = (together h none-end x y).1 in cc
   ]
 
@@ -28,14 +29,14 @@ module _ (script : List ℕ) where
   pub refusal : (j a : ℕ) → (answer script ≡ refused j a) ↔ Refused script j a
   refusal j a = (
     (λ e. elim (answer-finds script) [
-      | Walked.reads ps ts f x y b ↦ cc
+      | Walked.reads ps ts f x y ↦ cc
       | Walked.stops ps c t z f x y ↦
           let k : z.number ≡ j = cc in
           let p : place (length script) z.rest ≡ a = cc in
           record { pieces = ps; text = c ∷ t; up = x; no-piece = y; rest = z.rest; first = rw (← k) (first-of (length script) (c ∷ t) z); place-is = p }
     ]),
     λ h. elim (answer-finds script) [
-      | Walked.reads ps ts f x y b ↦
+      | Walked.reads ps ts f x y ↦
           let e = (together x none-end h.up h.no-piece).1 in
           absurd (met-end j h.rest (rw (← e) at h.first.met))
       | Walked.stops ps c t z f x y ↦
@@ -46,19 +47,16 @@ module _ (script : List ℕ) where
     ],
   )
 
-  -- a script of n bytes needs at most 17 times n plus 13 bytes
-  pub need : (ts : List Token) → answer script ≡ tokenized ts → recordBytes ts ≤ mostNeed (length script)
-  need ts e = elim (answer-finds script) [
-    | Walked.reads ps us f x y b ↦ let q : us ≡ ts = cc in let l = from-length script in rw (← q) (omega arith)
-    | Walked.stops ps c t z f x y ↦ cc
-  ]
-
   -- the tokens of a reading are the answer's
   pub answer-tokens : (ts : List Token) → TokensOf script ts → answer script ≡ tokenized ts
   answer-tokens ts h = let c = complete h.pieces h.reading in c.1 ∙ ap tokenized (tokens-one c.2 h.tokens)
 
   pub tokens-answer : (ts : List Token) → answer script ≡ tokenized ts → TokensOf script ts
   tokens-answer ts e = let h = sound ts e in record { pieces = h.0; reading = h.1; tokens = h.2 }
+
+  -- a script of n bytes needs at most 17 times n plus 13 bytes
+  pub need : (ts : List Token) → TokensOf script ts → recordBytes ts ≤ mostNeed (length script)
+  need = bound script
 
   tokens : (ps : List Piece) (ts : List Token) → Reading script ps → (Tokens script [] ps ts ↔ (answer script ≡ tokenized ts))
   tokens ps ts h = (
@@ -71,7 +69,7 @@ module _ (script : List ℕ) where
 
   pub decided : ((ps : List Piece) × Reading script ps) ⊎ ((j : ℕ) × (a : ℕ) × Refused script j a)
   decided = elim (answer-finds script) [
-    | Walked.reads ps ts f x y b ↦ inl (ps, x)
+    | Walked.reads ps ts f x y ↦ inl (ps, x)
     | Walked.stops ps c t z f x y ↦ inr (_, _, (refusal z.number (place (length script) z.rest)).0 f)
   ]
 
@@ -91,5 +89,8 @@ module _ (script : List ℕ) where
         decided = decided;
         never-both = never-both;
         bytes = records-length;
-        need = λ ts h. need ts (answer-tokens ts h);
+        exact = exact;
+        spread = spread script;
+        one-kind-each = one-kind-each script;
+        need = need;
       }

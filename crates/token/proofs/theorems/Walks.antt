@@ -1,12 +1,11 @@
 -- The whole script: the computed answer is what is declared.
-use Rattle.std.proofs.Common.{ℕ, zero, suc, ◌≤◌, ◌<◌, ◌+◌, ◌*◌, ◌-◌, ◌≡◌, refl, sym, ◌∙◌, ap, Bool, true, false, ◌⊎◌, inl, inr, ◌↔◌, List, [], ◌∷◌, ◌++◌, length, drop, arith}
-use Rattle.token.proofs.theorems.Words.{Char, Text, from, place, ScriptText, text-laws, Kind, TokenType, isComment, Token, Stands, Piece, Pieces, Valued, Tokens, AfterComment, Cut, values, recordLength, perByte, mostNeed, recordBytes, Gap, GapKind, fresh, push, cutOf, Found, scan, Answer, tokenized, refused, prepend, gapBefore, walk, answer, TokenKind}
-use Rattle.words.specs.Words.{le4, le8}
+use Rattle.std.proofs.Common.{ℕ, zero, suc, ◌≤◌, ◌-◌, ◌≡◌, refl, sym, ◌∙◌, ap, Bool, true, false, ◌⊎◌, inl, inr, ◌↔◌, List, [], ◌∷◌, ◌++◌, length, drop, arith}
+use Rattle.token.proofs.theorems.Words.{Char, Text, from, place, ScriptText, text-laws, Kind, TokenType, isComment, Token, Stands, Piece, Pieces, Valued, Tokens, AfterComment, Cut, Gap, GapKind, fresh, push, cutOf, Found, scan, Answer, tokenized, refused, prepend, gapBefore, walk, answer, TokenKind}
 use Rattle.token.specs.declared.kinds.TokenKind.TheVariants as tk
 use Rattle.token.proofs.theorems.Operators.{Fell}
 use Rattle.token.proofs.theorems.Dispatch.{Hit, Scanned, scan-stands}
-use Rattle.token.proofs.theorems.Unique.{bare-kind, fell-none}
-use Rattle.token.proofs.theorems.Shorter.{Strict, stands-strict, two-str, two-long}
+use Rattle.token.proofs.theorems.Unique.{fell-none}
+use Rattle.token.proofs.theorems.Shorter.{Strict, stands-strict}
 use Rattle.token.proofs.theorems.Flags.{Knows, cut-here, knows-fresh, knows-blank, knows-end, knows-line, knows-block, spaces, end-ends, blank-same, line-end-ends, other-ends}
 open text-laws use {text-suffix, text-place}
 
@@ -47,45 +46,16 @@ walk-end n f = refl
 
 -- the rest is read, and its tokens are the answer; or it is refused where nothing stands
 pub data Walked (script : List ℕ) (gap : List Piece) (s : Text) (w : Answer) : Type 0 where
-  reads : (ps : List Piece) (ts : List Token) → w ≡ tokenized ts → Pieces (length script) s ps [] → Tokens script gap ps ts
-      → recordBytes ts ≤ mostNeed (length s) → Walked script gap s w
+  reads : (ps : List Piece) (ts : List Token) → w ≡ tokenized ts → Pieces (length script) s ps [] → Tokens script gap ps ts → Walked script gap s w
   stops : (ps : List Piece) (c : Char) (t : Text) (h : Fell (c ∷ t) (scan (length script) (c ∷ t)))
       → w ≡ refused h.number (place (length script) h.rest)
       → Pieces (length script) s ps (c ∷ t) → ((k : Kind) (r : Text) → Stands k (c ∷ t) r → ⊥) → Walked script gap s w
 
--- ---- record bytes: at most so many for each character, and the head of Eof
-
-eof-bytes : (n : ℕ) (cut : Bool) → recordBytes (record { kind = tk.Eof; start = n; end = n; cut = cut } ∷ []) ≤ mostNeed 0
-unfolding recordBytes recordLength values
-eof-bytes n cut = omega arith
-
-before-bytes : (t : TokenKind) (a e : ℕ) (cut : Bool) (ts : List Token) (m k : ℕ) → recordBytes ts ≤ mostNeed k → recordLength t + perByte * k ≤ perByte * m
-    → recordBytes (record { kind = t; start = a; end = e; cut = cut } ∷ ts) ≤ mostNeed m
-unfolding recordBytes
-before-bytes t a e cut ts m k b l = omega arith
-
-newline-bytes : (mark : Bool) (a e : ℕ) (ts : List Token) (m k : ℕ) → recordBytes ts ≤ mostNeed k → k < m
-    → recordBytes (record { kind = tk.Newline mark; start = a; end = e; cut = false } ∷ ts) ≤ mostNeed m
-unfolding recordBytes recordLength values
-newline-bytes mark a e ts m k b l = omega arith
-
-token-bytes : (k : TokenType) (t : TokenKind) (s r : Text) (n : ℕ) (x y : Text) → Stands (Kind.token k) s r → Valued n x y k t
-    → recordLength t + perByte * length r ≤ perByte * length s
-unfolding recordLength values le4 le8
-token-bytes k t s r n x y h (Valued.bare e) = let a = (stands-strict (Kind.token k) s r h).1 in rw (bare-kind k t e).1 (omega arith)
-token-bytes k t s r n x y h (Valued.intLit w) = let a = (stands-strict (Kind.token k) s r h).1 in omega arith
-token-bytes k t s r n x y h (Valued.longLit w) = let a = two-long s r h in omega arith
-token-bytes k t s r n x y h (Valued.prefixed e) = let a = two-str s r h in omega arith
-token-bytes k t s r n x y h (Valued.plain e w) = let a = two-str s r h in omega arith
-
--- no more characters than bytes
 module _ (script : List ℕ) where
   -- a piece in front that has no token
   skipped : (gap : List Piece) (k : Kind) (s r : Text) (v w : Answer) → v ≡ w → (k ≡ Kind.blank) ⊎ (isComment k ≡ true) → Stands k s r
       → Walked script (gap ++ (record { kind = k; start = place (length script) s; end = place (length script) r } ∷ [])) r w → Walked script gap s v
-  skipped gap k s r v w e o h (Walked.reads ps ts f x y b) =
-      let l = (stands-strict k s r h).1 in
-      Walked.reads _ ts (e ∙ f) (Pieces.piece h x) (Tokens.skip o y) (omega arith)
+  skipped gap k s r v w e o h (Walked.reads ps ts f x y) = Walked.reads _ ts (e ∙ f) (Pieces.piece h x) (Tokens.skip o y)
   skipped gap k s r v w e o h (Walked.stops ps c a z f x y) = Walked.stops _ c a z (e ∙ f) (Pieces.piece h x) y
 
   ended : (gap : List Piece) (mark : Bool) (s r : Text) (v w : Answer)
@@ -93,18 +63,16 @@ module _ (script : List ℕ) where
       → mark ≡ true ↔ AfterComment gap → Stands Kind.lineEnd s r
       → Walked script (gap ++ (record { kind = Kind.lineEnd; start = place (length script) s; end = place (length script) r } ∷ [])) r w
       → Walked script gap s v
-  ended gap mark s r v w e o h (Walked.reads ps ts f x y b) =
-      let l = (stands-strict Kind.lineEnd s r h).1 in
-      Walked.reads _ _ (e ∙ ap (prepend _) f) (Pieces.piece h x) (Tokens.lineEnd refl o y) (newline-bytes mark _ _ ts (length s) (length r) b l)
+  ended gap mark s r v w e o h (Walked.reads ps ts f x y) =
+      Walked.reads _ _ (e ∙ ap (prepend _) f) (Pieces.piece h x) (Tokens.lineEnd refl o y)
   ended gap mark s r v w e o h (Walked.stops ps c a z f x y) = Walked.stops _ c a z (e ∙ ap (prepend _) f) (Pieces.piece h x) y
 
   tokened : (gap : List Piece) (k : TokenType) (t : TokenKind) (cut : Bool) (s r : Text) (v w : Answer)
       → v ≡ prepend (record { kind = t; start = place (length script) s; end = place (length script) r; cut = cut }) w
       → cut ≡ true ↔ Cut script gap → Valued (length script) (from script (place (length script) s)) (from script (place (length script) r)) k t
       → Stands (Kind.token k) s r → Walked script [] r w → Walked script gap s v
-  tokened gap k t cut s r v w e o u h (Walked.reads ps ts f x y b) =
-      let l = token-bytes k t s r _ _ _ h u in
-      Walked.reads _ _ (e ∙ ap (prepend _) f) (Pieces.piece h x) (Tokens.token refl u o y) (before-bytes t _ _ cut ts (length s) (length r) b l)
+  tokened gap k t cut s r v w e o u h (Walked.reads ps ts f x y) =
+      Walked.reads _ _ (e ∙ ap (prepend _) f) (Pieces.piece h x) (Tokens.token refl u o y)
   tokened gap k t cut s r v w e o u h (Walked.stops ps c a z f x y) = Walked.stops _ c a z (e ∙ ap (prepend _) f) (Pieces.piece h x) y
 
   pub walk-finds : (fuel : ℕ) (s : Text) (gap : List Piece) (f : Gap) → length s ≤ fuel → ScriptText script s → Knows script gap f s
@@ -139,7 +107,7 @@ module _ (script : List ℕ) where
           tokened gap y x (cutOf f) (c ∷ s) r _ _ (walk-token _ f c s r x e m) (cut-here K (other-ends _ (c ∷ s) (ap spaces e)))
           (rw (text-place script (c ∷ s) t, text-place script r u) v) h (below [] fresh (knows-fresh script r))
   walk-finds _ [] gap f l t K =
-      Walked.reads [] _ (walk-end (length script) f) Pieces.done (Tokens.eof (cut-here K end-ends)) (eof-bytes (length script) (cutOf f))
+      Walked.reads [] _ (walk-end (length script) f) Pieces.done (Tokens.eof (cut-here K end-ends))
 
   pub answer-finds : Walked script [] (from script 0) (answer script)
   unfolding answer

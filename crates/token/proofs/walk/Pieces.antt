@@ -1,12 +1,12 @@
 -- What stands where a walk stands, by the class of its byte and by what the readers found there: the step past it.
-use Rattle.token.proofs.lexer.Words.{ℕ, ◌+◌, ◌-◌, ◌*◌, ◌≤◌, ◌<◌, ◌≡◌, refl, sym, ◌∙◌, ap, subst, Bool, true, false, not, ◌||◌, List, [], append-nil, length, drop, get_or, eqb, add-zero, arith, oneOf, from, afterRun, text-laws, isAny, opensLine, opensBlock, opensComment, Token, kindNumber, values, headLength, recordLength, Gap, GapKind, fresh, push, scan, close, classAt, blankClass, lfClass, crClass, upToBlank, inLineEnd, cursorAt, headNumber, headBytes, formOf, plainForm, byForm, hereOf, pieceOf, PieceAnswer, tokenTo, storedIf, lineEndAt, gapGoes, trail, gapOf, gapAt, Good, movedTo, plainBehind, valuesBehind, lineBehind, commentBehind, blockBehind, Refuses, Steps, TokenKind, Stand, eqb-true, eq-eqb, ne_eqb, Cursor, Form, Refused, closedOf, refusalBy, None, Err, and-both, ap₂, signOf}
+use Rattle.token.proofs.lexer.Words.{ℕ, ◌+◌, ◌*◌, ◌≤◌, ◌<◌, ◌≡◌, refl, sym, ◌∙◌, ap, subst, Bool, true, false, not, ◌||◌, List, [], append-nil, length, drop, get_or, eqb, arith, oneOf, from, afterRun, text-laws, isAny, opensLine, opensBlock, opensComment, Token, kindNumber, values, headLength, recordLength, Gap, GapKind, fresh, push, scan, close, classAt, blankClass, lfClass, crClass, upToBlank, inLineEnd, cursorAt, headNumber, headBytes, formOf, plainForm, byForm, hereOf, pieceOf, PieceAnswer, tokenTo, storedIf, lineEndAt, gapGoes, trail, gapOf, gapAt, Counted, Counts, counting, Good, movedTo, tokenBehind, lineBehind, commentBehind, blockBehind, Refuses, Steps, TokenKind, Stand, eqb-true, eq-eqb, ne_eqb, Cursor, Form, Refused, closedOf, refusalBy, None, Err, and-both, ap₂, signOf}
+use Rattle.words.specs.Words.{le4, le8}
 use Rattle.token.specs.declared.kinds.TokenKind.TheVariants as tk
 use Rattle.token.proofs.names.Ascii.{sign-bare, sign-found, bare-length, bare-record, sign-low, sign-number}
 use Rattle.token.proofs.byte_class.Laws.{class-signs, class-blank, class-lf, class-cr, class-number}
 use Rattle.token.proofs.cursor.Blanks.{one-blank, two-blanks}
 use Rattle.token.proofs.cursor.Bytes.{inside, any-byte}
 use Rattle.token.proofs.form.Laws.{form-record, length-by}
-use Rattle.token.proofs.records.Measures.{record-least}
 use Rattle.token.proofs.form.Stores.{head-fields}
 use Rattle.token.proofs.gap.Scans.{GapTo, lf-found, crlf-found, block-open}
 use Rattle.token.proofs.gap.Laws.{opens-line, opens-block, block-opens}
@@ -41,23 +41,30 @@ found-here s x e k h f =
     subst (λ c. Turn s x.at (gapAt x) (record { kind = k; start = x.at; end = e; cut = c }) e fresh) (or-false x.cut)
     (turn-token s x.at (gapAt x) h k (cursorAt e) f)
 
-module _ {s : List ℕ} {x : Stand} (g : Good s x) (h : x.at < length s) where
+-- a kind without values is not counted beside the tokens
+bare-counts : (c : Counts) (k : TokenKind) → values k ≡ [] → counting c k ≡ c
+unfolding counting values le4 le8
+bare-counts c (tk.IntLit v) e = cc
+bare-counts c (tk.LongLit v) e = cc
+bare-counts c (tk.Str a b) e = cc
+bare-counts c (tk.Newline mark) e = cc
+bare-counts c _ e = refl
+
+module _ {s : List ℕ} {x : Stand} (g : Good s x) {c : Counts} (u : Counted x c) (h : x.at < length s) where
   -- with values
-  pub step-valued : (k : TokenKind) (e : ℕ) → tokenTo k (cursorAt e) ≡ pieceOf (length s) (scan (length s) (from s x.at)) → (l : ℕ) → headLength + (l - headLength) ≡ recordLength k
-      → l ≡ recordLength k → (out next : List ℕ) → next ≡ storedIf out x.bytes (byForm (formOf k) x.at e x.cut) → Steps s x out (valuesBehind x (hereOf s e) l) next
-  step-valued k e f l p r out next q =
+  pub step-valued : (k : TokenKind) (e : ℕ) → tokenTo k (cursorAt e) ≡ pieceOf (length s) (scan (length s) (from s x.at)) → (l : ℕ) → l ≡ recordLength k
+      → (out next : List ℕ) → next ≡ storedIf out x.bytes (byForm (formOf k) x.at e x.cut) → Steps s x c out (tokenBehind x (hereOf s e) l) (counting c k) next
+  step-valued k e f l p out next q =
       let t : Token = record { kind = k; start = x.at; end = e; cut = x.cut } in
-      let z : headLength + (l - headLength) ≡ l = p ∙ sym r in
-      subst (λ n. Steps s x out (record { at = e; class = record { number = classAt s e }; bytes = x.bytes + n; values = x.values + (l - headLength); line = x.line; mark = x.mark; cut = false }) next) z
-      (step-token g (found-here s x e k h f) (l - headLength) p out next (q ∙ ap (storedIf out x.bytes) (form-record t)))
+      step-token g u (found-here s x e k h f) l p out next (q ∙ ap (storedIf out x.bytes) (form-record t))
 
   -- without values, by the kind's number
   pub step-bare : (k : TokenKind) (e : ℕ) → tokenTo k (cursorAt e) ≡ pieceOf (length s) (scan (length s) (from s x.at)) → values k ≡ []
-      → (out next : List ℕ) → next ≡ storedIf out x.bytes (byForm (plainForm (kindNumber k)) x.at e x.cut) → Steps s x out (plainBehind x (hereOf s e)) next
+      → (out next : List ℕ) → next ≡ storedIf out x.bytes (byForm (plainForm (kindNumber k)) x.at e x.cut) → Steps s x c out (tokenBehind x (hereOf s e) headLength) c next
   step-bare k e f v out next q =
       let t : Token = record { kind = k; start = x.at; end = e; cut = x.cut } in
-      subst (λ n. Steps s x out (record { at = e; class = record { number = classAt s e }; bytes = x.bytes + headLength; values = n; line = x.line; mark = x.mark; cut = false }) next) (add-zero x.values)
-      (step-token g (found-here s x e k h f) 0 (bare-length k v) out next (q ∙ ap (storedIf out x.bytes) (sym (bare-record t v))))
+      subst (λ d. Steps s x c out (tokenBehind x (hereOf s e) headLength) d next) (bare-counts c k v)
+      (step-token g u (found-here s x e k h f) headLength (bare-length k v) out next (q ∙ ap (storedIf out x.bytes) (sym (bare-record t v))))
 
 -- ---- by the class
 
@@ -74,10 +81,10 @@ module _ {s : List ℕ} {x : Stand} (g : Good s x) where
       let v = sym (class-blank (get_or s x.at 0)) ∙ ap (λ e. eqb e blankClass) (sym g.class) ∙ b in
       sym (or-false _) ∙ ap (λ z. oneOf "()[]{},;." (get_or s x.at 0) || z) (sym v) ∙ u
 
-  pub step-sign : upToBlank x.class.number ≡ true → eqb x.class.number blankClass ≡ false → (out next : List ℕ)
-      → next ≡ storedIf out x.bytes (headBytes (headLength + 32768 * x.class.number) x.at (x.at + 1) x.cut) → Steps s x out (plainBehind x (hereOf s (x.at + 1))) next
+  pub step-sign : {c : Counts} → Counted x c → upToBlank x.class.number ≡ true → eqb x.class.number blankClass ≡ false → (out next : List ℕ)
+      → next ≡ storedIf out x.bytes (headBytes (headLength + 32768 * x.class.number) x.at (x.at + 1) x.cut) → Steps s x c out (tokenBehind x (hereOf s (x.at + 1)) headLength) c next
   unfolding byForm
-  step-sign a b out next q =
+  step-sign {c} u a b out next q =
       let o = sign-here a b in
       let h = inside s x.at (sign-low (get_or s x.at 0) o).0 in
       let n = class-number (get_or s x.at 0) o in
@@ -85,45 +92,45 @@ module _ {s : List ℕ} {x : Stand} (g : Good s x) where
       let m = sign-number s x.at h o in
       let k = signOf (from s x.at) in
       let z : headLength + 32768 * x.class.number ≡ headNumber headLength (kindNumber k) = omega (arith, n, c, m) in
-      step-bare g h k (x.at + 1) (sign-found s x.at h o) (sign-bare _) out next (q ∙ ap (storedIf out x.bytes) (head-fields _ headLength (kindNumber k) x.at (x.at + 1) x.cut (omega arith) z ∙ sym (append-nil _)))
+      step-bare g u h k (x.at + 1) (sign-found s x.at h o) (sign-bare _) out next (q ∙ ap (storedIf out x.bytes) (head-fields _ headLength (kindNumber k) x.at (x.at + 1) x.cut (omega arith) z ∙ sym (append-nil _)))
 
   -- blanks
-  pub step-blanks : (k : ℕ) → x.at ≤ k → k ≤ length s → from s k ≡ afterRun (isAny " \t") (from s x.at) → (out : List ℕ) → Steps s x out (movedTo x (hereOf s k)) out
-  step-blanks k l w e out = step-same g k l w (ap (trail (length s) 0 (gapAt x)) e ∙ trail-blanks (length s) (gapAt x) (from s x.at)) out
+  pub step-blanks : {c : Counts} → Counted x c → (k : ℕ) → x.at ≤ k → k ≤ length s → from s k ≡ afterRun (isAny " \t") (from s x.at) → (out : List ℕ) → Steps s x c out (movedTo x (hereOf s k)) c out
+  step-blanks {c} u k l w e out = step-same g u k l w (ap (trail (length s) 0 (gapAt x)) e ∙ trail-blanks (length s) (gapAt x) (from s x.at)) out
 
   -- a line end
-  pub step-line-end : (e : ℕ) → GapTo s GapKind.lineEnd x.at e → (out next : List ℕ)
-      → next ≡ storedIf out x.bytes (byForm (formOf (tk.Newline (eqb x.mark x.bytes))) x.at e false) → Steps s x out (lineBehind s x e) next
-  step-line-end e f out next q =
+  pub step-line-end : {c : Counts} → Counted x c → (e : ℕ) → GapTo s GapKind.lineEnd x.at e → (out next : List ℕ)
+      → next ≡ storedIf out x.bytes (byForm (formOf (tk.Newline (eqb x.mark x.bytes))) x.at e false) → Steps s x c out (lineBehind s x e) (counting c (tk.Newline (eqb x.mark x.bytes))) next
+  step-line-end {c} u e f out next q =
       let t = lineEndAt x.at e (eqb x.mark x.bytes) in
-      step-line g (record { walked = gap-trail s GapKind.lineEnd x.at e (gapAt x) f; on = f.on; within = f.within }) out next (q ∙ ap (storedIf out x.bytes) (form-record t))
+      step-line g u (record { walked = gap-trail s GapKind.lineEnd x.at e (gapAt x) f; on = f.on; within = f.within }) out next (q ∙ ap (storedIf out x.bytes) (form-record t))
 
   -- a line comment
-  pub step-line-comment : (e : ℕ) → GapTo s GapKind.lineComment x.at e → (out : List ℕ) → Steps s x out (commentBehind s x e) out
-  step-line-comment e f out =
+  pub step-line-comment : {c : Counts} → Counted x c → (e : ℕ) → GapTo s GapKind.lineComment x.at e → (out : List ℕ) → Steps s x c out (commentBehind s x e) c out
+  step-line-comment {c} u e f out =
       let o = f.on in
-      step-comment g e x.cut (omega arith) f.within
+      step-comment g u e x.cut (omega arith) f.within
       (sym (gap-trail s GapKind.lineComment x.at e (gapAt x) f ∙ ap (λ c. trail (length s) 0 (gapOf (eqb x.line x.bytes) true c) (from s e)) (or-false x.cut))) out
 
   -- a block comment, where no line end of its gap came
-  pub step-block : (e : ℕ) → GapTo s GapKind.blockComment x.at e → eqb x.line x.bytes ≡ false → (out : List ℕ) → Steps s x out (commentBehind s x e) out
-  step-block e f n out =
+  pub step-block : {c : Counts} → Counted x c → (e : ℕ) → GapTo s GapKind.blockComment x.at e → eqb x.line x.bytes ≡ false → (out : List ℕ) → Steps s x c out (commentBehind s x e) c out
+  step-block {c} u e f n out =
       let o = f.on in
       let y : push GapKind.blockComment (gapAt x) ≡ gapOf (eqb x.line x.bytes) true x.cut = rw (n, or-false x.cut) in
-      step-comment g e x.cut (omega arith) f.within (sym (gap-trail s GapKind.blockComment x.at e (gapAt x) f ∙ ap (λ z. trail (length s) 0 z (from s e)) y)) out
+      step-comment g u e x.cut (omega arith) f.within (sym (gap-trail s GapKind.blockComment x.at e (gapAt x) f ∙ ap (λ z. trail (length s) 0 z (from s e)) y)) out
 
   -- a block comment and the blanks behind it, where one came: what follows decides on the cut
-  pub step-block-cut : (e k : ℕ) → GapTo s GapKind.blockComment x.at e → eqb x.line x.bytes ≡ true → e ≤ k → k ≤ length s → from s k ≡ afterRun (isAny " \t") (from s e) → (out : List ℕ)
-      → Steps s x out (blockBehind s x k) out
-  step-block-cut e k f n l w b out =
+  pub step-block-cut : {c : Counts} → Counted x c → (e k : ℕ) → GapTo s GapKind.blockComment x.at e → eqb x.line x.bytes ≡ true → e ≤ k → k ≤ length s → from s k ≡ afterRun (isAny " \t") (from s e) → (out : List ℕ)
+      → Steps s x c out (blockBehind s x k) c out
+  step-block-cut {c} u e k f n l w b out =
       let o = f.on in
-      let c = x.cut || not (isAny "\n\r" (from s k)) in
+      let v = x.cut || not (isAny "\n\r" (from s k)) in
       let y : push GapKind.blockComment (gapAt x) ≡ record { newline = true; comment = true; pending = true; cut = x.cut } = rw (n, or-false x.cut) in
       let z = settled (length s) true true x.cut (from s k) (ap (isAny " \t") b ∙ run-done (isAny " \t") refl (from s e)) in
-      let p : gapOf true true c ≡ gapOf (eqb x.line x.bytes) true c = ap (λ d. gapOf d true c) (sym n) in
-      subst (λ d. Steps s x out (record { at = k; class = record { number = classAt s k }; bytes = x.bytes; values = x.values; line = x.line; mark = x.bytes; cut = x.cut || not d }) out)
+      let p : gapOf true true v ≡ gapOf (eqb x.line x.bytes) true v = ap (λ d. gapOf d true v) (sym n) in
+      subst (λ d. Steps s x c out (record { at = k; class = record { number = classAt s k }; bytes = x.bytes; line = x.line; mark = x.bytes; cut = x.cut || not d }) c out)
       (line-class s k)
-      (step-comment g k c (omega arith) w
+      (step-comment g u k v (omega arith) w
       (sym (gap-trail s GapKind.blockComment x.at e (gapAt x) f ∙ ap (λ d. trail (length s) 0 d (from s e)) y
       ∙ sym (ap (trail (length s) 0 (record { newline = true; comment = true; pending = true; cut = x.cut })) b ∙ trail-blanks (length s) _ (from s e))
       ∙ z ∙ ap (λ d. trail (length s) 0 d (from s k)) p)) out)
@@ -135,17 +142,17 @@ module _ {s : List ℕ} {x : Stand} (g : Good s x) where
   blank-here : eqb x.class.number blankClass ≡ true → oneOf " \t" (get_or s x.at 0) ≡ true
   blank-here e = sym (class-blank (get_or s x.at 0)) ∙ by-class (λ z. eqb z blankClass) e
 
-  pub step-one-blank : eqb x.class.number blankClass ≡ true → eqb (classAt s (x.at + 1)) blankClass ≡ false → (out : List ℕ) → Steps s x out (movedTo x (hereOf s (x.at + 1))) out
-  step-one-blank e n out =
+  pub step-one-blank : {c : Counts} → Counted x c → eqb x.class.number blankClass ≡ true → eqb (classAt s (x.at + 1)) blankClass ≡ false → (out : List ℕ) → Steps s x c out (movedTo x (hereOf s (x.at + 1))) c out
+  step-one-blank {c} u e n out =
       let o = one-blank s x.at (blank-here e) (sym (class-blank (get_or s (x.at + 1) 0)) ∙ n) in
-      step-blanks (x.at + 1) (omega arith) o.0 o.1 out
+      step-blanks u (x.at + 1) (omega arith) o.0 o.1 out
 
   pub two-here : eqb x.class.number blankClass ≡ true → eqb (classAt s (x.at + 1)) blankClass ≡ true → x.at + 2 ≤ length s
   two-here e f = (two-blanks s x.at (blank-here e) (sym (class-blank (get_or s (x.at + 1) 0)) ∙ f)).0
 
-  pub step-more-blanks : eqb x.class.number blankClass ≡ true → eqb (classAt s (x.at + 1)) blankClass ≡ true → (k : ℕ) → k ≤ length s → x.at + 2 ≤ k
-      → from s k ≡ afterRun (isAny " \t") (from s (x.at + 2)) → (out : List ℕ) → Steps s x out (movedTo x (hereOf s k)) out
-  step-more-blanks e f k w l q out = step-blanks k (omega arith) w (q ∙ (two-blanks s x.at (blank-here e) (sym (class-blank (get_or s (x.at + 1) 0)) ∙ f)).1) out
+  pub step-more-blanks : {c : Counts} → Counted x c → eqb x.class.number blankClass ≡ true → eqb (classAt s (x.at + 1)) blankClass ≡ true → (k : ℕ) → k ≤ length s → x.at + 2 ≤ k
+      → from s k ≡ afterRun (isAny " \t") (from s (x.at + 2)) → (out : List ℕ) → Steps s x c out (movedTo x (hereOf s k)) c out
+  step-more-blanks {c} u e f k w l q out = step-blanks u k (omega arith) w (q ∙ (two-blanks s x.at (blank-here e) (sym (class-blank (get_or s (x.at + 1) 0)) ∙ f)).1) out
 
   -- line ends
   pub lf-here : eqb x.class.number lfClass ≡ true → GapTo s GapKind.lineEnd x.at (x.at + 1)
@@ -158,21 +165,21 @@ module _ {s : List ℕ} {x : Stand} (g : Good s x) where
   cr-here e n = crlf-found s x.at (rw (cr-byte-here e, eq-eqb (get_or s (x.at + 1) 0) 0x0A n))
 
   -- a CR without an LF
-  pub refuses-lone : eqb x.class.number crClass ≡ true → (get_or s (x.at + 1) 0 ≡ 0x0A → ⊥) → (out : List ℕ) → Refuses s x out (record { what = refusal.LoneCr; place = x.at })
+  pub refuses-lone : eqb x.class.number crClass ≡ true → (get_or s (x.at + 1) 0 ≡ 0x0A → ⊥) → (c : Counts) (out : List ℕ) → Refuses s x c out (record { what = refusal.LoneCr; place = x.at })
   unfolding refusalBy
-  refuses-lone e n out =
+  refuses-lone e n d out =
       let c = cr-byte-here e in
       let z : get_or s x.at 0 ≡ 0x0D = eqb-true (get_or s x.at 0) 0x0D c in
       let h = inside s x.at (omega (arith, z)) in
       let r : isAny "\r" (from s x.at) ≡ true = any-byte "\r" refl s x.at ∙ rw c in
-      refuses-here h 1 (lone-scan s x.at r (rw (c, ne_eqb (get_or s (x.at + 1) 0) 0x0A n))) out
+      refuses-here h 1 (lone-scan s x.at r (rw (c, ne_eqb (get_or s (x.at + 1) 0) 0x0A n))) d out
 
   -- a block comment that is open at the end of script
-  pub refuses-open : opensBlock (from s x.at) ≡ true → None ≡ closedOf (length s) (close 0 0 (drop 2 (from s x.at))) → (out : List ℕ) → Refuses s x out (record { what = refusal.OpenComment; place = x.at })
+  pub refuses-open : opensBlock (from s x.at) ≡ true → None ≡ closedOf (length s) (close 0 0 (drop 2 (from s x.at))) → (c : Counts) (out : List ℕ) → Refuses s x c out (record { what = refusal.OpenComment; place = x.at })
   unfolding refusalBy
-  refuses-open o q out =
+  refuses-open o q c out =
       let h : x.at < length s = omega (arith, (block-opens s x.at o).within) in
-      refuses-here h 2 (block-open s x.at o q) out
+      refuses-here h 2 (block-open s x.at o q) c out
 
 -- ---- comments
 
@@ -191,17 +198,15 @@ module _ (s : List ℕ) (i : ℕ) (o : opensComment (from s i) ≡ true) where
 
 module _ {s : List ℕ} {x : Stand} (g : Good s x) (h : x.at < length s) where
   -- a token
-  pub step-piece : (k : TokenKind) (e : Cursor) → tokenTo k e ≡ pieceOf (length s) (scan (length s) (from s x.at)) → (f : Form) → f ≡ formOf k → (out next : List ℕ)
-      → next ≡ storedIf out x.bytes (byForm f x.at e.at x.cut) → Steps s x out (valuesBehind x (hereOf s e.at) f.length) next
-  step-piece k e q f r out next z =
-      let l = length-by f k r in
-      let a = record-least k in
-      step-valued g h k e.at q f.length (omega (arith, l, a)) l out next (z ∙ ap (λ y. storedIf out x.bytes (byForm y x.at e.at x.cut)) r)
+  pub step-piece : {c : Counts} → Counted x c → (k : TokenKind) (e : Cursor) → tokenTo k e ≡ pieceOf (length s) (scan (length s) (from s x.at)) → (f : Form) → f ≡ formOf k → (out next : List ℕ)
+      → next ≡ storedIf out x.bytes (byForm f x.at e.at x.cut) → Steps s x c out (tokenBehind x (hereOf s e.at) f.length) (counting c k) next
+  step-piece u k e q f r out next z =
+      step-valued g u h k e.at q f.length (length-by f k r) out next (z ∙ ap (λ y. storedIf out x.bytes (byForm y x.at e.at x.cut)) r)
 
   pub piece-on : (k : TokenKind) (e : Cursor) → tokenTo k e ≡ pieceOf (length s) (scan (length s) (from s x.at)) → x.at < e.at
   piece-on k e q = (turn-token s x.at (gapAt x) h k e q).on
 
   -- a refusal
   pub refuses-piece : (e : Refused) → opensComment (from s x.at) ≡ false → isAny " \t\n\r" (from s x.at) ≡ false → ◌≡◌ {A = PieceAnswer} (Err e) (pieceOf (length s) (scan (length s) (from s x.at)))
-      → (out : List ℕ) → Refuses s x out e
-  refuses-piece e a b q out = let p = piece-stuck s x.at h e a b q in refuses h p.0 p.1 p.2 e p.3 out
+      → (c : Counts) (out : List ℕ) → Refuses s x c out e
+  refuses-piece e a b q c out = let p = piece-stuck s x.at h e a b q in refuses h p.0 p.1 p.2 e p.3 c out

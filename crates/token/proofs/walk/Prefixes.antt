@@ -1,5 +1,5 @@
 -- Backticks and strings, by the class of the first byte: where they end, whether they prefix a string, and the step past them.
-use Rattle.token.proofs.lexer.Words.{isDigit, ℕ, ◌<◌, ◌≡◌, refl, sym, ◌∙◌, ap, true, false, List, Err, length, get_or, eqb, eq-eqb, from, isAny, quote, values, scan, scanNumber, scanString, scanCharSym, scanBacktick, closeString, prefixedOf, classAt, digitClass, quoteClass, backtickClass, tickClass, cursorAt, plainForm, byForm, hereOf, pieceOf, storedIf, endAt, backtickOf, Good, plainBehind, Steps, Refuses, Prefixes, Cursor, Refused, Stand, code-is, oneOf, Start}
+use Rattle.token.proofs.lexer.Words.{isDigit, ℕ, ◌<◌, ◌≡◌, refl, sym, ◌∙◌, ap, true, false, List, Err, length, get_or, eqb, eq-eqb, from, isAny, quote, values, scan, scanNumber, scanString, scanCharSym, scanBacktick, closeString, prefixedOf, classAt, digitClass, quoteClass, backtickClass, tickClass, cursorAt, plainForm, byForm, hereOf, pieceOf, storedIf, endAt, backtickOf, Counted, Counts, Good, headLength, tokenBehind, Steps, Refuses, Prefixes, Cursor, Refused, Stand, code-is, oneOf, Start}
 use Rattle.token.specs.declared.kinds.TokenKind.TheVariants as tk
 use Rattle.token.proofs.byte_class.Laws.{class-quote, class-backtick}
 use Rattle.token.proofs.cursor.Bytes.{any-byte}
@@ -56,10 +56,10 @@ module _ {s : List ℕ} {x : Stand} (g : Good s x) (k : eqb x.class.number backt
   scans : scan (length s) (from s x.at) ≡ scanBacktick (length s) (from s x.at)
   scans = backtick-at s x.at (backtick-begun.within) backtick-opens
 
-  pub refuses-backtick : (e : Refused) → Err e ≡ backtickOf (length s) (from s x.at) → (out : List ℕ) → Refuses s x out e
-  refuses-backtick e q out =
+  pub refuses-backtick : (e : Refused) → Err e ≡ backtickOf (length s) (from s x.at) → (c : Counts) (out : List ℕ) → Refuses s x c out e
+  refuses-backtick e q c out =
       let b = backtick-begun in
-      refuses-piece g b.within e b.no_comment b.no_gap (tick-refused (length s) (from s x.at) e q ∙ b.is) out
+      refuses-piece g b.within e b.no_comment b.no_gap (tick-refused (length s) (from s x.at) e q ∙ b.is) c out
 
   module _ (c : Cursor) (q : endAt c ≡ backtickOf (length s) (from s x.at)) where
     ticked : Ticked s x.at c.at
@@ -73,12 +73,12 @@ module _ {s : List ℕ} {x : Stand} (g : Good s x) (k : eqb x.class.number backt
         let t = ticked in
         record { kind = tk.BacktickId; on = t.on; within = t.within; byte = quote-here s c.at f; is = scans ∙ t.is }
 
-    pub step-backtick : eqb (classAt s c.at) quoteClass ≡ false → (out next : List ℕ)
-        → next ≡ storedIf out x.bytes (byForm (plainForm 3) x.at c.at x.cut) → Steps s x out (plainBehind x (hereOf s c.at)) next
+    pub step-backtick : {d : Counts} → Counted x d → eqb (classAt s c.at) quoteClass ≡ false → (out next : List ℕ)
+        → next ≡ storedIf out x.bytes (byForm (plainForm 3) x.at c.at x.cut) → Steps s x d out (tokenBehind x (hereOf s c.at) headLength) d next
     unfolding values
-    step-backtick f out next v =
+    step-backtick u f out next v =
         let t = ticked in
-        let u = quote-class s c.at ∙ f in
+        let n = quote-class s c.at ∙ f in
         let p = token-at s tk.BacktickId (cursorAt c.at) (from s c.at) t.within refl
-        ∙ ap (pieceOf (length s)) (sym (scans ∙ t.is ∙ not-prefixed (length s) tk.BacktickId (from s x.at) (from s c.at) u)) in
-        step-bare g backtick-begun.within tk.BacktickId c.at p refl out next v
+        ∙ ap (pieceOf (length s)) (sym (scans ∙ t.is ∙ not-prefixed (length s) tk.BacktickId (from s x.at) (from s c.at) n)) in
+        step-bare g u backtick-begun.within tk.BacktickId c.at p refl out next v

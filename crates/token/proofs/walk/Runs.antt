@@ -1,5 +1,5 @@
 -- An operator that begins with a sign of ASCII other than `/`, behind whose signs nothing makes more of it: its end, its kind and the step past it.
-use Rattle.token.proofs.lexer.Words.{◌≡◌, refl, sym, ◌∙◌, ap, ℕ, ◌+◌, ◌≤◌, ◌<◌, Bool, true, false, cond, not, ◌&&◌, ◌||◌, List, length, get_or, eqb, eqb-true, ne_eqb, leb-true, leb-false, le-leb, arith, and-false, lt-leb, none, oneOf, from, afterRun, clash, and-both, text-laws, opSign, freeSign, opensComment, kindNumber, runOf, values, codesTo, scan, classAt, signKeywordClass, slashClass, wideClass, inOperator, inRun, isSign, cursorAt, plainForm, byForm, runBefore, numberOr, hereOf, runTo, pieceOf, tokenTo, storedIf, Good, plainBehind, Steps, operatorNumber, LeftTo, Here, Stand}
+use Rattle.token.proofs.lexer.Words.{◌≡◌, refl, sym, ◌∙◌, ap, ℕ, ◌+◌, ◌≤◌, ◌<◌, Bool, true, false, cond, not, ◌&&◌, ◌||◌, List, length, get_or, eqb, eqb-true, ne_eqb, leb-true, leb-false, le-leb, arith, and-false, lt-leb, none, oneOf, from, afterRun, clash, and-both, text-laws, opSign, freeSign, opensComment, kindNumber, runOf, values, codesTo, scan, classAt, signKeywordClass, slashClass, wideClass, inOperator, inRun, isSign, cursorAt, plainForm, byForm, runBefore, numberOr, hereOf, runTo, pieceOf, tokenTo, storedIf, Counted, Counts, Good, headLength, tokenBehind, Steps, operatorNumber, LeftTo, Here, Stand}
 use Rattle.token.specs.code.Walk.{runGoesOn}
 use Rattle.token.proofs.ident.Laws.{left-to, run-left, token-at}
 use Rattle.token.proofs.ident.Signs.{low-byte, comment-class, ascii-on, sign-here, sign-same, kindOr, scan-before, run-none}
@@ -97,13 +97,13 @@ module _ {s : List ℕ} {x : Stand} (g : Good s x) (k : inRun x.class.number ≡
       go false z true f = ap (λ y. cond y 2 (numberOr 2 (runOf (codesTo (from s x.at) (from s e.at))))) (no-slash z) ∙ kind-counts tk.OpId _
       go false z false f = sym (ap (λ o. kindNumber (kindOr tk.OpId o)) (run-none s x.at e.at run-left-to (by-class g (λ z. eqb z signKeywordClass) f)))
 
-  pub step-run : (out next : List ℕ) → next ≡ storedIf out x.bytes (byForm (plainForm (operatorNumber s x.class.number x.at e)) x.at e.at x.cut) → Steps s x out (plainBehind x e) next
+  pub step-run : {c : Counts} → Counted x c → (out next : List ℕ) → next ≡ storedIf out x.bytes (byForm (plainForm (operatorNumber s x.class.number x.at e)) x.at e.at x.cut) → Steps s x c out (tokenBehind x e headLength) c next
   unfolding values
-  step-run out next z =
+  step-run u out next z =
       let o = runBefore (from s x.at) (from s e.at) in
       let y = run-clear s x.at here in
       let l = leb-true 160 (classAt s x.at) here in
       let v = sign-here s x.at (le-leb 142 (classAt s x.at) (omega arith)) in
       let found : tokenTo (kindOr tk.OpId o) (cursorAt e.at) ≡ pieceOf (length s) (scan (length s) (from s x.at)) =
       token-at s (kindOr tk.OpId o) (cursorAt e.at) (from s e.at) ends.1 refl ∙ ap (pieceOf (length s)) (sym (operator-at s x.at within y v ∙ scan-before (from s x.at) (from s e.at) ends.2)) in
-      behind-here e _ q (step-bare g within (kindOr tk.OpId o) e.at found (kind-bare tk.OpId refl o) out next (z ∙ ap (λ j. storedIf out x.bytes (byForm (plainForm j) x.at e.at x.cut)) counts))
+      behind-here e _ q (step-bare g u within (kindOr tk.OpId o) e.at found (kind-bare tk.OpId refl o) out next (z ∙ ap (λ j. storedIf out x.bytes (byForm (plainForm j) x.at e.at x.cut)) counts))

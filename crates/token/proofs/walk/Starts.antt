@@ -1,5 +1,5 @@
 -- What begins with an operator sign, with an id start, or with neither.
-use Rattle.token.proofs.lexer.Words.{◌≡◌, refl, sym, ◌∙◌, ap, ap₂, ℕ, ◌+◌, ◌<◌, Bool, true, false, not, ◌&&◌, ◌||◌, List, [], ◌∷◌, length, drop, get_or, eqb, leb, ltb, ltb-true, eqb-true, not-true, String, codes, oneOf, isIdStart, isOpSign, opSigns, Text, from, headIs, arrowAt, afterRun, lowStart, every, clash, and-both, or-neither, code_laws, text-laws, isAny, opSign, freeSign, opensComment, Found, scan, scanIdent, scanOperator, classAt, wideClass, slashClass, otherClass, upToBlank, startsWord, isSign, pieceOf, refusalBy, Good, Refuses, Stand, sign-not, start-not, slash-no-start, Start, startOf, scanAs, or-false}
+use Rattle.token.proofs.lexer.Words.{◌≡◌, refl, sym, ◌∙◌, ap, ap₂, ℕ, ◌+◌, ◌<◌, Bool, true, false, not, ◌&&◌, ◌||◌, List, [], ◌∷◌, length, drop, get_or, eqb, leb, ltb, ltb-true, eqb-true, not-true, String, codes, oneOf, isIdStart, isOpSign, opSigns, Text, from, headIs, arrowAt, afterRun, lowStart, every, clash, and-both, or-neither, code_laws, text-laws, isAny, opSign, freeSign, opensComment, Found, scan, scanIdent, scanOperator, classAt, wideClass, slashClass, otherClass, upToBlank, startsWord, isSign, pieceOf, refusalBy, Good, Refuses, Counts, Stand, sign-not, start-not, slash-no-start, Start, startOf, scanAs, or-false}
 use Rattle.chars.specs.paper.Quoted.{member}
 use Rattle.token.specs.declared.refusal.Refusal.TheVariants as refusal
 use Rattle.token.proofs.cursor.Bytes.{any-byte}
@@ -95,13 +95,13 @@ module _ {s : List ℕ} {x : Stand} (g : Good s x) (k : eqb x.class.number wideC
   pub wide-clear : opensComment (from s x.at) ≡ false
   wide-clear = comment-class s x.at ∙ ap (λ z. eqb z slashClass && oneOf "*/" (get_or s (x.at + 1) 0)) (eqb-true (classAt s x.at) wideClass wide-here)
 
-  pub refuses-wide : arrowAt s x.at ≡ false → get_or s x.at 0 < 0x100 → headIs isIdStart (from s x.at) ≡ false → (out : List ℕ)
-      → Refuses s x out (record { what = refusal.NoPiece; place = x.at })
+  pub refuses-wide : arrowAt s x.at ≡ false → get_or s x.at 0 < 0x100 → headIs isIdStart (from s x.at) ≡ false → (c : Counts) (out : List ℕ)
+      → Refuses s x c out (record { what = refusal.NoPiece; place = x.at })
   unfolding refusalBy
-  refuses-wide f l n out =
+  refuses-wide f l n c out =
       let w : isAny wordless (from s x.at) ≡ false = any-byte wordless refl s x.at ∙ no-member (leb 0x80) (codes wordless) (get_or s x.at 0) refl (sym (class-wide (get_or s x.at 0)) ∙ wide-here) in
       let z = sign-stop s x.at false (ap (λ b. isSign b && true) (eqb-true (classAt s x.at) wideClass wide-here)) f l in
-      refuses-here (class-inside s x.at (λ z. eqb z wideClass) refl wide-here) 3 (other-at (length s) (from s x.at) wide-clear w n z) out
+      refuses-here (class-inside s x.at (λ z. eqb z wideClass) refl wide-here) 3 (other-at (length s) (from s x.at) wide-clear w n z) c out
 
 -- ---- what begins no token
 
@@ -112,9 +112,9 @@ other-left {s} {x} g a b =
     sym (or-false (eqb x.class.number otherClass)) ∙ sym (ap₂ (λ u v. u || (eqb x.class.number otherClass || v)) a b) ∙ q
 
 module _ {s : List ℕ} {x : Stand} (g : Good s x) (h : x.at < length s) (k : eqb x.class.number otherClass ≡ true) where
-  pub refuses-other : (out : List ℕ) → Refuses s x out (record { what = refusal.NoPiece; place = x.at })
+  pub refuses-other : (c : Counts) (out : List ℕ) → Refuses s x c out (record { what = refusal.NoPiece; place = x.at })
   unfolding refusalBy
-  refuses-other out =
+  refuses-other d out =
       let b = get_or s x.at 0 in
       let z : classAt s x.at ≡ otherClass = eqb-true _ _ (by-class g (λ z. eqb z otherClass) k) in
       let a = and-both (ltb b 0x80) (not (oneOf wordless b || (lowStart b || oneOf opSigns b))) (sym (class-other b) ∙ ap (λ z. eqb z otherClass) z) in
@@ -123,4 +123,4 @@ module _ {s : List ℕ} {x : Stand} (g : Good s x) (h : x.at < length s) (k : eq
       let c = comment-class s x.at ∙ ap (λ z. eqb z slashClass && oneOf "*/" (get_or s (x.at + 1) 0)) z in
       let i : isIdStart b ≡ false = sym (ap (λ y. y && isIdStart b) a.0) ∙ sym (class-start b) ∙ ap (λ z. not (upToBlank z) && startsWord z) z in
       refuses-here h 3
-      (other-at (length s) (from s x.at) c (any-byte wordless refl s x.at ∙ n.0) (ascii-head s x.at h isIdStart l ∙ i) (sign-text s x.at l ∙ ap isSign z)) out
+      (other-at (length s) (from s x.at) c (any-byte wordless refl s x.at ∙ n.0) (ascii-head s x.at h isIdStart l ∙ i) (sign-text s x.at l ∙ ap isSign z)) d out

@@ -1,5 +1,5 @@
 -- Words, operators, numbers, strings and symbols where a walk stands, as the readers found them: the step past each.
-use Rattle.token.proofs.lexer.Words.{ℕ, ◌+◌, ◌≤◌, ◌<◌, ◌≡◌, refl, sym, ◌∙◌, ap, subst, true, false, not, ◌&&◌, ◌||◌, List, length, get_or, eqb, ltb, arith, eq-eqb, between, codes, from, code_laws, isDigit, digitValue, apostrophe, quote, wordOf, intLength, codesTo, afterIdent, classAt, digitClass, tickClass, keywordClass, upToBlank, startsWord, inWord, isSign, asksMore, inRun, formOf, plainForm, byForm, numberOr, hereOf, runTo, lowBefore, storedIf, Good, plainBehind, valuesBehind, Steps, nameNumber, LeftTo, Here, Stand, by-test, code-is, ltb-true, isIdStart, and-both, values}
+use Rattle.token.proofs.lexer.Words.{ℕ, ◌+◌, ◌≤◌, ◌<◌, ◌≡◌, refl, sym, ◌∙◌, ap, subst, true, false, not, ◌&&◌, ◌||◌, List, length, get_or, eqb, ltb, arith, eq-eqb, between, codes, from, code_laws, isDigit, digitValue, apostrophe, quote, wordOf, intLength, codesTo, afterIdent, classAt, digitClass, tickClass, keywordClass, upToBlank, startsWord, inWord, isSign, asksMore, inRun, formOf, plainForm, byForm, numberOr, hereOf, runTo, lowBefore, storedIf, Counted, Counts, Good, counting, headLength, tokenBehind, Steps, nameNumber, LeftTo, Here, Stand, by-test, code-is, ltb-true, isIdStart, and-both, values}
 use Rattle.token.proofs.lexer.Laws.{ascii-start}
 use Rattle.token.specs.declared.kinds.TokenKind.TheVariants as tk
 use Rattle.token.proofs.byte_class.Laws.{class-start, class-digit, class-tick}
@@ -13,9 +13,10 @@ use Rattle.token.proofs.charsym.Laws.{tick-byte}
 use Rattle.token.proofs.walk.Pieces.{by-class, step-valued, step-bare}
 open code_laws use {carry}
 
-pub behind-here : {s : List ℕ} {x : Stand} {out next : List ℕ} (e : Here) (j : ℕ) → e ≡ hereOf s j → Steps s x out (plainBehind x (hereOf s e.at)) next → Steps s x out (plainBehind x e) next
-behind-here {s} {x} {out} {next} e j q h =
-    subst (λ z. Steps s x out (plainBehind x z) next) (ap (λ c. record { at = e.at; class = record { number = c } }) (sym (here-is s e j q).1)) h
+pub behind-here : {s : List ℕ} {x : Stand} {c : Counts} {out next : List ℕ} (e : Here) (j : ℕ) → e ≡ hereOf s j
+    → Steps s x c out (tokenBehind x (hereOf s e.at) headLength) c next → Steps s x c out (tokenBehind x e headLength) c next
+behind-here {s} {x} {c} {out} {next} e j q h =
+    subst (λ z. Steps s x c out (tokenBehind x z headLength) c next) (ap (λ c. record { at = e.at; class = record { number = c } }) (sym (here-is s e j q).1)) h
 
 -- ---- operators
 
@@ -36,14 +37,15 @@ module _ {s : List ℕ} {x : Stand} (g : Good s x) (k : eqb x.class.number digit
   pub digit-inside : x.at < length s
   digit-inside = class-inside s x.at (λ z. eqb z digitClass) refl (by-class g (λ z. eqb z digitClass) k)
 
-  pub step-digit : (e : Here) → e ≡ hereOf s (x.at + 1) → inWord e.class.number ≡ false → (v : ℕ) → v ≡ digitValue (get_or s x.at 0) → (out next : List ℕ)
-      → next ≡ storedIf out x.bytes (byForm (formOf (tk.IntLit v)) x.at e.at x.cut) → Steps s x out (valuesBehind x e intLength) next
-  step-digit e q w v r out next z =
+  pub step-digit : {c : Counts} → Counted x c → (e : Here) → e ≡ hereOf s (x.at + 1) → inWord e.class.number ≡ false → (v : ℕ) → v ≡ digitValue (get_or s x.at 0) → (out next : List ℕ)
+      → next ≡ storedIf out x.bytes (byForm (formOf (tk.IntLit v)) x.at e.at x.cut) → Steps s x c out (tokenBehind x e intLength) (counting c (tk.IntLit v)) next
+  unfolding counting
+  step-digit {c} u e q w v r out next z =
       let at : e.at ≡ x.at + 1 = ap (λ (y : Here). y.at) q in
-      let c : e.class.number ≡ classAt s (x.at + 1) = ap (λ (y : Here). y.class.number) q in
-      let u = digit-alone s x.at digit-inside digit-here (sym (ap inWord c) ∙ w) in
-      subst (λ y. Steps s x out (valuesBehind x y intLength) next) (sym q)
-      (step-valued g digit-inside (tk.IntLit (digitValue (get_or s x.at 0))) (x.at + 1) u intLength (int-size _) (int-size _) out next
+      let n : e.class.number ≡ classAt s (x.at + 1) = ap (λ (y : Here). y.class.number) q in
+      let f = digit-alone s x.at digit-inside digit-here (sym (ap inWord n) ∙ w) in
+      subst (λ y. Steps s x c out (tokenBehind x y intLength) (counting c (tk.IntLit v)) next) (sym q)
+      (step-valued g u digit-inside (tk.IntLit (digitValue (get_or s x.at 0))) (x.at + 1) f intLength (int-size _) out next
       (z ∙ ap (λ y. storedIf out x.bytes (byForm (formOf (tk.IntLit y)) x.at e.at x.cut)) r
       ∙ ap (λ y. storedIf out x.bytes (byForm (formOf (tk.IntLit (digitValue (get_or s x.at 0)))) x.at y x.cut)) at))
 
@@ -74,16 +76,16 @@ module _ {s : List ℕ} {x : Stand} (g : Good s x) (a : upToBlank x.class.number
     word-leaves = word-left s x.at e word-inside start-byte l r
 
     -- a keyword or an identifier
-    pub step-name : quote (from s e) ≡ false → (out next : List ℕ) → next ≡ storedIf out x.bytes (byForm (plainForm (nameNumber s x.class.number x.at e)) x.at e x.cut)
-        → Steps s x out (plainBehind x (hereOf s e)) next
+    pub step-name : {c : Counts} → Counted x c → quote (from s e) ≡ false → (out next : List ℕ) → next ≡ storedIf out x.bytes (byForm (plainForm (nameNumber s x.class.number x.at e)) x.at e x.cut)
+        → Steps s x c out (tokenBehind x (hereOf s e) headLength) c next
     unfolding values nameNumber numberOr
-    step-name z out next q =
+    step-name u z out next q =
         let o = wordOf (codesTo (from s x.at) (from s e)) in
         -- only with seven letters does one of the nine words begin
-        let c : nameNumber s x.class.number x.at e ≡ numberOr 1 o =
+        let n : nameNumber s x.class.number x.at e ≡ numberOr 1 o =
         by-test (eqb x.class.number keywordClass) (λ p. rw p) (λ p. rw (p, word-none s x.at e word-leaves (by-class g (λ z. eqb z keywordClass) p))) in
-        step-bare g word-inside (kindOr tk.Ident o) e (word-found s x.at e word-inside start-byte l r z o refl) (kind-bare tk.Ident refl o) out next
-        (q ∙ ap (λ y. storedIf out x.bytes (byForm (plainForm y) x.at e x.cut)) (c ∙ kind-counts tk.Ident o))
+        step-bare g u word-inside (kindOr tk.Ident o) e (word-found s x.at e word-inside start-byte l r z o refl) (kind-bare tk.Ident refl o) out next
+        (q ∙ ap (λ y. storedIf out x.bytes (byForm (plainForm y) x.at e x.cut)) (n ∙ kind-counts tk.Ident o))
 
   -- behind which nothing makes more of it
   module _ (e : Here) (q : e ≡ hereOf s (runTo inWord s (x.at + 1))) where
@@ -100,5 +102,5 @@ module _ {s : List ℕ} {x : Stand} (g : Good s x) (a : upToBlank x.class.number
       pub plain-leaves : LeftTo s x.at e.at
       plain-leaves = word-leaves e.at rest.0 rest.1
 
-      pub step-word : (out next : List ℕ) → next ≡ storedIf out x.bytes (byForm (plainForm (nameNumber s x.class.number x.at e.at)) x.at e.at x.cut) → Steps s x out (plainBehind x e) next
-      step-word out next z = behind-here e _ q (step-name e.at rest.0 rest.1 rest.2 out next z)
+      pub step-word : {c : Counts} → Counted x c → (out next : List ℕ) → next ≡ storedIf out x.bytes (byForm (plainForm (nameNumber s x.class.number x.at e.at)) x.at e.at x.cut) → Steps s x c out (tokenBehind x e headLength) c next
+      step-word u out next z = behind-here e _ q (step-name e.at rest.0 rest.1 u rest.2 out next z)

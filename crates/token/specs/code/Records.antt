@@ -6,9 +6,11 @@ use Rattle.token.specs.paper.Kinds.{Token}
 use Rattle.token.specs.declared.kinds.TokenKind.TheVariants as tk
 use Rattle.token.specs.computed.Flags.{Gap, GapKind, fresh, push, cutOf}
 use Rattle.token.specs.computed.Answer.{Found, scan, Answer, tokenized, refused, prepend}
-use Rattle.token.specs.paper.Records.{recordLength, recordOf, records, recordBytes}
+use Rattle.token.specs.paper.Records.{recordLength, recordOf, records, tokenCount, recordBytes, countsOf}
 use Rattle.token.specs.code.Form.{mostLength}
-use Rattle.token.specs.declared.records.Need.{Need}
+use Rattle.token.specs.declared.counts.Counts.{Counts}
+use Rattle.token.specs.declared.counts.Need.{Need}
+use Rattle.token.specs.declared.kinds.TokenKind.{TokenKind}
 use Rattle.token.specs.declared.refusal.Refused.{Refused}
 use Rattle.token.specs.code.Refusal.{refusedBy}
 
@@ -23,17 +25,14 @@ lineEndAt start end mark = record { kind = tk.Newline mark; start = start; end =
 abbrev pub eofAt : ℕ → Bool → Token
 eofAt last cut = record { kind = tk.Eof; start = last; end = last; cut = cut }
 
--- both counts
-abbrev pub need : ℕ → ℕ → Need
-need c b = record { tokens = c; bytes = b }
+-- what the records of these tokens need
+abbrev pub needFor : List Token → Need
+needFor ts = record { tokens = tokenCount ts; bytes = recordBytes ts; counts = countsOf ts }
 
-abbrev pub total : ℕ → ℕ → Result Need Refused
-total c b = Ok (need c b)
-
--- token count and record bytes after c tokens and b bytes that were counted before, or the refusal
-unfoldable pub measuredOf : ℕ → ℕ → Answer → Result Need Refused
-measuredOf c b (tokenized ts) = total (c + length ts) (b + recordBytes ts)
-measuredOf c b (refused j a) = refusedBy j a
+-- what is needed, or the refusal
+unfoldable pub measuredOf : Answer → Result Need Refused
+measuredOf (tokenized ts) = Ok (needFor ts)
+measuredOf (refused j a) = refusedBy j a
 
 abbrev pub isTokenized : Answer → Bool
 isTokenized (tokenized ts) = true
@@ -43,11 +42,10 @@ abbrev pub tokensIn : Answer → List Token
 tokensIn (tokenized ts) = ts
 tokensIn (refused j a) = []
 
--- the answer has tokens, and this is how many, and how many bytes their records have
+-- the answer has tokens, and this is what their records need
 pub record Needs (w : Answer) (n : Need) : Type 0 where
   pub is-tokenized : IsTrue (isTokenized w)
-  pub tokens : n.tokens ≡ length (tokensIn w)
-  pub bytes : n.bytes ≡ recordBytes (tokensIn w)
+  pub need : n ≡ needFor (tokensIn w)
 
 -- where the records fit into a buffer, they stand at its start
 abbrev pub Held : Answer → Need → List ℕ → Type 0
@@ -102,41 +100,74 @@ unfoldable pub stores : List ℕ → ℕ → List Token → List ℕ
 stores out w [] = out
 stores out w (t ∷ ts) = stores (storedIf out w (recordOf t)) (w + recordLength t.kind) ts
 
+-- ---- what is counted, token by token
+
+-- of no token
+abbrev pub noneCounted : Counts
+noneCounted = record { int_lits = 0; long_lits = 0; strs = 0; newlines = 0 }
+
+-- one more, of this kind
+unfoldable pub counting : Counts → TokenKind → Counts
+counting c (tk.IntLit v) = record { int_lits = c.int_lits + 1; long_lits = c.long_lits; strs = c.strs; newlines = c.newlines }
+counting c (tk.LongLit v) = record { int_lits = c.int_lits; long_lits = c.long_lits + 1; strs = c.strs; newlines = c.newlines }
+counting c (tk.Str a e) = record { int_lits = c.int_lits; long_lits = c.long_lits; strs = c.strs + 1; newlines = c.newlines }
+counting c (tk.Newline mark) = record { int_lits = c.int_lits; long_lits = c.long_lits; strs = c.strs; newlines = c.newlines + 1 }
+counting c _ = c
+
+unfoldable pub countingAll : Counts → List Token → Counts
+countingAll c [] = c
+countingAll c (t ∷ ts) = countingAll (counting c t.kind) ts
+
+-- what is needed with one token more, and with these behind those that were counted before
+abbrev pub withToken : Need → Token → Need
+withToken n t = record { tokens = n.tokens + 1; bytes = n.bytes + recordLength t.kind; counts = counting n.counts t.kind }
+
+unfoldable pub needAfter : Need → List Token → Need
+needAfter n [] = n
+needAfter n (t ∷ ts) = needAfter (withToken n t) ts
+
+unfoldable pub measuredAfter : Need → Answer → Result Need Refused
+measuredAfter n (tokenized ts) = Ok (needAfter n ts)
+measuredAfter n (refused j a) = refusedBy j a
+
 -- ---- where a walk stands
 
--- its place, the gap there, and the tokens and record bytes before it
+-- its place, the gap there, and what the tokens before it need
 pub record State : Type 0 where
   pub at : ℕ
   pub gap : Gap
-  pub count : ℕ
-  pub bytes : ℕ
+  pub need : Need
 
 -- at the script's start
 abbrev pub begun : State
-begun = record { at = 0; gap = fresh; count = 0; bytes = 0 }
+begun = record { at = 0; gap = fresh; need = record { tokens = 0; bytes = 0; counts = noneCounted } }
 
 abbrev pub trailFrom : List ℕ → State → Trail
 trailFrom s x = trail (length s) 0 x.gap (from s x.at)
 
--- what is counted in the end
+-- what is needed in the end
 abbrev pub measuredFrom : List ℕ → State → Result Need Refused
-measuredFrom s x = measuredOf x.count x.bytes (answerOf (trailFrom s x))
+measuredFrom s x = measuredAfter x.need (answerOf (trailFrom s x))
 
--- what the buffer is brought to, on a refusal too
+-- what the buffer and the counts are brought to, on a refusal too
 abbrev pub storedFrom : List ℕ → State → List ℕ → List ℕ
-storedFrom s x out = stores out x.bytes (tokensOn (trailFrom s x))
+storedFrom s x out = stores out x.need.bytes (tokensOn (trailFrom s x))
+
+abbrev pub countedFrom : List ℕ → State → Counts
+countedFrom s x = countingAll x.need.counts (tokensOn (trailFrom s x))
 
 -- within the script, with no more tokens and record bytes than may stand before its place
 pub record Standing (s : List ℕ) (x : State) : Type 0 where
   pub within : x.at ≤ length s
-  pub count : x.count ≤ x.at
-  pub size : x.bytes ≤ mostLength * x.at
+  pub count : x.need.tokens ≤ x.at
+  pub size : x.need.bytes ≤ mostLength * x.at
 
--- A walk over the script s that stands at x, with the buffer out, comes to y, with the buffer next: what is counted in the end stays the same, and
--- so does what the buffer is brought to.
+-- A walk over the script s that stands at x, with the buffer out, comes to y, with the buffer next: what is needed in the end stays the same, and
+-- so does what the buffer and the counts are brought to.
 pub record Reaches (s : List ℕ) (x : State) (out : List ℕ) (y : State) (next : List ℕ) : Type 0 where
   pub on : x.at ≤ y.at
   pub stands : Standing s y
   pub same : length next ≡ length out
-  pub counted : measuredFrom s y ≡ measuredFrom s x
+  pub measured : measuredFrom s y ≡ measuredFrom s x
   pub stored : storedFrom s y next ≡ storedFrom s x out
+  pub counted : countedFrom s y ≡ countedFrom s x

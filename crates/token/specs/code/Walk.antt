@@ -1,7 +1,7 @@
 -- Where a walk over a script stands, and what a step of it is.
 use Rattle.std.specs.Prelude.{ℕ, ◌+◌, ◌-◌, ◌*◌, ◌/◌, ◌≤◌, ◌<◌, ◌≡◌, Bool, false, IsFalse, if◌then◌else◌, not, ◌&&◌, ◌||◌, List, Err, IsErr, IsTrue, length, slice_index, ◌==◌}
 use Rattle.token.specs.computed.Flags.{Gap}
-use Rattle.token.specs.paper.Records.{headLength, lineLength}
+use Rattle.token.specs.paper.Records.{headLength, lineLength, valueNeed, exactNeed}
 use Rattle.chars.specs.paper.Quoted.{oneOf}
 use Rattle.chars.specs.paper.Text.{from}
 use Rattle.chars.specs.promises.Texts.{Suffix}
@@ -10,9 +10,12 @@ use Rattle.token.specs.computed.Answer.{codesTo, orPrefixed, scan, scanNumber}
 use Rattle.token.specs.code.ByteClass.{classAt, lfClass, crClass, digitClass, keywordClass, signKeywordClass, slashClass, upToBlank, startsWord, inWord, asksMore, inOperator, isSign, inRun, inLineEnd}
 use Rattle.token.specs.code.Keyword.{numberOr}
 use Rattle.token.specs.declared.kinds.TokenKind.{TokenKind}
-use Rattle.token.specs.code.Records.{State, Standing, Reaches, measuredFrom, storedFrom}
+use Rattle.token.specs.code.Form.{mostLength}
+use Rattle.token.specs.code.Records.{State, Reaches, measuredFrom, storedFrom, countedFrom}
 use Rattle.token.specs.code.Names.{runTo, lowBefore}
 use Rattle.token.specs.code.Piece.{pieceOf}
+use Rattle.token.specs.declared.counts.Counts.{Counts}
+use Rattle.token.specs.declared.counts.Need.{Need}
 use Rattle.token.specs.declared.names.Here.{Here}
 use Rattle.token.specs.declared.refusal.Refused.{Refused}
 use Rattle.token.specs.declared.walk.Stand.{Stand}
@@ -25,62 +28,79 @@ gapOf newline comment cut = record { newline = newline; comment = comment; pendi
 abbrev pub gapAt : Stand → Gap
 gapAt x = gapOf (x.line == x.bytes) (x.mark == x.bytes) x.cut
 
--- every record has a head, and the rest of the bytes are values
-abbrev pub countAt : Stand → ℕ
-countAt x = (x.bytes - x.values) / headLength
+-- so many record bytes, with these tokens counted: each record has a head, and the rest of the bytes are values
+abbrev pub needAt : ℕ → Counts → Need
+needAt bytes c = record { tokens = (bytes - valueNeed c) / headLength; bytes = bytes; counts = c }
 
-abbrev pub stateAt : Stand → State
-stateAt x = record { at = x.at; gap = gapAt x; count = countAt x; bytes = x.bytes }
+abbrev pub stateAt : Stand → Counts → State
+stateAt x c = record { at = x.at; gap = gapAt x; need = needAt x.bytes c }
 
--- The class is that of the byte there, the bytes are heads and values, and no line end or comment is counted that did not come: a number of
--- record bytes that is too large by one stands for none.
+-- The place is within the script, with no more record bytes than may stand before it, the class is that of the byte there, and no line end or
+-- comment is counted that did not come: a number of record bytes that is too large by one stands for none.
 pub record Good (s : List ℕ) (x : Stand) : Type 0 where
-  pub stands : Standing s (stateAt x)
+  pub within : x.at ≤ length s
+  pub size : x.bytes ≤ mostLength * x.at
   pub class : x.class.number ≡ classAt s x.at
-  pub whole : x.bytes ≡ headLength * countAt x + x.values
   pub line : x.line ≤ x.bytes + 1
   pub mark : x.mark ≤ x.bytes + 1
 
+-- The record bytes are heads, of no more tokens than may stand before the place, and the values of those that were counted.
+pub record Counted (x : Stand) (c : Counts) : Type 0 where
+  pub whole : x.bytes ≡ exactNeed (needAt x.bytes c).tokens c
+  pub tokens : (needAt x.bytes c).tokens ≤ x.at
+
 -- at the script's start: no line end and no comment came, for which one byte too many stands
 abbrev pub beginning : List ℕ → Stand
-beginning s = record { at = 0; class = record { number = classAt s 0 }; bytes = 0; values = 0; line = 1; mark = 1; cut = false }
+beginning s = record { at = 0; class = record { number = classAt s 0 }; bytes = 0; line = 1; mark = 1; cut = false }
 
 -- ---- the next state
 
 -- at another place, in the same gap
 abbrev pub movedTo : Stand → Here → Stand
-movedTo x to = record { at = to.at; class = to.class; bytes = x.bytes; values = x.values; line = x.line; mark = x.mark; cut = x.cut }
+movedTo x to = record { at = to.at; class = to.class; bytes = x.bytes; line = x.line; mark = x.mark; cut = x.cut }
 
--- behind a token without values, and one whose record has so many bytes
-abbrev pub plainBehind : Stand → Here → Stand
-plainBehind x end = record { at = end.at; class = end.class; bytes = x.bytes + headLength; values = x.values; line = x.line; mark = x.mark; cut = false }
-
-abbrev pub valuesBehind : Stand → Here → ℕ → Stand
-valuesBehind x end size =
-    record { at = end.at; class = end.class; bytes = x.bytes + size; values = x.values + (size - headLength); line = x.line; mark = x.mark; cut = false }
+-- behind a token whose record has so many bytes
+abbrev pub tokenBehind : Stand → Here → ℕ → Stand
+tokenBehind x end size = record { at = end.at; class = end.class; bytes = x.bytes + size; line = x.line; mark = x.mark; cut = false }
 
 -- behind a line end, and behind a comment that no cut comes of; the cut that was set stays
 abbrev pub lineBehind : List ℕ → Stand → ℕ → Stand
 lineBehind s x end =
-    record { at = end; class = record { number = classAt s end }; bytes = x.bytes + lineLength; values = x.values + (lineLength - headLength); line = x.bytes + lineLength; mark = x.mark; cut = x.cut }
+    record {
+      at = end;
+      class = record { number = classAt s end };
+      bytes = x.bytes + lineLength;
+      line = x.bytes + lineLength;
+      mark = x.mark;
+      cut = x.cut;
+    }
 
 abbrev pub commentBehind : List ℕ → Stand → ℕ → Stand
-commentBehind s x end = record { at = end; class = record { number = classAt s end }; bytes = x.bytes; values = x.values; line = x.line; mark = x.bytes; cut = x.cut }
+commentBehind s x end = record { at = end; class = record { number = classAt s end }; bytes = x.bytes; line = x.line; mark = x.bytes; cut = x.cut }
 
 -- behind a block comment and the blanks after it, where a line end came before: the cut comes of it, unless a line end follows
 abbrev pub blockBehind : List ℕ → Stand → ℕ → Stand
 blockBehind s x end =
-    record { at = end; class = record { number = classAt s end }; bytes = x.bytes; values = x.values; line = x.line; mark = x.bytes; cut = x.cut || not (inLineEnd (classAt s end)) }
+    record {
+      at = end;
+      class = record { number = classAt s end };
+      bytes = x.bytes;
+      line = x.line;
+      mark = x.bytes;
+      cut = x.cut || not (inLineEnd (classAt s end));
+    }
 
--- a step, or several
-pub record Steps (s : List ℕ) (x : Stand) (out : List ℕ) (y : Stand) (next : List ℕ) : Type 0 where
+-- a step, or several: from the state x with the counts c and the buffer out to y with d and next
+pub record Steps (s : List ℕ) (x : Stand) (c : Counts) (out : List ℕ) (y : Stand) (d : Counts) (next : List ℕ) : Type 0 where
   pub good : Good s y
-  pub reaches : Reaches s (stateAt x) out (stateAt y) next
+  pub counted : Counted y d
+  pub reaches : Reaches s (stateAt x c) out (stateAt y d) next
 
--- the script is refused for what stands there, and no record more is stored
-pub record Refuses (s : List ℕ) (x : Stand) (out : List ℕ) (e : Refused) : Type 0 where
-  pub counted : measuredFrom s (stateAt x) ≡ Err e
-  pub stored : storedFrom s (stateAt x) out ≡ out
+-- the script is refused for what stands there, and no token more is stored or counted
+pub record Refuses (s : List ℕ) (x : Stand) (c : Counts) (out : List ℕ) (e : Refused) : Type 0 where
+  pub measured : measuredFrom s (stateAt x c) ≡ Err e
+  pub stored : storedFrom s (stateAt x c) out ≡ out
+  pub counted : countedFrom s (stateAt x c) ≡ c
 
 -- ---- names and operators
 

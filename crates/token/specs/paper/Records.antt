@@ -1,8 +1,10 @@
 -- RULES, "Records": a token's record as bytes, its length, the records of a list of tokens, the token count and the record bytes, and how
--- many bytes a script needs at most.
+-- many bytes a script needs at most. REQUESTS, "Exact need": how many it needs.
 use Rattle.std.specs.Prelude.{ℕ, ◌+◌, ◌*◌, Bool, true, false, List, [], ◌∷◌, ◌++◌, length}
+use Rattle.std.specs.List.{filter}
 use Rattle.words.specs.Words.{le2, le4, le8}
 use Rattle.token.specs.paper.Kinds.{kindNumber, Token}
+use Rattle.token.specs.declared.counts.Counts.{Counts}
 use Rattle.token.specs.declared.kinds.TokenKind.{TokenKind}
 use Rattle.token.specs.declared.kinds.TokenKind.TheVariants as tk
 
@@ -88,6 +90,38 @@ tokenCount ts = length ts
 unfoldable pub recordBytes : List Token → ℕ
 recordBytes [] = 0
 recordBytes (t ∷ ts) = recordLength t.kind + recordBytes ts
+
+-- REQUESTS, "Exact need": "Counted are the tokens of a reading, line ends and Eof included, and of these the IntLits, the LongLits, the Strs and the
+-- Newlines."
+abbrev pub isIntLit : TokenKind → Bool
+isIntLit (tk.IntLit v) = true
+isIntLit _ = false
+
+abbrev pub isLongLit : TokenKind → Bool
+isLongLit (tk.LongLit v) = true
+isLongLit _ = false
+
+abbrev pub isStr : TokenKind → Bool
+isStr (tk.Str a e) = true
+isStr _ = false
+
+abbrev pub isNewline : TokenKind → Bool
+isNewline (tk.Newline mark) = true
+isNewline _ = false
+
+-- how many tokens of a list have such a kind
+abbrev pub countOf : (TokenKind → Bool) → List Token → ℕ
+countOf p ts = length (filter (λ t. p t.kind) ts)
+
+unfoldable pub countsOf : List Token → Counts
+countsOf ts = record { int_lits = countOf isIntLit ts; long_lits = countOf isLongLit ts; strs = countOf isStr ts; newlines = countOf isNewline ts }
+
+-- "The need is 13 times the token count, plus 4 for each IntLit, 8 for each LongLit and Str, 1 for each Newline."
+abbrev pub valueNeed : Counts → ℕ
+valueNeed c = 4 * c.int_lits + 8 * (c.long_lits + c.strs) + c.newlines
+
+abbrev pub exactNeed : ℕ → Counts → ℕ
+exactNeed tokens c = headLength * tokens + valueNeed c
 
 -- RULES, "Limits": 17 is met by a longer script. The tokenizer is given none.
 abbrev pub mostBytes : ℕ

@@ -9,7 +9,7 @@ consume_backtick-requires-clause-opens c = backtick-opens c.requires.good c.requ
 pub returns-in_err-c-clause-refused : goal.returns-in_err-c-clause-refused
 returns-in_err-c-clause-refused c =
     let p = err_from_is_err_and c.from_residual.result c.from_residual.ensures.1 in
-    rw (p.1, p.2) (refuses-backtick c.requires.good c.requires.backtick _ c.in_err-c.ensures _)
+    rw (p.1, p.2) (refuses-backtick c.requires.good c.requires.backtick _ c.in_err-c.ensures _ _)
 
 pub prefixed_step-requires : goal.prefixed_step-requires
 prefixed_step-requires c =
@@ -19,6 +19,7 @@ prefixed_step-requires c =
     record {
       short = p.short;
       good = p.good;
+      counted = p.counted;
       within = b.within;
       no_gap = b.no_gap;
       no_comment = b.no_comment;
@@ -30,8 +31,9 @@ returns c =
     let p = c.requires in
     let q = sym (ap (λ (z : Here). eqb z.class.number quoteClass) c.here_at-end.ensures) ∙ sym c.if-eq.ensures in
     rw (c.behind.ensures, c.here_at-end.ensures) (record {
-      on = step-backtick p.good p.backtick _ c.in_ok-c.ensures q _ _ (rw (c.plain.ensures.value, c.here_at-end.ensures) at c.put_if.ensures);
+      on = step-backtick p.good p.backtick _ c.in_ok-c.ensures p.counted q _ _ (rw (c.plain.ensures.value, c.here_at-end.ensures) at c.put_if.ensures);
       further = backtick-on p.good p.backtick _ c.in_ok-c.ensures;
       refused = search rules;
       kept = search rules;
+      uncounted = search rules;
     })

@@ -12,7 +12,7 @@ returns-then-x c =
     let x = c.args.x in
     let b = block-found c.args.s.now x.at _ c.requires.opened c.in-Some.ensures in
     let n = ne_eqb x.line x.bytes c.if-x.true in
-    rw c.behind_comment.ensures (record { on = step-block c.requires.good _ b n; further = let o = b.on in omega arith; refused = search rules })
+    rw c.behind_comment.ensures (record { on = λ d out u. step-block c.requires.good u _ b n out; further = let o = b.on in omega arith; refused = search rules })
 
 pub skip_blanks-c-requires : goal.skip_blanks-c-requires
 skip_blanks-c-requires c = (block-found c.args.s.now c.args.x.at _ c.requires.opened c.in-Some.ensures).within
@@ -23,7 +23,7 @@ returns c =
     let b = block-found c.args.s.now x.at _ c.requires.opened c.in-Some.ensures in
     let k = c.skip_blanks-c.ensures in
     rw c.behind_block.ensures (record {
-      on = step-block-cut c.requires.good _ _ b (eq-eqb x.line x.bytes c.if-x.false) k.onward k.within k.rest;
+      on = λ d out u. step-block-cut c.requires.good u _ _ b (eq-eqb x.line x.bytes c.if-x.false) k.onward k.within k.rest out;
       further = let o = b.on in omega (arith, k.onward);
       refused = search rules;
     })

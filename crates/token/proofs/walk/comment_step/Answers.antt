@@ -7,7 +7,7 @@ use Rattle.token.proofs.walk.comment_step.Goals as goal
 pub consume_line_comment-end-requires : goal.consume_line_comment-end-requires
 consume_line_comment-end-requires c =
     record {
-      within = c.requires.good.stands.within;
+      within = c.requires.good.within;
       opens = opens-line-here c.args.s.now c.args.x.at c.requires.opened (sym c.byte_at.ensures ∙ c.if-byte_at-eq47.true);
     }
 
@@ -17,7 +17,7 @@ returns-then-byte_at-eq47 c =
     let o = opens-line-here s c.args.x.at c.requires.opened (sym c.byte_at.ensures ∙ c.if-byte_at-eq47.true) in
     let m = c.consume_line_comment-end.ensures in
     let f = line-comment-found s c.args.x.at _ o m.within m.rest in
-    rw c.behind_comment.ensures (record { on = step-line-comment c.requires.good _ f; further = let u = f.on in omega arith; refused = search rules })
+    rw c.behind_comment.ensures (record { on = λ d out u. step-line-comment c.requires.good u _ f out; further = let u = f.on in omega arith; refused = search rules })
 
 pub block_step-requires-clause-opened : goal.block_step-requires-clause-opened
 block_step-requires-clause-opened c =

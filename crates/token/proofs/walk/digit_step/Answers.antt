@@ -8,4 +8,4 @@ digit_value-requires-clause-digit c = digit-here c.requires.good c.requires.digi
 pub returns-clause-on : goal.returns-clause-on
 returns-clause-on c =
     let p = c.requires in
-    rw c.behind_values.ensures (step-digit p.good p.digit _ p.end_is p.alone _ c.digit_value.ensures _ _ (rw c.int-form.ensures.value at c.put_if.ensures))
+    rw (c.behind.ensures, c.add.ensures) (step-digit p.good p.digit p.counted _ p.end_is p.alone _ c.digit_value.ensures _ _ (rw c.form.ensures.value at c.put_if.ensures))

@@ -5,4 +5,4 @@ use Rattle.token.proofs.walk.line_step.Goals as goal
 pub returns-clause-on : goal.returns-clause-on
 returns-clause-on c =
     let g = c.requires.good in
-    rw c.behind_line.ensures (step-line-end g _ (lf-here g c.requires.lf) _ _ (rw c.line-form.ensures.value at c.put_if.ensures))
+    rw (c.behind_line.ensures, c.add.ensures) (step-line-end g c.requires.counted _ (lf-here g c.requires.lf) _ _ (rw c.form.ensures.value at c.put_if.ensures))

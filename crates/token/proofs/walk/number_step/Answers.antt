@@ -13,11 +13,12 @@ returns-in-IntLit c =
     let v = c.in-IntLit.v in
     let b = number-begun p.good p.digit in
     let f = ap (λ k. tokenTo k c.in-Ok.end) (sym c.in-IntLit.is) ∙ c.in-Ok.ensures ∙ b.is in
-    rw (c.behind_values.ensures, c.here_at.ensures) (record {
+    rw (c.behind.ensures, c.here_at.ensures) (record {
       on =
-          step-valued p.good b.within (tk.IntLit v) c.in-Ok.end.at f intLength (int-size v) (int-size v) _ _ (rw c.int-form.ensures.value at c.put_if.ensures);
+          rw c.add.ensures (step-valued p.good p.counted b.within (tk.IntLit v) c.in-Ok.end.at f intLength (int-size v) _ _ (rw c.int-form.ensures.value at c.put_if.ensures));
       further = piece-on p.good b.within _ _ f;
       kept = search rules;
+      uncounted = search rules;
       none = search rules;
     })
 
@@ -27,11 +28,12 @@ returns-in-LongLit c =
     let v = c.in-LongLit.v in
     let b = number-begun p.good p.digit in
     let f = ap (λ k. tokenTo k c.in-Ok.end) (sym c.in-LongLit.is) ∙ c.in-Ok.ensures ∙ b.is in
-    rw (c.behind_values-in-LongLit.ensures, c.here_at-in-LongLit.ensures) (record {
+    rw (c.behind-in-LongLit.ensures, c.here_at-in-LongLit.ensures) (record {
       on =
-          step-valued p.good b.within (tk.LongLit v) c.in-Ok.end.at f longLength (long-size v) (long-size v) _ _ (rw c.long-form.ensures.value at c.put_if-in-LongLit.ensures);
+          rw c.add-in-LongLit.ensures (step-valued p.good p.counted b.within (tk.LongLit v) c.in-Ok.end.at f longLength (long-size v) _ _ (rw c.long-form.ensures.value at c.put_if-in-LongLit.ensures));
       further = piece-on p.good b.within _ _ f;
       kept = search rules;
+      uncounted = search rules;
       none = search rules;
     })
 

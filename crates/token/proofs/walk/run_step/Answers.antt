@@ -12,4 +12,4 @@ pub put_piece-requires : goal.put_piece-requires
 put_piece-requires c =
     let p = c.requires in
     let b = run-begun c.args.s.now c.args.x.at p.sign p.no_comment in
-    record { short = p.short; good = p.good; within = b.within; no_gap = b.no_gap; no_comment = b.no_comment; piece_is = c.lex_op_run-piece.ensures ∙ b.is }
+    record { short = p.short; good = p.good; counted = p.counted; within = b.within; no_gap = b.no_gap; no_comment = b.no_comment; piece_is = c.lex_op_run-piece.ensures ∙ b.is }

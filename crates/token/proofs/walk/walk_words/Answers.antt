@@ -19,7 +19,7 @@ put_word_if-requires-clause-left c =
     λ y. plain-leaves c.loop-x.invariant.good (sym c.if-is_sign.ensures) (sym c.if-starts_word.ensures) _ c.word_end-end.ensures (sym c.if-goes_on.ensures)
 
 pub put_word_if-requires-clause-room : goal.put_word_if-requires-clause-room
-put_word_if-requires-clause-room c = let g = c.loop-x.invariant.good in omega (arith, g.stands.size, g.stands.within)
+put_word_if-requires-clause-room c = let g = c.loop-x.invariant.good in omega (arith, g.size, g.within)
 
 pub loop-x-smaller-then-starts_word : goal.loop-x-smaller-then-starts_word
 loop-x-smaller-then-starts_word c =
@@ -30,7 +30,7 @@ pub loop-x-preserved-then-starts_word : goal.loop-x-preserved-then-starts_word
 loop-x-preserved-then-starts_word c =
     let i = c.loop-x.invariant in
     rw c.behind-x.ensures
-    (steps-trans i (step-word i.good (sym c.if-is_sign.ensures) (sym c.if-starts_word.ensures) _ c.word_end-end.ensures (sym c.if-goes_on.ensures) _ _ c.put_word_if.ensures))
+    (steps-trans i (step-word i.good (sym c.if-is_sign.ensures) (sym c.if-starts_word.ensures) _ c.word_end-end.ensures (sym c.if-goes_on.ensures) i.counted _ _ c.put_word_if.ensures))
 
 pub run_end-end-requires : goal.run_end-end-requires
 run_end-end-requires c = omega (arith, run-within c.loop-x.invariant.good (sym c.if-in_run.ensures))
@@ -45,7 +45,7 @@ put_run_if-requires-clause-left c =
     λ y. run-left-to c.loop-x.invariant.good (sym c.if-in_run.ensures) _ c.run_end-end.ensures (sym c.if-run_goes_on.ensures)
 
 pub put_run_if-requires-clause-room : goal.put_run_if-requires-clause-room
-put_run_if-requires-clause-room c = let g = c.loop-x.invariant.good in omega (arith, g.stands.size, g.stands.within)
+put_run_if-requires-clause-room c = let g = c.loop-x.invariant.good in omega (arith, g.size, g.within)
 
 pub loop-x-smaller-then-in_run : goal.loop-x-smaller-then-in_run
 loop-x-smaller-then-in_run c =
@@ -59,7 +59,7 @@ pub loop-x-preserved-then-in_run : goal.loop-x-preserved-then-in_run
 loop-x-preserved-then-in_run c =
     let i = c.loop-x.invariant in
     rw c.behind-x-then-in_run.ensures
-    (steps-trans i (step-run i.good (sym c.if-in_run.ensures) _ c.run_end-end.ensures (sym c.if-run_goes_on.ensures) _ _ c.put_run_if.ensures))
+    (steps-trans i (step-run i.good (sym c.if-in_run.ensures) _ c.run_end-end.ensures (sym c.if-run_goes_on.ensures) i.counted _ _ c.put_run_if.ensures))
 
 pub returns-then-goes_on-clause-left : goal.returns-then-goes_on-clause-left
 returns-then-goes_on-clause-left c = left-word c.loop-x.invariant.good (sym c.if-is_sign.ensures) (sym c.if-starts_word.ensures) _ c.word_end-end.ensures (sym c.if-goes_on.ensures)

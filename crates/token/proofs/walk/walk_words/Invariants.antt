@@ -3,7 +3,7 @@ use Rattle.token.proofs.lexer.Words.{◌-◌, length, Steps}
 use Rattle.token.proofs.walk.walk_words.Given as goal
 
 abbrev pub invariant-loop-x : goal.invariant-loop-x
-invariant-loop-x l = Steps l.s l.initial.x l.fn.out l.x l.out
+invariant-loop-x l = Steps l.s l.initial.x l.fn.counts l.fn.out l.x l.counts l.out
 
 abbrev pub decreases-loop-x : goal.decreases-loop-x
 decreases-loop-x l = length l.s - l.x.at

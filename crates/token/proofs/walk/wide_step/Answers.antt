@@ -13,4 +13,4 @@ run_step-requires-clause-no_comment c = wide-clear c.requires.good c.requires.wi
 pub returns-in_default-clause-refused : goal.returns-in_default-clause-refused
 returns-in_default-clause-refused c =
     let l : get_or c.args.s.now c.args.x.at 0 < 0x100 = omega (arith, c.type_inv.s c.args.x.at) in
-    rw c.at.ensures (refuses-wide c.requires.good c.requires.wide (sym c.if-is_arrow_at.ensures) l c.in_default.ensures.none _)
+    rw c.at.ensures (refuses-wide c.requires.good c.requires.wide (sym c.if-is_arrow_at.ensures) l c.in_default.ensures.none _ _)
