@@ -1,10 +1,12 @@
-// The three that are timed and counted: ergo_tokenize, the published tokenize and the peer by re2c; and that they give the same answer.
+// The three that are timed and counted: ergo_tokenize, the published tokenize and the peer by re2c; and that they give the same answer, as measuring
+// does.
 use crate::records::bound;
 use std::hint::black_box;
 
 #[link(name = "ergo", kind = "static")]
 extern "C" {
     fn ergo_tokenize(script: *const u8, n: usize, records: *mut u8, m: usize, answer: *mut u8, k: usize) -> u32;
+    fn ergo_measure(script: *const u8, n: usize, answer: *mut u8, k: usize) -> u32;
 }
 
 #[cfg(peer)]
@@ -42,12 +44,24 @@ const PEER: Entry = ergo_tokenize;
 // The answer block: number, place, token count, record bytes.
 pub type Block = [u32; 4];
 
+// The numbers of these that a block begins with.
+fn begins(answer: &[u8]) -> Block {
+    let word = |at: usize| u32::from_le_bytes(answer[at..at + 4].try_into().unwrap());
+    [word(0), word(4), word(8), word(12)]
+}
+
 fn entry(f: Entry, script: &str, records: &mut [u8]) -> Block {
     let mut answer = [0u8; 16];
     let (r, a) = (records.as_mut_ptr(), answer.as_mut_ptr());
     unsafe { f(script.as_ptr(), script.len(), r, records.len(), a, answer.len()) };
-    let word = |at: usize| u32::from_le_bytes(answer[at..at + 4].try_into().unwrap());
-    [word(0), word(4), word(8), word(12)]
+    begins(&answer)
+}
+
+// One call of ergo_measure. The counts of kinds, behind these four numbers, are left out.
+pub fn measure(script: &str) -> Block {
+    let mut answer = [0u8; 32];
+    unsafe { ergo_measure(script.as_ptr(), script.len(), answer.as_mut_ptr(), answer.len()) };
+    begins(&answer)
 }
 
 // How many tokens, or nothing where tokenize refused.
@@ -75,10 +89,11 @@ pub fn call(who: Who, script: &str, records: &mut [u8]) {
     }
 }
 
-// Calls each of them once: all must give the same answer, and the peer the same records. It gives the number, 0 or the refusal.
+// Calls each of them once, and ergo_measure: all must give the same answer, and the peer the same records. It gives the number, 0 or the refusal.
 pub fn agree(name: &str, script: &str, all: &[Who], records: &mut [u8], others: &mut [u8]) -> u32 {
     let block = ours(script, &mut records[..bound(script.len())]);
     let bytes = block[3] as usize;
+    assert_eq!(measure(script), block, "{name}: measuring answers otherwise");
     if all.contains(&Who::Tokenize) {
         let count = (block[0] == 0).then_some(block[2] as usize);
         assert_eq!(tokenize(script), count, "{name}: tokenize answers otherwise");

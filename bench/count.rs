@@ -1,5 +1,5 @@
-// Calls ergo_tokenize, the published tokenize and the peer on every row of bench/texts.rs, with marks between which callgrind counts.
-// bench/count builds it, runs it, and puts the counts behind the lines that are printed here.
+// Calls ergo_tokenize, the published tokenize and the peer on every row of bench/texts.rs, and the other functions on contracts, with marks between
+// which callgrind counts. bench/count builds it, runs it, and puts the counts behind the lines that are printed here.
 mod calls;
 mod records;
 mod texts;
@@ -72,29 +72,43 @@ fn count_rows(words: &[String]) {
     }
 }
 
-// The other functions, on one contract.
-fn count_functions() {
-    let script = CONTRACT.as_bytes();
-    let (s, n) = (script.as_ptr(), script.len());
+fn count_function(group: &str, name: &str, bytes: usize, mut call: impl FnMut()) {
+    call(); // to warm up
+    count(&format!("function\t{group}\t{name}\taccepted\tours"), bytes, 10, call);
+}
+
+// ergo_tokenize where it writes and where it is lent no records, and ergo_measure.
+fn count_measuring(group: &str, script: &str) {
+    let n = script.len();
     let mut records = vec![0u8; records::bound(n)];
+    let told = calls::measure(script);
+    assert_eq!(told[0], 0, "not accepted");
+    assert_eq!(calls::ours(script, &mut records), told, "measuring answers otherwise");
+    count_function(group, "write", n, || calls::call(Who::Ours, script, &mut records));
+    count_function(group, "lent nothing", n, || calls::call(Who::Ours, script, &mut []));
+    count_function(group, "measure", n, || {
+        black_box(calls::measure(black_box(script)));
+    });
+}
+
+// The functions of lines and columns, and the check that they begin with, on one contract.
+fn count_lines() {
+    let (s, n) = (CONTRACT.as_ptr(), CONTRACT.len());
     let mut index = vec![0u32; n + 1];
     let mut answer = [0u8; 16];
     let (i, a) = (index.as_mut_ptr(), answer.as_mut_ptr());
-    let show = |name: &str, call: &mut dyn FnMut()| {
-        call();
-        count(&format!("function\t\t{name}\taccepted\tours"), n, 10, call);
-    };
-    show("write", &mut || calls::call(Who::Ours, CONTRACT, &mut records));
-    show("measure", &mut || calls::call(Who::Ours, CONTRACT, &mut []));
-    show("index", &mut || assert_eq!(unsafe { ergo_index_lines(black_box(s), n, i, n + 1, a, 16) }, 0));
-    show("query", &mut || assert_eq!(unsafe { ergo_line_column(black_box(s), n, i, n + 1, n as u32, a, 16) }, 0));
-    show("check", &mut || assert_eq!(unsafe { chars_valid_prefix(black_box(s), n) }, n));
+    count_function("", "index", n, || assert_eq!(unsafe { ergo_index_lines(black_box(s), n, i, n + 1, a, 16) }, 0));
+    count_function("", "query", n, || assert_eq!(unsafe { ergo_line_column(black_box(s), n, i, n + 1, n as u32, a, 16) }, 0));
+    count_function("", "check", n, || assert_eq!(unsafe { chars_valid_prefix(black_box(s), n) }, n));
 }
 
 fn main() {
     let words: Vec<String> = std::env::args().skip(1).collect();
     if words.is_empty() || words.iter().any(|word| word == "functions") {
-        count_functions();
+        count_measuring("", CONTRACT);
+        count_lines();
+        // So long that a call which writes walks twice.
+        count_measuring("20 contracts", &CONTRACT.repeat(20));
     }
     count_rows(&words);
 }

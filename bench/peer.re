@@ -541,9 +541,17 @@ uint32_t peer_tokenize(const uint8_t *script, size_t n, uint8_t *records, size_t
     return (n <= SMALL ? by_stack : by_heap)(script, n, records, m, answer);
 }
 
-// bench/peer-check compares the peer in the place of the library, which has two more functions.
+// bench/peer-check compares the peer in the place of the library, which has three more functions.
 #ifdef IN_PLACE_OF_ERGO
-enum { CONTACT_BYTES = 4096, CONTACT_TOKENS = 512 };
+enum { CONTACT_BYTES = 4096, CONTACT_TOKENS = 512, NEED_BLOCK = 32 };
+
+// The block of measuring.
+typedef struct {
+    Answer answer;
+    uint32_t int_lits, long_lits, strs, newlines;
+} Need;
+
+_Static_assert(sizeof(Answer) == BLOCK && sizeof(Need) == NEED_BLOCK, "the blocks are copied from these");
 
 static int inside(const uint8_t *script, size_t n, uint32_t at)
 {
@@ -566,6 +574,40 @@ uint32_t ergo_tokenize_contact(const uint8_t *script, size_t n, uint8_t *records
         if (need.count > CONTACT_TOKENS) return tell((Answer){28, 0, 0, 0}, NULL, NULL, 0, answer);
     }
     return peer_tokenize(script, n, records, m, answer, k);
+}
+
+// What lex does not count: how many of the records are of each kind that has values.
+static Need need_of(Answer answer, const byte *records)
+{
+    Need need = {answer, 0, 0, 0, 0};
+    const byte *at = records;
+    uint32_t head; // length and kind, as put_head has them
+    for (; at < records + answer.bytes; at += head & 0xFFFF) {
+        memcpy(&head, at, 4);
+        switch (head >> 16) {
+        case INT_LIT: need.int_lits++; break;
+        case LONG_LIT: need.long_lits++; break;
+        case STR: need.strs++; break;
+        case NEWLINE: need.newlines++; break;
+        }
+    }
+    return need;
+}
+
+// Makes the records and walks over them, since measuring is not timed either.
+uint32_t ergo_measure(const uint8_t *script, size_t n, uint8_t *answer, size_t k)
+{
+    Need need = {{17, 0, 0, 0}, 0, 0, 0, 0};
+    if (k != NEED_BLOCK) return 20;
+    if (n <= SCRIPT_LIMIT) {
+        byte *copy = malloc(n + 1), *scratch = malloc(PER_BYTE * n + HEAD);
+        if (!copy || !scratch) abort();
+        need = need_of(read_script(script, n, copy, scratch), scratch);
+        free(scratch);
+        free(copy);
+    }
+    memcpy(answer, &need, NEED_BLOCK);
+    return need.answer.number;
 }
 
 uint32_t ergo_token_text(const uint8_t *script, size_t n, uint32_t start, uint32_t end)

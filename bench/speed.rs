@@ -13,8 +13,8 @@ use texts::{chosen, upto, CONTRACT, MIB};
 
 // Measures, allocates what is needed, and writes.
 fn twice(script: &str) -> Vec<u8> {
-    let mut records = match calls::ours(script, &mut []) {
-        [19, _, _, bytes] => vec![0; bytes as usize],
+    let mut records = match calls::measure(script) {
+        [0, _, _, bytes] => vec![0; bytes as usize],
         _ => return Vec::new(),
     };
     calls::ours(script, &mut records);

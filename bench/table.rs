@@ -1,6 +1,6 @@
 // Prints the counts of bench/count as a table. Where two files are named it draws them into the first, and writes the tables of docs/COSTS.md
 // into the second. On standard input it gets lines of eight fields between tabs: row or function, group, name, accepted or refused, who, bytes,
-// calls, instructions of all calls.
+// calls, instructions of all calls. The group of a function is its text, or nothing where that is one contract.
 mod plot;
 
 use std::io::Read;
@@ -79,6 +79,18 @@ fn show(line: &Line) {
     println!("{:<30} {:>9} {a:>8} {b:>8} {c:>8} {one:>9} {two:>9} {d:>9} {e:>8} {f:>8}", line.name, line.bytes);
 }
 
+// Measuring also by what a call takes that writes the same text.
+fn show_function(line: &Line, functions: &[Line]) {
+    let each = line.accepted[0].unwrap();
+    let text = if line.group.is_empty() { String::new() } else { format!(", {}", line.group) };
+    let write = functions.iter().find(|other| other.group == line.group && other.name == "write");
+    let by_write = match write {
+        Some(write) if line.name == "measure" => format!(", {:.2} of write", each / write.accepted[0].unwrap()),
+        _ => String::new(),
+    };
+    println!("{}{text}: {each:.0} instructions for {} bytes, {:.2} a byte{by_write}", line.name, line.bytes, each / line.bytes);
+}
+
 // The tables of docs/COSTS.md.
 fn pages(lines: &[Line]) -> String {
     let head = "| | ours | `tokenize` | re2c | ours | `tokenize` | re2c |\n|---|---|---|---|---|---|---|\n";
@@ -105,8 +117,7 @@ fn main() {
         add(if field[0] == "row" { &mut lines } else { &mut functions }, &field);
     }
     for line in &functions {
-        let each = line.accepted[0].unwrap();
-        println!("{}: {each:.0} instructions for {} bytes, {:.2} a byte", line.name, line.bytes, each / line.bytes);
+        show_function(line, &functions);
     }
     println!();
     println!("Instructions a byte of script; accepted, and with a byte at the end that is refused. by ours: so many times ours; above 1, ours takes");

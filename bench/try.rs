@@ -1,7 +1,9 @@
-// Calls ergo_tokenize once on each file that is named, and prints each one's length and name. Built and run by bench/try, under callgrind.
+// Calls ergo_tokenize and then ergo_measure once on each file that is named, and prints each one's length and name. Built and run by bench/try, under
+// callgrind.
 #[link(name = "ergo", kind = "static")]
 extern "C" {
     fn ergo_tokenize(script: *const u8, n: usize, records: *mut u8, m: usize, answer: *mut u8, k: usize) -> u32;
+    fn ergo_measure(script: *const u8, n: usize, answer: *mut u8, k: usize) -> u32;
 }
 
 fn main() {
@@ -10,6 +12,9 @@ fn main() {
         let mut records = vec![0u8; 17 * script.len() + 13];
         let mut answer = [0u8; 16];
         let number = unsafe { ergo_tokenize(script.as_ptr(), script.len(), records.as_mut_ptr(), records.len(), answer.as_mut_ptr(), 16) };
+        let mut need = [0u8; 32];
+        let told = unsafe { ergo_measure(script.as_ptr(), script.len(), need.as_mut_ptr(), 32) };
+        assert_eq!((told, &need[4..16]), (number, &answer[4..16]), "{name}: measuring answers otherwise");
         let file = name.rsplit('/').next().unwrap_or("");
         if number == 0 {
             println!("{} {}", script.len(), file);

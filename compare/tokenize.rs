@@ -1,17 +1,19 @@
-// Compares ergo_tokenize, ergo_tokenize_contact and ergo_token_text, the exports of crates/ergo, with the published tokenize of token.rs, and writes the
-// list of answers that crates/replay replays and the listings that crates/listing_cases prints. Built and run by compare/tokenize.
+// Compares ergo_tokenize, ergo_tokenize_contact, ergo_measure and ergo_token_text, the exports of crates/ergo, with the published tokenize of token.rs,
+// and writes the list of answers that crates/replay replays and the listings that crates/listing_cases prints. Built and run by compare/tokenize.
 //
 //     tokenize [--count N] [--seed S]   compare, and print how many scripts were compared and how many differed; exit status 1 if any differed
 //     tokenize --list                   print what crates/replay/stdin is to hold; only the published tokenize is asked
 //     tokenize --cases                  print what crates/listing_cases/stdin is to hold
 //     tokenize --listing                print its listings, for crates/listing_cases/stdout; only the published tokenize is asked
 //
-// Refusals 1 to 16 and every record byte are judged by tokenize; 17 to 21, 27 and 28, the answer block and the bytes past the records by what
-// RULES and REQUESTS say of them.
+// Refusals 1 to 16, every record byte and the counts of measuring are judged by tokenize; 17 to 21, 27 and 28, the answer blocks and the bytes past
+// the records by what RULES and REQUESTS say of them.
 mod limits;
 mod listing;
+mod measure;
 mod scripts;
 
+use measure::Counts;
 use published::error::ParseError;
 use published::token::{tokenize, Kw, Token, TokenKind};
 use scripts::{contract, Alphabet, Random, ALPHABETS, ROLES};
@@ -52,7 +54,7 @@ const fn bound(n: usize) -> usize {
     INT_LIT * n + HEAD
 }
 
-// What RULES asks for a script, measured without a buffer: the number, the place, the token count, the record bytes and the records.
+// What RULES asks for a script: the number, the place, the token count, the record bytes and the records.
 #[derive(Default)]
 struct Wanted {
     length: usize, // of the script
@@ -61,6 +63,7 @@ struct Wanted {
     tokens: u32,
     bytes: u32,
     records: Vec<u8>,
+    counts: Counts,
 }
 
 // The sixteen messages of tokenize, in the order of RULES, "Refusals of a piece".
@@ -201,7 +204,7 @@ fn answered(script: &[u8]) -> Wanted {
         Ok(tokens) => {
             let records = records(text, &tokens);
             assert!(records.len() <= bound(script.len()), "more record bytes than the bound");
-            Wanted { tokens: tokens.len() as u32, bytes: records.len() as u32, records, ..Wanted::default() }
+            Wanted { tokens: tokens.len() as u32, bytes: records.len() as u32, records, counts: Counts::of(&tokens), ..Wanted::default() }
         }
         Err(ParseError::Lexical { pos, msg }) => refused(refusal(&msg), pos as usize),
         Err(other) => panic!("tokenize refused otherwise than by a lexical error: {other:?}"),
@@ -245,18 +248,19 @@ fn shown(script: &[u8]) -> String {
 #[cfg(linked)]
 mod compare {
     use super::*;
+    use measure::Told;
     use std::sync::atomic::{AtomicU64, Ordering};
 
     // Bytes that every lent buffer and block holds before a call, and a few behind its end. Two calls with masks 0 and 255 agree at no byte,
     // so that an unwritten one shows.
-    fn fill(bytes: &mut Vec<u8>, length: usize, mask: u8) {
+    pub fn fill(bytes: &mut Vec<u8>, length: usize, mask: u8) {
         bytes.clear();
         bytes.extend((0..length + BEHIND).map(|i| (i as u8).wrapping_mul(29) ^ mask ^ 0x5A));
     }
 
-    // A block as four numbers, one of another length as bytes.
-    fn words(block: &[u8]) -> String {
-        if block.len() != 16 {
+    // A block as four or eight numbers, one of another length as bytes.
+    pub fn words(block: &[u8]) -> String {
+        if block.len() != 16 && block.len() != measure::BLOCK {
             return format!("{block:?}");
         }
         let words: Vec<u32> = block.chunks(4).map(|word| u32::from_le_bytes(word.try_into().unwrap())).collect();
@@ -271,8 +275,10 @@ mod compare {
         scripts: u64,
         accepted: u64, // of the scripts that were tokenized
         calls: u64,
+        measured: u64, // of the calls, those of ergo_measure
         differed: u64, // scripts
         faults: u64,   // calls
+        measure_faults: u64,
         greatest: usize, // need of a contact
         numbers: [u64; 29],
         shown: Vec<String>,
@@ -332,7 +338,19 @@ mod compare {
             self.note(format!("{}{name}, {lent} lent: number {got}, wanted {number}; block {block}, wanted {block_wanted}; {bytes}", shown(script)));
         }
 
-        // A script, by both functions, with a buffer that is ample, and once more with a buffer or a block that its number chooses.
+        // One call of ergo_measure, with a block of this length.
+        fn measure(&mut self, script: &[u8], want: &Told, block: usize, mask: u8) {
+            self.calls += 1;
+            self.measured += 1;
+            self.numbers[measure::number(want, block) as usize] += 1;
+            if let Some(what) = measure::fault(script, want, block, mask) {
+                self.measure_faults += 1;
+                self.note(what);
+            }
+        }
+
+        // A script, by both functions, with a buffer that is ample, and once more with a buffer or a block that its number chooses. It is measured in a
+        // block whose old bytes its number chooses, and every eighth once more in a block of some other length.
         pub fn script(&mut self, script: &[u8], number: u64) {
             let want = wanted(script);
             let need = want.bytes as usize;
@@ -345,10 +363,15 @@ mod compare {
                 4 => (need, (number / 8 % 41) as usize),
                 _ => (need, 16),
             };
+            let (told, mask) = (want.told(), number as u8);
             self.counted(|bench| {
                 for entry in ENTRIES {
                     bench.call(entry, script, &want, ample, 16, 0);
                     bench.call(entry, script, &want, lent, block, 255);
+                }
+                bench.measure(script, &told, measure::BLOCK, mask);
+                if number % 8 == 4 {
+                    bench.measure(script, &told, block, !mask);
                 }
             });
         }
@@ -368,6 +391,10 @@ mod compare {
                             bench.call(entry, script, &want, lent, block, 0);
                         }
                     }
+                }
+                for block in 0..=40 {
+                    bench.measure(script, &want.told(), block, 0);
+                    bench.measure(script, &want.told(), block, 255);
                 }
             });
         }
@@ -423,7 +450,23 @@ mod compare {
             if unsafe { ergo_token_text(null, 0, 0, 0) } != 0 || unsafe { ergo_token_text(null, 0, 0, 1) } != 21 {
                 self.note("empty text at null".into());
             }
-            self.calls += 6;
+            if let Some(what) = measure::null_fault() {
+                self.measure_faults += 1;
+                self.note(what);
+            }
+            self.calls += 8;
+            self.measured += 2;
+        }
+
+        // A script with what is to be told of it, in blocks of several lengths, each with several old bytes.
+        pub fn told(&mut self, script: &[u8], want: &Told) {
+            self.counted(|bench| {
+                for block in measure::LENGTHS {
+                    for mask in [0, 85, 170, 255] {
+                        bench.measure(script, want, block, mask);
+                    }
+                }
+            });
         }
 
         // A script at a contact's limits, with what it needs and with what is enough for every contact.
@@ -438,7 +481,7 @@ mod compare {
             self.at(script, &want, &lengths, &[0, 255]);
         }
 
-        // Calls of both functions with buffers and blocks of given lengths.
+        // Calls of both functions with buffers and blocks of given lengths, and of ergo_measure.
         pub fn at(&mut self, script: &[u8], want: &Wanted, lengths: &[(usize, usize)], masks: &[u8]) {
             self.counted(|bench| {
                 for entry in ENTRIES {
@@ -448,6 +491,9 @@ mod compare {
                         }
                     }
                 }
+                for &mask in masks {
+                    bench.measure(script, &want.told(), measure::BLOCK, mask);
+                }
             });
         }
 
@@ -455,8 +501,10 @@ mod compare {
             self.scripts += other.scripts;
             self.accepted += other.accepted;
             self.calls += other.calls;
+            self.measured += other.measured;
             self.differed += other.differed;
             self.faults += other.faults;
+            self.measure_faults += other.measure_faults;
             self.greatest = self.greatest.max(other.greatest);
             self.shown.extend(other.shown);
             for (mine, theirs) in self.numbers.iter_mut().zip(other.numbers) {
@@ -478,6 +526,7 @@ mod compare {
         pub fn say_numbers(&self) {
             let met: Vec<String> = (0..22).chain(27..29).map(|n| format!("{n}: {}", self.numbers[n])).collect();
             println!("numbers wanted, with how many calls each: {}", met.join(", "));
+            println!("ergo_measure: {} of the calls, {} differed", self.measured, self.measure_faults);
             println!("the greatest need of a contact at the limits: {} record bytes", self.greatest);
             assert_eq!(self.greatest, CONTACT_RECORDS, "what is enough for every contact is more than any needs");
         }
@@ -614,6 +663,49 @@ fn long_scripts(bench: &mut compare::Bench) {
     }
 }
 
+// Short texts, all of each sort.
+#[cfg(linked)]
+fn compare_short(all: &mut compare::Bench) {
+    use compare::part;
+    for alphabet in &ALPHABETS {
+        let name = format!("every text of up to {} of {} pieces, {}", alphabet.length, alphabet.pieces.len(), alphabet.name);
+        part(all, &name, alphabet.texts(), |bench, i| {
+            let mut script = Vec::new();
+            alphabet.text(i, &mut script);
+            bench.script(&script, i);
+        });
+    }
+    part(all, "every text of three ASCII characters", 1 << 21, |bench, i| bench.script(&[(i >> 14) as u8, (i >> 7) as u8 & 127, i as u8 & 127], i));
+    part(all, "every sequence of two bytes", 1 << 16, |bench, i| bench.script(&[(i >> 8) as u8, i as u8], i));
+    let name = format!("each of {CHARACTERS} characters, all up to U+FFFF, in {} roles", ROLES.len());
+    part(all, &name, CHARACTERS * ROLES.len() as u64, |bench, i| {
+        let (before, after) = ROLES[(i / CHARACTERS) as usize];
+        bench.script(format!("{before}{}{after}", character(i % CHARACTERS)).as_bytes(), i);
+    });
+}
+
+#[cfg(linked)]
+fn compare_random(all: &mut compare::Bench, count: u64, seed: u64) {
+    use compare::part;
+    part(all, &format!("random texts, seed {seed}"), count, |bench, i| bench.script(&random_script(seed, i).1, i));
+    part(all, &format!("damaged random texts, seed {seed}"), 3 * count, |bench, i| {
+        let (mut random, script) = random_script(seed, i / 3);
+        random.0 ^= i % 3;
+        bench.script(&scripts::damaged(&mut random, &script), i);
+    });
+    part(all, "random texts, each length of buffer and block", 40, |bench, i| {
+        let mut random = Random(seed ^ i);
+        bench.lengths(&contract(&mut random, i as usize));
+    });
+    part(all, "token texts at every two places", count / 50, |bench, i| {
+        let mut random = Random(!seed ^ i);
+        let length = random.below(30);
+        let script = contract(&mut random, length);
+        let script = if i % 2 == 0 { script } else { scripts::damaged(&mut random, &script) };
+        bench.texts(&script[..script.len().min(60)]);
+    });
+}
+
 #[cfg(linked)]
 fn compare_all(count: u64, seed: u64) {
     use compare::{part, Bench};
@@ -622,42 +714,15 @@ fn compare_all(count: u64, seed: u64) {
     part(&mut all, "the rules' examples, each length of buffer and block", EXAMPLES.len() as u64, |bench, i| {
         bench.lengths(EXAMPLES[i as usize].as_bytes())
     });
-    for alphabet in &ALPHABETS {
-        let name = format!("every text of up to {} of {} pieces, {}", alphabet.length, alphabet.pieces.len(), alphabet.name);
-        part(&mut all, &name, alphabet.texts(), |bench, i| {
-            let mut script = Vec::new();
-            alphabet.text(i, &mut script);
-            bench.script(&script, i);
-        });
-    }
-    part(&mut all, "every text of three ASCII characters", 1 << 21, |bench, i| {
-        bench.script(&[(i >> 14) as u8, (i >> 7) as u8 & 127, i as u8 & 127], i)
-    });
-    part(&mut all, "every sequence of two bytes", 1 << 16, |bench, i| bench.script(&[(i >> 8) as u8, i as u8], i));
-    let name = format!("each of {CHARACTERS} characters, all up to U+FFFF, in {} roles", ROLES.len());
-    part(&mut all, &name, CHARACTERS * ROLES.len() as u64, |bench, i| {
-        let (before, after) = ROLES[(i / CHARACTERS) as usize];
-        bench.script(format!("{before}{}{after}", character(i % CHARACTERS)).as_bytes(), i);
-    });
-    part(&mut all, &format!("random texts, seed {seed}"), count, |bench, i| bench.script(&random_script(seed, i).1, i));
-    part(&mut all, &format!("damaged random texts, seed {seed}"), 3 * count, |bench, i| {
-        let (mut random, script) = random_script(seed, i / 3);
-        random.0 ^= i % 3;
-        bench.script(&scripts::damaged(&mut random, &script), i);
-    });
-    part(&mut all, "random texts, each length of buffer and block", 40, |bench, i| {
-        let mut random = Random(seed ^ i);
-        bench.lengths(&contract(&mut random, i as usize));
-    });
-    part(&mut all, "token texts at every two places", count / 50, |bench, i| {
-        let mut random = Random(!seed ^ i);
-        let length = random.below(30);
-        let script = contract(&mut random, length);
-        let script = if i % 2 == 0 { script } else { scripts::damaged(&mut random, &script) };
-        bench.texts(&script[..script.len().min(60)]);
-    });
+    compare_short(&mut all);
+    compare_random(&mut all, count, seed);
     let contacts = limits::compared();
     part(&mut all, "scripts at a contact's limits", contacts.len() as u64, |bench, i| bench.limit(&contacts[i as usize]));
+    let cases = measure::cases();
+    part(&mut all, "measured, counted by hand", cases.len() as u64, |bench, i| {
+        let (script, want) = &cases[i as usize];
+        bench.told(script, want);
+    });
     part(&mut all, "scripts of 16,777,216 and 16,777,217 bytes", 1, |bench, _| long_scripts(bench));
     all.say_numbers();
     all.say("in all");

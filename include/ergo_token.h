@@ -1,8 +1,8 @@
-/* ErgoScript tokens as records: the seven functions of crates/ergo, for C and C++. `rt lib`, in that folder, makes the library,
- * crates/ergo/out/libergo.a, for Linux on x86-64 processors of level v2 (SSE4.2). Tokenizing takes at most some 9 kB of stack, reading stored
- * records some 200 bytes, lines and columns less. The library allocates nothing, and calls nothing but memmove and memset, which the
- * compiler puts in; a host without a C library must have these two. It keeps nothing between calls: calls from several threads at once are fine as
- * long as no two of them lend the same bytes for writing.
+/* ErgoScript tokens as records: the eight functions of crates/ergo, for C and C++. `rt lib`, in that folder, makes the library,
+ * crates/ergo/out/libergo.a, for Linux on x86-64 processors of level v2 (SSE4.2). Tokenizing takes at most some 9 kB of stack, measuring
+ * some 300 bytes, reading stored records some 200, lines and columns less. The library allocates nothing, and calls nothing but memmove and memset,
+ * which the compiler puts in; a host without a C library must have these two. It keeps nothing between calls: calls from several threads at once
+ * are fine as long as no two of them lend the same bytes for writing.
  *
  * All places are byte offsets from 0: those of tokens and of refusals 1 to 18 into the script, those of refusals 22 to 24 into the roll. All
  * numbers in records and answer blocks are unsigned and little-endian. Those of an index of line starts are uint32_t, in the machine's own byte
@@ -29,8 +29,9 @@ extern "C" {
  *
  * and 0 where nothing is to be said. With any other k the block keeps its values.
  *
- * The buffer: ERGO_RECORD_BOUND(n) bytes are enough for every script of n bytes. To learn the exact need, call with m = 0: an acceptable
- * script is answered 19, with token count and record bytes in the block. A second call with that many bytes is then accepted.
+ * The buffer: ERGO_RECORD_BOUND(n) bytes are enough for every script of n bytes. ergo_measure tells the exact need, with the counts that it
+ * comes from. A call with m = 0 tells the need too: an acceptable script is answered 19, with token count and record bytes in the block. A call
+ * with that many bytes is then accepted.
  *
  * Length 0 with any pointer, NULL included, is passed as an empty slice. That was run from C; no exported contract speaks of pointers. The
  * three parts of memory must be readable, the last two also writable, for their lengths, and must not overlap: the proof takes that from
@@ -47,6 +48,28 @@ uint32_t ergo_tokenize(const uint8_t *script, size_t n, uint8_t *records, size_t
  *
  * The buffer: ERGO_CONTACT_RECORDS bytes are enough for every contact, so that one call does, and 19 never comes. */
 uint32_t ergo_tokenize_contact(const uint8_t *script, size_t n, uint8_t *records, size_t m, uint8_t *answer, size_t k);
+
+/* Measures the n bytes at script: how many bytes the records need, and how many tokens are of the kinds that have values. No buffer is lent for
+ * records, and none is made. The answer is 0 where ergo_tokenize accepts the script if enough bytes are lent, else the refusal that ergo_tokenize
+ * gives, with the same place. The k bytes at answer are the answer block; k must be ERGO_MEASURE_BYTES. It gets eight numbers of 4 bytes each:
+ *
+ *     at ERGO_ANSWER_AT_NUMBER        the number that is handed back
+ *     at ERGO_ANSWER_AT_PLACE         the place of the refusal, for 1 to 16 and 18
+ *     at ERGO_ANSWER_AT_COUNT         the token count, line ends and Eof included
+ *     at ERGO_ANSWER_AT_RECORD_BYTES  the record bytes: ERGO_NEED of the counts here
+ *     at ERGO_MEASURE_AT_INT_LITS     how many tokens are IntLits
+ *     at ERGO_MEASURE_AT_LONG_LITS    how many are LongLits
+ *     at ERGO_MEASURE_AT_STRS         how many are Strs
+ *     at ERGO_MEASURE_AT_NEWLINES     how many are Newlines
+ *
+ * and 0 where nothing is to be said: on a refusal everything behind the place is 0. With any other k the answer is 20 and the block keeps its
+ * values. The order of refusals is 20, 17, 18, then the first of 1 to 16; 19, 27 and 28 never come.
+ *
+ * To reserve no more than is needed: measure, reserve the record bytes, and lend ergo_tokenize just these. It then accepts the script.
+ *
+ * What ergo_tokenize asks of pointers and lengths is asked here too: script and block must be readable, the block also writable, for their lengths,
+ * and must not overlap. An empty script may have any pointer, NULL included. */
+uint32_t ergo_measure(const uint8_t *script, size_t n, uint8_t *answer, size_t k);
 
 /* Whether the bytes of the script from start to end (end not included) are a text: 0 if so, else ERGO_TOKEN_TEXT (21). A token's text is then
  * script + start, of end - start bytes. It is 21 where start is past end, end is past n, or either lies inside a character: on a byte 0x80 to
@@ -149,7 +172,8 @@ uint32_t ergo_line_column(const uint8_t *script, size_t n, const uint32_t *index
 
 /* The lengths of answer blocks. */
 #define ERGO_ANSWER_BYTES 16u
-#define ERGO_STEP_BYTES 40u /* of ergo_read_record */
+#define ERGO_MEASURE_BYTES 32u /* of ergo_measure */
+#define ERGO_STEP_BYTES 40u    /* of ergo_read_record */
 
 /* What stands where in an answer block. In each: */
 #define ERGO_ANSWER_AT_NUMBER 0u
@@ -161,6 +185,12 @@ uint32_t ergo_line_column(const uint8_t *script, size_t n, const uint32_t *index
 #define ERGO_ANSWER_AT_LINES 8u /* of ergo_index_lines */
 #define ERGO_ANSWER_AT_LINE 8u  /* of ergo_line_column */
 #define ERGO_ANSWER_AT_COLUMN 12u
+
+/* In a block of ERGO_MEASURE_BYTES, behind count and record bytes, which stand where ergo_tokenize has them: */
+#define ERGO_MEASURE_AT_INT_LITS 16u
+#define ERGO_MEASURE_AT_LONG_LITS 20u
+#define ERGO_MEASURE_AT_STRS 24u
+#define ERGO_MEASURE_AT_NEWLINES 28u
 
 /* In a block of ERGO_STEP_BYTES: */
 #define ERGO_STEP_AT_KIND 8u
@@ -194,6 +224,13 @@ uint32_t ergo_line_column(const uint8_t *script, size_t n, const uint32_t *index
 #define ERGO_LONG_LIT_LENGTH (ERGO_RECORD_HEAD + 8u)
 #define ERGO_STR_LENGTH (ERGO_RECORD_HEAD + 8u)
 #define ERGO_NEWLINE_LENGTH (ERGO_RECORD_HEAD + 1u)
+
+/* Bytes that the records of so many tokens take, line ends and Eof included, of which so many are IntLits, LongLits, Strs and Newlines: a head for
+ * each token, and the values. */
+#define ERGO_NEED(tokens, int_lits, long_lits, strs, newlines) \
+    (ERGO_RECORD_HEAD * (size_t)(tokens) + (ERGO_INT_LIT_LENGTH - ERGO_RECORD_HEAD) * (size_t)(int_lits) \
+     + (ERGO_LONG_LIT_LENGTH - ERGO_RECORD_HEAD) * (size_t)(long_lits) + (ERGO_STR_LENGTH - ERGO_RECORD_HEAD) * (size_t)(strs) \
+     + (ERGO_NEWLINE_LENGTH - ERGO_RECORD_HEAD) * (size_t)(newlines))
 
 /* Bytes enough for the records of every script of n bytes: one byte of script costs at most an IntLit's record, and Eof costs a head. */
 #define ERGO_RECORD_PER_BYTE ERGO_INT_LIT_LENGTH
@@ -266,8 +303,8 @@ enum ergo_number {
     ERGO_TOO_LONG = 17,          /* 0: the script has more than ERGO_SCRIPT_LIMIT bytes; hand over a shorter one */
     ERGO_NOT_UTF8 = 18,          /* the length of the longest valid prefix: hand the script over in UTF-8 */
     ERGO_SHORT_BUFFER = 19,      /* 0: lend as many bytes as the block says at 12 */
-    ERGO_ANSWER_BLOCK = 20,      /* none, and the block is unchanged: lend a block of ERGO_ANSWER_BYTES bytes, or for ergo_read_record of
-                                  * ERGO_STEP_BYTES */
+    ERGO_ANSWER_BLOCK = 20,      /* none, and the block is unchanged: lend a block of ERGO_ANSWER_BYTES bytes, for ergo_measure of
+                                  * ERGO_MEASURE_BYTES, for ergo_read_record of ERGO_STEP_BYTES */
     ERGO_TOKEN_TEXT = 21,        /* of ergo_token_text only: ask for a start and an end as they stand in a record of this script */
     ERGO_SHORT_ROLL = 22,        /* the record: fewer bytes are left than it has. The roll was cut short, or a record's length damaged: fetch
                                   * it again */

@@ -105,10 +105,24 @@ static int show_contact(const char *path)
     return status;
 }
 
+/* The record bytes that a block of measuring tells: the need that its counts come to. */
+static size_t need_of(const uint8_t *block)
+{
+    uint64_t tokens = number(block + ERGO_ANSWER_AT_COUNT, 4);
+    uint64_t int_lits = number(block + ERGO_MEASURE_AT_INT_LITS, 4), long_lits = number(block + ERGO_MEASURE_AT_LONG_LITS, 4);
+    uint64_t strs = number(block + ERGO_MEASURE_AT_STRS, 4), newlines = number(block + ERGO_MEASURE_AT_NEWLINES, 4);
+    size_t bytes = (size_t)number(block + ERGO_ANSWER_AT_RECORD_BYTES, 4);
+    if (bytes != ERGO_NEED(tokens, int_lits, long_lits, strs, newlines)) {
+        fprintf(stderr, "the counts do not add up to the record bytes\n");
+        exit(2);
+    }
+    return bytes;
+}
+
 /* Prints the tokens of a script, or writes its records. */
 static int show_script(const char *path, int as_records)
 {
-    uint8_t answer[ERGO_ANSWER_BYTES];
+    uint8_t answer[ERGO_ANSWER_BYTES], need[ERGO_MEASURE_BYTES];
     uint8_t *script, *records;
     size_t n, bytes;
     uint32_t refusal;
@@ -117,13 +131,12 @@ static int show_script(const char *path, int as_records)
     /* Of a script that is too long, one byte past the limit is enough to be refused. */
     script = read_file(path, ERGO_SCRIPT_LIMIT + 1, &n);
 
-    /* Measure first, with no buffer, then write into a buffer of exactly that length. */
-    refusal = ergo_tokenize(script, n, NULL, 0, answer, sizeof answer);
-    if (refusal != ERGO_SHORT_BUFFER) {
+    /* Measure first, then write into a buffer of exactly that length. */
+    if (ergo_measure(script, n, need, sizeof need) != ERGO_ACCEPTED) {
         free(script);
-        return refused(as_records ? stderr : stdout, answer); /* standard output is the roll, if there is one */
+        return refused(as_records ? stderr : stdout, need); /* standard output is the roll, if there is one */
     }
-    bytes = (size_t)number(answer + ERGO_ANSWER_AT_RECORD_BYTES, 4);
+    bytes = need_of(need);
     records = malloc(bytes);
     if (records == NULL)
         fail("records");

@@ -10,6 +10,7 @@ mod ergo {
     extern "C" {
         fn ergo_tokenize(script: *const u8, n: usize, records: *mut u8, m: usize, answer: *mut u8, k: usize) -> u32;
         fn ergo_tokenize_contact(script: *const u8, n: usize, records: *mut u8, m: usize, answer: *mut u8, k: usize) -> u32;
+        fn ergo_measure(script: *const u8, n: usize, answer: *mut u8, k: usize) -> u32;
         fn ergo_token_text(script: *const u8, n: usize, start: u32, end: u32) -> u32;
         fn ergo_read_roll(roll: *const u8, n: usize, answer: *mut u8, k: usize) -> u32;
         fn ergo_read_record(roll: *const u8, n: usize, at: u32, previous: u32, answer: *mut u8, k: usize) -> u32;
@@ -28,24 +29,23 @@ mod ergo {
         u32::from_le_bytes(answer[at..at + 4].try_into().unwrap())
     }
 
-    // The number handed back, and the place and the record bytes of the answer block.
-    fn call(script: &[u8], records: &mut [u8]) -> (u32, u32, u32) {
-        let mut answer = [0u8; 16];
-        let (r, a) = (records.as_mut_ptr(), answer.as_mut_ptr());
-        let number = unsafe { ergo_tokenize(script.as_ptr(), script.len(), r, records.len(), a, answer.len()) };
-        (number, word(&answer, 4), word(&answer, 12))
+    // How many bytes the records of a script take.
+    fn measure(script: &[u8]) -> Result<usize, Refused> {
+        let mut answer = [0u8; 32];
+        match unsafe { ergo_measure(script.as_ptr(), script.len(), answer.as_mut_ptr(), answer.len()) } {
+            0 => Ok(word(&answer, 12) as usize),
+            number => Err(Refused { number, place: word(&answer, 4) }),
+        }
     }
 
-    // The records of a script: measured first, with no buffer, then written into a buffer of exactly that length.
+    // The records of a script: measured first, then written into a buffer of exactly that length.
     pub fn tokenize(script: &[u8]) -> Result<Vec<u8>, Refused> {
-        let (number, place, bytes) = call(script, &mut []);
-        if number != 19 {
-            return Err(Refused { number, place });
-        }
-        let mut records = vec![0; bytes as usize];
-        match call(script, &mut records) {
-            (0, _, _) => Ok(records),
-            (number, _, _) => super::fail(&format!("refused {number} after measuring")),
+        let mut records = vec![0; measure(script)?];
+        let mut answer = [0u8; 16];
+        let (r, a) = (records.as_mut_ptr(), answer.as_mut_ptr());
+        match unsafe { ergo_tokenize(script.as_ptr(), script.len(), r, records.len(), a, answer.len()) } {
+            0 => Ok(records),
+            number => super::fail(&format!("refused {number} after measuring")),
         }
     }
 

@@ -73,6 +73,7 @@ mod sys {
     extern "C" {
         pub fn ergo_tokenize(script: *const u8, n: usize, records: *mut u8, m: usize, answer: *mut u8, k: usize) -> u32;
         pub fn ergo_tokenize_contact(script: *const u8, n: usize, records: *mut u8, m: usize, answer: *mut u8, k: usize) -> u32;
+        pub fn ergo_measure(script: *const u8, n: usize, answer: *mut u8, k: usize) -> u32;
         pub fn ergo_token_text(script: *const u8, n: usize, start: u32, end: u32) -> u32;
         pub fn ergo_read_roll(roll: *const u8, n: usize, answer: *mut u8, k: usize) -> u32;
         pub fn ergo_index_lines(script: *const u8, n: usize, index: *mut u32, m: usize, answer: *mut u8, k: usize) -> u32;
@@ -89,8 +90,26 @@ pub struct Size {
     pub bytes: u32,
 }
 
+/// What the records of an acceptable script need, and how many of its tokens have values, by kind.
+#[derive(Debug, Clone, Copy, PartialEq, Eq)]
+pub struct Need {
+    /// How many tokens, line ends and Eof included.
+    pub count: u32,
+    /// How many bytes the records take: [`RECORD_HEAD`] for each token, and beside that 4 for each `IntLit`, 8 for each `LongLit` and each `Str`, 1
+    /// for each `Newline`.
+    pub bytes: u32,
+    /// How many of the tokens are [`IntLit`](TokenKind::IntLit)s.
+    pub int_lits: u32,
+    /// How many are [`LongLit`](TokenKind::LongLit)s.
+    pub long_lits: u32,
+    /// How many are [`Str`](TokenKind::Str)s.
+    pub strs: u32,
+    /// How many are [`Newline`](TokenKind::Newline)s.
+    pub newlines: u32,
+}
+
 // A number of an answer block.
-fn word(answer: &[u8; 16], at: usize) -> u32 {
+fn word(answer: &[u8], at: usize) -> u32 {
     bytes(answer, at).map_or(0, u32::from_le_bytes)
 }
 
@@ -111,16 +130,30 @@ fn call(entry: Entry, script: &[u8], records: &mut [u8]) -> (u32, u32, Size) {
     (number, place, size)
 }
 
-/// Measures a script: the size of its records, or why it is refused. Nothing is written.
-pub fn measure(script: &[u8]) -> Result<Size, Refusal> {
-    match call(sys::ergo_tokenize, script, &mut []) {
-        (19, _, size) => Ok(size),
-        (number, place, _) => Err(Refusal { number, place }),
+/// Measures a script: what its records need, or why it is refused, with the number and place that [`tokenize`] gives. No record is made.
+///
+/// ```
+/// let script = b"x = 7";
+/// let need = ergo_token::measure(script).expect("a refusal");
+/// assert_eq!((need.count, need.int_lits, need.long_lits), (4, 1, 0));
+///
+/// let mut records = vec![0; need.bytes as usize];
+/// let size = ergo_token::write(script, &mut records).expect("a refusal");
+/// assert_eq!((size.count, size.bytes), (need.count, need.bytes));
+/// ```
+pub fn measure(script: &[u8]) -> Result<Need, Refusal> {
+    let mut answer = [0u8; 32];
+    // SAFETY: both slices are valid for their lengths, and the one that is lent for writing is borrowed for it, so they don't overlap.
+    let number = unsafe { sys::ergo_measure(script.as_ptr(), script.len(), answer.as_mut_ptr(), answer.len()) };
+    let at = |at| word(&answer, at);
+    match number {
+        0 => Ok(Need { count: at(8), bytes: at(12), int_lits: at(16), long_lits: at(20), strs: at(24), newlines: at(28) }),
+        number => Err(Refusal { number, place: at(4) }),
     }
 }
 
 /// Writes the records of a script into `records`, from its start on. The bytes past them keep their values; on a refusal all bytes do. Where
-/// the records need more than was lent the refusal is 19, and [`measure`] tells the need.
+/// the records need more than was lent the refusal is 19; [`measure`] tells how much that is.
 pub fn write(script: &[u8], records: &mut [u8]) -> Result<Size, Refusal> {
     match call(sys::ergo_tokenize, script, records) {
         (0, _, size) => Ok(size),
@@ -128,12 +161,23 @@ pub fn write(script: &[u8], records: &mut [u8]) -> Result<Size, Refusal> {
     }
 }
 
+// The tokens of a script by one call, with so many bytes lent, of which only those that the records take are kept.
+fn tokens_within(entry: Entry, script: &[u8], lent: usize) -> Result<Tokens<'_>, Refusal> {
+    let mut records = vec![0; lent];
+    match call(entry, script, &mut records) {
+        (0, _, size) => {
+            records.truncate(size.bytes as usize);
+            records.shrink_to_fit();
+            Ok(Tokens { script, records, count: size.count })
+        }
+        (number, place, _) => Err(Refusal { number, place }),
+    }
+}
+
 /// The tokens of a script, or why it is refused. It measures first, and then lends just the bytes that the records need.
 pub fn tokenize(script: &[u8]) -> Result<Tokens<'_>, Refusal> {
     let need = measure(script)?;
-    let mut records = vec![0; need.bytes as usize];
-    let size = write(script, &mut records)?;
-    Ok(Tokens { script, records, count: size.count })
+    tokens_within(sys::ergo_tokenize, script, need.bytes as usize)
 }
 
 /// The tokens of a contact, which is a script of at most [`CONTACT_BYTES`] bytes with at most [`CONTACT_TOKENS`] tokens, or why it is refused: as by
@@ -145,15 +189,7 @@ pub fn tokenize(script: &[u8]) -> Result<Tokens<'_>, Refusal> {
 /// assert_eq!(ergo_token::tokenize_contact(&[b';'; 512]).unwrap_err().number, 28);
 /// ```
 pub fn tokenize_contact(script: &[u8]) -> Result<Tokens<'_>, Refusal> {
-    let mut records = vec![0; CONTACT_RECORDS];
-    match call(sys::ergo_tokenize_contact, script, &mut records) {
-        (0, _, size) => {
-            records.truncate(size.bytes as usize);
-            records.shrink_to_fit();
-            Ok(Tokens { script, records, count: size.count })
-        }
-        (number, place, _) => Err(Refusal { number, place }),
-    }
+    tokens_within(sys::ergo_tokenize_contact, script, CONTACT_RECORDS)
 }
 
 /// The text of the script from `start` to `end` (`end` not included), or refusal 21 where `start` is past `end`, `end` is past the script, or

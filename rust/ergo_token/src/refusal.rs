@@ -51,7 +51,7 @@ impl Refusal {
             17 => ("the script has more than 16777216 bytes", "hand over a shorter script"),
             18 => ("the bytes from here on are not UTF-8", "save the script as UTF-8"),
             19 => ("the records need more bytes than were lent", "lend as many bytes as measuring tells"),
-            20 => ("the answer block does not have 16 bytes", "lend an answer block of 16 bytes"),
+            20 => ("the answer block has another length than the function asks for", "lend an answer block of the length that the header names"),
             21 => {
                 ("this start and this end do not enclose a text of the script", "ask for a start and an end as they stand in a record of this script")
             }

@@ -1,17 +1,74 @@
 // The wrapper on the examples of RULES (docs/RULES.md): the header's and the C example's script, the listing, the twelve marked scripts, and each refusal's.
-use ergo_token::{measure, record_bound, token_text, tokenize, tokenize_contact, view, view_contact, write, Kw, Refusal, Size, Token, TokenKind};
+// Every script is measured too, by the wrapper and by the library's own function, and what to expect is counted from its records, from REQUESTS
+// (docs/REQUESTS.md), "Exact need" and "Answer of measuring".
+use ergo_token::{measure, record_bound, token_text, tokenize, tokenize_contact, view, view_contact, write};
+use ergo_token::{Kw, Need, Refusal, Roll, Size, Token, TokenKind, Tokens};
 use ergo_token::{CONTACT_BYTES, CONTACT_RECORDS, CONTACT_TOKENS, SCRIPT_LIMIT};
 use ergo_token::{INT_LIT_LENGTH, LONG_LIT_LENGTH, NEWLINE_LENGTH, RECORD_HEAD, STR_LENGTH};
 
+// The wrapper links the library that has this.
+extern "C" {
+    fn ergo_measure(script: *const u8, n: usize, answer: *mut u8, k: usize) -> u32;
+}
+
+// What the library must not change.
+const BYTE: u8 = 0xAA;
+
 // The record bytes of `a`: an identifier and Eof.
 const BYTES_OF_A: usize = 2 * RECORD_HEAD;
+
+// What the records of a script need, counted from those that are written where enough is lent for every script; or its refusal.
+fn counted(script: &[u8]) -> Result<Need, Refusal> {
+    let mut lent = vec![0; record_bound(script.len())];
+    let Size { count, bytes } = write(script, &mut lent)?;
+    let mut need = Need { count, bytes, int_lits: 0, long_lits: 0, strs: 0, newlines: 0 };
+    for record in Roll::read(&lent[..bytes as usize])? {
+        match record.kind {
+            TokenKind::IntLit(_) => need.int_lits += 1,
+            TokenKind::LongLit(_) => need.long_lits += 1,
+            TokenKind::Str { .. } => need.strs += 1,
+            TokenKind::Newline { .. } => need.newlines += 1,
+            _ => {}
+        }
+    }
+    Ok(need)
+}
+
+// The number handed back by measuring and the block, of so many bytes.
+fn block(script: &[u8], k: usize) -> (u32, Vec<u8>) {
+    let mut answer = vec![BYTE; k];
+    let number = unsafe { ergo_measure(script.as_ptr(), script.len(), answer.as_mut_ptr(), k) };
+    (number, answer)
+}
+
+// Measures a script, and compares with what its records need.
+fn measured(script: &[u8]) -> Result<Need, Refusal> {
+    let wanted = counted(script);
+    let words = match wanted {
+        Ok(Need { count, bytes, int_lits, long_lits, strs, newlines }) => [0, 0, count, bytes, int_lits, long_lits, strs, newlines],
+        Err(Refusal { number, place }) => [number, place, 0, 0, 0, 0, 0, 0],
+    };
+    let name = script[..script.len().min(80)].escape_ascii();
+    assert_eq!(block(script, 32), (words[0], words.map(u32::to_le_bytes).concat()), "{name}");
+    assert_eq!(measure(script), wanted, "{name}");
+    if let Ok(Need { count, bytes, int_lits, long_lits, strs, newlines }) = wanted {
+        assert_eq!(bytes, 13 * count + 4 * int_lits + 8 * (long_lits + strs) + newlines, "{name}");
+        // It is enough, and one byte less is not.
+        let mut lent = vec![0; bytes as usize];
+        assert_eq!(write(script, &mut lent), Ok(Size { count, bytes }), "{name}");
+        lent.pop();
+        assert_eq!(write(script, &mut lent), Err(Refusal { number: 19, place: 0 }), "{name}");
+    }
+    wanted
+}
 
 fn tokens(script: &str) -> Vec<Token<'_>> {
     let tokens = tokenize(script.as_bytes()).expect(script);
     let list: Vec<_> = tokens.iter().collect();
     assert_eq!(list.len(), tokens.count(), "{script}");
     assert_eq!(list.last().map(|eof| (eof.kind, eof.start, eof.end)), Some((TokenKind::Eof, script.len() as u32, script.len() as u32)));
-    assert_eq!(measure(script.as_bytes()), Ok(Size { count: list.len() as u32, bytes: tokens.records().len() as u32 }));
+    let need = measured(script.as_bytes()).unwrap();
+    assert_eq!((list.len(), tokens.records().len()), (need.count as usize, need.bytes as usize));
     for token in &list {
         assert_eq!(token_text(script.as_bytes(), token.start, token.end), Ok(token.text.as_bytes()));
     }
@@ -35,6 +92,7 @@ fn listing(script: &str) -> Vec<String> {
 
 fn refusal(script: &[u8]) -> (u32, u32) {
     let refusal = tokenize(script).expect_err("accepted");
+    assert_eq!(measured(script), Err(refusal));
     (refusal.number, refusal.place)
 }
 
@@ -48,17 +106,16 @@ fn record_bytes_of_the_readme() {
     let size = Size { count: 2, bytes: BYTES_OF_A as u32 };
     assert_eq!(accepted.records(), records);
     assert_eq!(accepted.count(), 2);
-    assert_eq!(measure(b"a"), Ok(size));
 
-    let mut lent = [0xAA; BYTES_OF_A + 4];
+    let mut lent = [BYTE; BYTES_OF_A + 4];
     assert_eq!(write(b"a", &mut lent), Ok(size));
     assert_eq!(lent[..BYTES_OF_A], records);
-    assert_eq!(lent[BYTES_OF_A..], [0xAA; 4]);
+    assert_eq!(lent[BYTES_OF_A..], [BYTE; 4]);
 }
 
 #[test]
 fn lengths_of_records() {
-    let bytes = |script: &[u8]| measure(script).unwrap().bytes as usize;
+    let bytes = |script: &[u8]| measured(script).unwrap().bytes as usize;
     assert_eq!(bytes(b""), RECORD_HEAD);
     for (script, length) in [("7", INT_LIT_LENGTH), ("7L", LONG_LIT_LENGTH), ("\"\"", STR_LENGTH), ("\n", NEWLINE_LENGTH), ("a", RECORD_HEAD)] {
         assert_eq!(bytes(script.as_bytes()), length + RECORD_HEAD, "{script:?}");
@@ -123,11 +180,10 @@ fn the_example_of_each_refusal() {
     ];
     for (script, answer) in examples {
         assert_eq!(refusal(script), answer);
-        assert_eq!(measure(script), Err(Refusal { number: answer.0, place: answer.1 }));
         // The buffer keeps its values.
-        let mut lent = vec![0xAA; record_bound(script.len())];
+        let mut lent = vec![BYTE; record_bound(script.len())];
         assert_eq!(write(script, &mut lent), Err(Refusal { number: answer.0, place: answer.1 }));
-        assert!(lent.iter().all(|&byte| byte == 0xAA));
+        assert!(lent.iter().all(|&byte| byte == BYTE));
     }
 }
 
@@ -168,11 +224,60 @@ fn contacts() {
 
 #[test]
 fn short_buffer() {
-    let mut lent = [0xAA; BYTES_OF_A - 1];
+    let mut lent = [BYTE; BYTES_OF_A - 1];
     assert_eq!(write(b"a", &mut lent), Err(Refusal { number: 19, place: 0 }));
-    assert_eq!(lent, [0xAA; BYTES_OF_A - 1]);
+    assert_eq!(lent, [BYTE; BYTES_OF_A - 1]);
     // 19 comes last.
     assert_eq!(write(b"\"str", &mut []), Err(Refusal { number: 7, place: 4 }));
+}
+
+// How many IntLits, LongLits, Strs and Newlines.
+fn counts(script: &str) -> [u32; 4] {
+    let Need { int_lits, long_lits, strs, newlines, .. } = measured(script.as_bytes()).expect(script);
+    [int_lits, long_lits, strs, newlines]
+}
+
+#[test]
+fn counts_of_each_kind() {
+    for (kind, unit) in ["7 ", "7L ", "\"\" ", "\r\n"].iter().enumerate() {
+        for n in [1, 2, 300, 70_000] {
+            let mut wanted = [0; 4];
+            wanted[kind] = n;
+            assert_eq!(counts(&unit.repeat(n as usize)), wanted, "{n} times {unit:?}");
+        }
+    }
+    // Character and symbol, keywords, signs and backticks are tokens and no more.
+    assert_eq!(counts("'c' '\\n' '\"' 'sym case true => : = +< ` 7L ` ()[]{},;. a7"), [0; 4]);
+    // A string counts once, with a prefix or behind a backtick, whatever it holds.
+    assert_eq!(counts("s\"7\" `s`\"\"\"L\"\"\" \"'7'\""), [0, 0, 3, 0]);
+    // Line ends in strings and block comments are none, and CR LF is one.
+    assert_eq!(counts("\"\"\"\n\r\n\"\"\" /*\n 7 \"*/ // 7L\r\n\n"), [0, 0, 1, 2]);
+    assert_eq!(counts("0x7L 0x7 7l 7-7"), [3, 2, 0, 0]);
+}
+
+#[test]
+fn measuring_with_other_blocks() {
+    for k in (0..=64).filter(|&k| k != 32) {
+        for script in ["7", "\"str"] {
+            assert_eq!(block(script.as_bytes(), k), (20, vec![BYTE; k]), "{script}");
+        }
+    }
+    // 20 goes before 17 and 18.
+    assert_eq!(block(&vec![0xFF; SCRIPT_LIMIT + 1], 16), (20, vec![BYTE; 16]));
+    assert_eq!(block(b"\xFF", 16), (20, vec![BYTE; 16]));
+}
+
+// Length 0 with any pointer is an empty slice.
+#[test]
+fn measuring_nothing() {
+    let of_nothing = block(&[], 32).1;
+    assert_eq!(counts(""), [0; 4]);
+    for script in [std::ptr::null(), std::ptr::without_provenance(1)] {
+        let mut answer = [BYTE; 32];
+        assert_eq!(unsafe { ergo_measure(script, 0, answer.as_mut_ptr(), 32) }, 0);
+        assert_eq!(answer[..], of_nothing);
+        assert_eq!(unsafe { ergo_measure(script, 0, std::ptr::null_mut(), 0) }, 20);
+    }
 }
 
 #[test]
@@ -228,6 +333,10 @@ fn every_kind() {
             Eof
         ]
     );
+}
+
+#[test]
+fn contents_of_strings() {
     let strings = tokens("\"a\\n\" \"\"\"b\"\"\"\" s\"c\" \"\"");
     let contents: Vec<_> = strings.iter().map(|token| token.content()).collect();
     assert_eq!(contents, [Some("a\\n"), Some("b\""), Some("s\"c\""), Some(""), None]);
@@ -303,6 +412,17 @@ fn view_of_a_refused_script() {
     assert!(viewed(long.as_bytes()).1.ends_with(&line));
 }
 
+// The tokens follow each other up to the script's end.
+fn in_order(tokens: &Tokens) {
+    let mut last = 0;
+    assert_eq!(tokens.iter().count(), tokens.count());
+    for token in tokens {
+        assert!(last <= token.start && token.start <= token.end);
+        last = token.end;
+    }
+    assert_eq!(last as usize, tokens.script().len());
+}
+
 // Bytes of every kind, in every order that a plain generator gives: no panic, and tokens that cover what they say.
 #[test]
 fn any_bytes() {
@@ -320,24 +440,19 @@ fn any_bytes() {
     let (mut accepted, mut numbers) = (0, [0; 22]);
     for _ in 0..200_000 {
         let script: Vec<u8> = (0..random(12)).flat_map(|_| pieces[random(pieces.len() as u64) as usize].to_vec()).collect();
-        match tokenize(&script) {
+        let tokens = tokenize(&script);
+        assert_eq!(measured(&script).map(|need| need.count as usize), tokens.as_ref().map(Tokens::count).map_err(|&refusal| refusal));
+        assert_eq!(viewed(&script).0, tokens.is_ok());
+        match tokens {
             Ok(tokens) => {
                 accepted += 1;
-                let mut last = 0;
-                assert_eq!(tokens.iter().count(), tokens.count());
-                for token in &tokens {
-                    assert!(last <= token.start && token.start <= token.end);
-                    last = token.end;
-                }
-                assert_eq!(last as usize, script.len());
-                assert!(viewed(&script).0);
+                in_order(&tokens);
             }
             Err(refusal) => {
                 assert!(refusal.place as usize <= script.len());
                 if refusal.number == 18 {
                     assert_eq!(std::str::from_utf8(&script).map_err(|error| error.valid_up_to()), Err(refusal.place as usize));
                 }
-                assert!(!viewed(&script).0);
                 numbers[refusal.number as usize] += 1;
             }
         }
