@@ -4,3 +4,5 @@ pub mod Codes
 pub mod Valid
 pub mod Widths
 pub mod Wide
+pub mod Tables
+pub mod Marks

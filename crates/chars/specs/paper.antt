@@ -5,3 +5,4 @@ pub mod Text
 pub mod Ranges
 pub mod Tables
 pub mod Classes
+pub mod Marks

@@ -3,12 +3,16 @@ ghost use Rattle.std.specs.Prelude.{◌≡◌, [], ◌∷◌, ◌+◌, ◌<◌, 
 ghost use Rattle.std.specs.Simd.Lanes.{mask_l};
 ghost use Rattle.chars.specs.paper.Ranges.{◌to◌};
 ghost use Rattle.chars.specs.paper.Utf8.{fits, codeOf, LongestValid};
-ghost use Rattle.chars.specs.code.Utf8.{widthAt, decodeAt, rowsOver, isAscii, manyAt, manyOver};
+ghost use Rattle.chars.specs.code.Utf8.{widthAt, decodeAt, rowsOver, plainThree, plainAt, plainOver, markAt, CleanTo, Stops, isAscii, manyAt, manyOver};
 ghost use Rattle.chars.specs.computed.Valid.{validPrefix};
+ghost use Rattle.chars.specs.computed.Marks.{checked};
 ghost use Rattle.chars.specs.promises.Utf8.{Decoding, ValidLaws, EncodingLaws};
+ghost use Rattle.chars.specs.promises.Marks.{MarkLaws};
 ghost use Rattle.chars.specs.promises.StdUtf8.{StdLaws};
 
+use crate::marks::is_mark;
 use crate::runs::{InRange, LANES, outside_at, run_end};
+use crate::thirds::{KINDS, SETS, THIRDS};
 use std::simd::prelude::*;
 
 /// A character: its code, and how many bytes it has.
@@ -148,7 +152,7 @@ fn many_at(s: &[u8], at: usize) -> bool
     }
 }
 
-// The place past the ASCII bytes that stand from `at` on, as far as they fill blocks of sixty-four. No iterator, as for `skip_threes` below.
+// The place past the ASCII bytes that stand from `at` on, as far as they fill blocks of sixty-four. No iterator, as for `skip_plain` below.
 fn skip_many(s: &[u8], at: usize) -> usize
     ensures { result ≡ manyOver s.now at }
 {
@@ -170,57 +174,100 @@ fn ascii_end(s: &[u8], at: usize) -> usize
     }
 }
 
-// Whether a character of three bytes stands at `at` that begins with E1 to EC. `&` looks at all three, without a branch.
-fn three_in(s: &[u8], at: usize) -> bool
-    ensures { result ≡ fits (0xE1 to 0xEC ∷ 0x80 to 0xBF ∷ 0x80 to 0xBF ∷ []) (drop at s.now) }
+// Whether these three bytes are a well-formed character and no direction mark.
+fn is_plain_three(a: u8, b: u8, c: u8) -> bool
+    ensures { result ≡ plainThree a b c }
 {
-    s.len() >= 3
-        && at <= s.len() - 3
-        && (0xE1 <= s[at])
-            & (s[at] <= 0xEC)
-            & ((0x80 <= s[at + 1])
-                & (s[at + 1] <= 0xBF)
-                & ((0x80 <= s[at + 2]) & (s[at + 2] <= 0xBF)))
+    SETS[b as usize * 8 + KINDS[a as usize] as usize] & THIRDS[c as usize] != 0
 }
 
-// The place past the characters of three bytes that stand from `at` on and begin with E1 to EC, as most of Chinese and Japanese do. No iterator
-// says where it stopped but by a count, so the place is kept by hand.
-fn skip_threes(s: &[u8], at: usize) -> usize
-    ensures { result ≡ rowsOver (0xE1 to 0xEC ∷ 0x80 to 0xBF ∷ 0x80 to 0xBF ∷ []) s.now at }
+// Whether a character of three bytes stands at `at` that is no direction mark.
+fn plain_in(s: &[u8], at: usize) -> bool
+    ensures { result ≡ plainAt s.now at }
+{
+    s.len() >= 3 && at <= s.len() - 3 && is_plain_three(s[at], s[at + 1], s[at + 2])
+}
+
+// The place past such characters that stand from `at` on. No iterator says where it stopped but by a count, so the place is kept by hand.
+fn skip_plain(s: &[u8], at: usize) -> usize
+    ensures { result ≡ plainOver s.now at }
 {
     let mut i = at;
-    while three_in(s, i) {
+    while plain_in(s, i) {
         i += 3;
     }
     i
 }
 
-/// The length of the longest prefix that is a sequence of well-formed characters.
+// The first place from `at` on where no well-formed character stands, or a direction mark.
 // Runs of ASCII and of characters of three bytes are passed in loops of their own, and characters of two bytes are tested before the others.
-// A step is a run or a character: no iterator takes such steps. `valid_laws`: there is one such prefix, and a text is well-formed where it is
-// all of it. `std_laws`: it is the longest prefix that is UTF-8 by std.
+// A step is a run or a character: no iterator takes such steps.
+fn clean_end(s: &[u8], at: usize) -> usize
+    requires { at ≤ length s.now }
+    ensures clean { CleanTo s.now at result }
+    ensures stops { Stops s.now result }
+{
+    let mut i = at;
+    while i < s.len() {
+        if s[i] < 0x80 {
+            i = ascii_end(s, i + 1);
+        } else if pair_in(s, i, 0xC2, 0xDF, 0x80, 0xBF) {
+            i += 2;
+        } else if 0xF0 <= s[i] {
+            let Some(w) = width_at(s, i) else {
+                return i;
+            };
+            i += w;
+        } else if plain_in(s, i) {
+            i = skip_plain(s, i + 3);
+        } else {
+            return i;
+        }
+    }
+    i
+}
+
+// Whether a direction mark stands at `at`. Out of line: only scripts that have one, or are not UTF-8, come to it.
+#[inline(never)]
+fn mark_at(s: &[u8], at: usize) -> bool
+    ensures { result ≡ markAt s.now at }
+{
+    match decode(s, at) {
+        Some(c) => is_mark(c.code),
+        None => false,
+    }
+}
+
+/// Whether the bytes are UTF-8, and where the first direction mark stands, if one does. Of bytes that are not UTF-8 the error is the length of the
+/// longest prefix that is a sequence of well-formed characters.
+// One walk for both. `mark_laws`: what is computed of the first mark is what is declared.
+#[inline(always)] // for short scripts: a call hands its answer on through memory
+pub fn check(s: &[u8]) -> Result<Option<usize>, usize>
+    ensures value { result ≡ checked s.now }
+    ensures mark_laws { MarkLaws }
+{
+    let mut mark = None;
+    let mut i = clean_end(s, 0);
+    while i < s.len() {
+        if !mark_at(s, i) {
+            return Err(i);
+        }
+        mark = mark.or(Some(i));
+        i = clean_end(s, i + 3);
+    }
+    Ok(mark)
+}
+
+/// The length of the longest prefix that is a sequence of well-formed characters.
+// `valid_laws`: there is one such prefix, and a text is well-formed where it is all of it. `std_laws`: it is the longest prefix that is UTF-8 by std.
 pub fn valid_prefix(s: &[u8]) -> usize
     ensures value { result ≡ validPrefix s.now }
     ensures longest { LongestValid s.now result }
     ensures valid_laws { ValidLaws }
     ensures std_laws { StdLaws }
 {
-    let mut i = 0;
-    while i < s.len() {
-        if s[i] < 0x80 {
-            i = ascii_end(s, i + 1);
-        } else if pair_in(s, i, 0xC2, 0xDF, 0x80, 0xBF) {
-            i += 2;
-        } else {
-            let Some(w) = width_at(s, i) else {
-                return i;
-            };
-            if w == 3 {
-                i = skip_threes(s, i + w);
-            } else {
-                i += w;
-            }
-        }
+    match check(s) {
+        Ok(_) => s.len(),
+        Err(valid) => valid,
     }
-    i
 }

@@ -1,4 +1,4 @@
-// The host's entry. RULES, "Order of refusals" and "Answer"; REQUESTS, "Limits".
+// The host's entry. RULES, "Order of refusals" and "Answer"; REQUESTS, "Limits" and "Direction marks".
 ghost use Rattle.std.specs.Prelude.{◌≡◌, ℕ, ◌≤◌, length, IfOk, IfErr};
 ghost use Rattle.token.specs.computed.Answer.{answer};
 ghost use Rattle.token.specs.code.Records.{Held};
@@ -9,7 +9,7 @@ ghost use Rattle.entry.specs.computed.Host.{hostFor, hostOf, rejected, verdict};
 ghost use Rattle.entry.specs.code.Host.{judgedOf, Judged, scratchOf};
 ghost use Rattle.entry.specs.Theorems.{CompilerTheorems, ContactTheorems, HostTheorems};
 
-use crate::check::check_text;
+use crate::check::check_clean;
 use crate::limits::Limits;
 use crate::refusal::{Refusal, Refused};
 use token::counts::Need;
@@ -28,7 +28,7 @@ pub const SHORT_SCRATCH: usize = 2048;
 
 pub const LONG_SCRATCH: usize = 8192;
 
-/// What the records need, or the refusals 17, 27, 18, 1 to 16, 28 in their order. `scratch` has the records that fit into it, where the script is
+/// What the records need, or the refusals 17, 27, 18, 29, 1 to 16, 28 in their order. `scratch` has the records that fit into it, where the script is
 /// read.
 #[inline(always)] // for short scripts: out of line it hands its answer on through memory
 pub fn judge(scratch: &mut [u8], script: &[u8], limits: &Limits) -> Result<Need, Refused>
@@ -38,7 +38,7 @@ pub fn judge(scratch: &mut [u8], script: &[u8], limits: &Limits) -> Result<Need,
     ensures held { IfOk result (λ need. Held (answer script.now) need scratch.new) }
     ensures scratch_after { scratch.new ≡ scratchOf limits.now script.now scratch.old }
 {
-    check_text(script, limits.bytes)?;
+    check_clean(script, limits.bytes)?;
     let need = measure(scratch, script)?;
     if limits.has_too_many(need.tokens) {
         return Err(Refusal::TooManyTokens.at(0));
@@ -94,7 +94,8 @@ fn tokenize_with<const BYTES: usize>(
 
 /// Tokenizes a script within limits. The number is 0 where it is accepted: then the records stand at the buffer's start. Every refusal leaves the
 /// buffer as it was. The first clause gives the number and every lent byte for all limits and lengths; the second says what follows: that these are what
-/// is declared, that a host which lends enough is refused only where there is no reading or a limit is not kept, and the examples of RULES and REQUESTS.
+/// is declared, that a host which lends enough is refused only where there is no reading, a direction mark stands or a limit is not kept, and the examples
+/// of RULES and REQUESTS.
 pub fn tokenize_within(script: &[u8], records: &mut [u8], answer: &mut [u8], limits: &Limits) -> u32
     ensures answer_after { seen result records.new answer.new ≡ hostFor limits.now script.now records.old answer.old }
     ensures host_theorems { HostTheorems limits.now script.now records.old answer.old }

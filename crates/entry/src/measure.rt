@@ -40,7 +40,7 @@ fn put_refusal(answer: &mut [u8], number: u32, place: usize)
 }
 
 /// What the records of a script need, told in a block of 32 bytes: refusal, place, token count, record bytes, and how many tokens are IntLits,
-/// LongLits, Strs and Newlines. The number is 0 where `tokenize` takes the script if so many bytes are lent. Else it is that of `tokenize`, 17, 18 or
+/// LongLits, Strs and Newlines. The number is 0 where `tokenize` takes the script if so many bytes are lent. Else it is that of `tokenize`, 17, 18, 29 or
 /// one of 1 to 16, with its place and zeros behind it. A block of another length is refused by 20 and keeps its bytes.
 pub fn measure(script: &[u8], answer: &mut [u8]) -> u32
     ensures answer_after { told result answer.new ≡ measureTold script.now answer.old }

@@ -1,4 +1,4 @@
-// The refusals of a script that are met whatever is lent for its records: 17, 27 and 18 of every script, 1 to 16 and 28 of one that is read.
+// The refusals of a script that are met whatever is lent for its records: 17, 27, 18 and 29 of every script, 1 to 16 and 28 of one that is read.
 ghost use Rattle.std.specs.Prelude.{◌≡◌};
 ghost use Rattle.entry.specs.paper.Refusals.{refusalNumber};
 ghost use Rattle.entry.specs.code.Refusal.{pieceRefused};
@@ -14,6 +14,8 @@ pub enum Refusal {
     OverLimit,
     /// It has more tokens than the limit in force.
     TooManyTokens,
+    /// A direction mark stands in it.
+    DirectionMark,
     /// A piece of it is refused: 1 to 16.
     Piece(token::refusal::Refusal),
 }
@@ -28,6 +30,7 @@ impl Refusal {
             Refusal::NotUtf8 => 18,
             Refusal::OverLimit => 27,
             Refusal::TooManyTokens => 28,
+            Refusal::DirectionMark => 29,
             Refusal::Piece(refusal) => refusal.number(),
         }
     }

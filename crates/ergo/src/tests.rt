@@ -80,6 +80,29 @@ fn tokenizes_nothing(rt: HostRuntime) {
     assert_eq!(rt; records, [0x0D, 0, 0x12, 0, 0, 0, 0, 0, 0, 0, 0, 0, 0]);
 }
 
+// `//` and U+202E, a direction mark: refused by all that tokenize or measure, and its line can be told.
+#[test]
+fn refuses_mark(rt: HostRuntime) {
+    let script = b"//\xE2\x80\xAE";
+    let told = [29, 0, 0, 0, 2, 0, 0, 0, 0, 0, 0, 0, 0, 0, 0, 0];
+    let mut records = [9u8; 26];
+    let mut answer = [9u8; 16];
+    assert_eq!(rt; ergo_tokenize(script, &mut records, &mut answer), 29);
+    assert_eq!(rt; answer, told);
+    assert_eq!(rt;
+        ergo_tokenize_contact(script, &mut records, &mut answer),
+        29
+    );
+    assert_eq!(rt; answer, told);
+    assert_eq!(rt; records, [9u8; 26]);
+    let mut need = [9u8; 32];
+    assert_eq!(rt; ergo_measure(script, &mut need), 29);
+    assert_eq!(rt; &need[..16], &told[..]);
+    let mut index = [9u32; 1];
+    assert_eq!(rt; ergo_index_lines(script, &mut index, &mut answer), 0);
+    assert_eq!(rt; index, [0u32; 1]);
+}
+
 // A contact may have 512 tokens, Eof included, and 4,096 bytes.
 #[test]
 fn tokenizes_contact(rt: HostRuntime) {

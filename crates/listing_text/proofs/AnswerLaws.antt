@@ -1,6 +1,7 @@
 -- The text of an answer, and of a script.
 use Prim.Native.Nat.{ℕ, ◌<◌, ◌≤◌, min}
 use mathlib.Core.Path.{◌≡◌, sym, ◌∙◌, ap}
+use mathlib.Core.Logic.{inl, inr}
 use mathlib.Core.List.{List, [], ◌++◌}
 use lib.ListN.{length, take, drop, length-replicate}
 use lib.Seq.{take_all, take_at}
@@ -16,6 +17,7 @@ use Rattle.token.proofs.theorems.Alone.{records-length}
 use Rattle.token.proofs.theorems.Bounded.{all-bounded, refused-within}
 use Rattle.token.proofs.theorems.Theorems.{need}
 use Rattle.entry.specs.paper.Limits.{compiler}
+use Rattle.chars.proofs.theorems.Marks.{mark_laws}
 use Rattle.entry.specs.paper.Host.{Seen, Rejects, Sees}
 use Rattle.entry.specs.computed.Host.{hostOf}
 use Rattle.entry.specs.computed.Listing.{verdictText, listingOf}
@@ -44,6 +46,7 @@ reject-place : {script : List ℕ} {j a : ℕ} → Rejects compiler script j a �
 reject-place (Rejects.seventeen l) = omega arith
 reject-place (Rejects.twentySeven l m) = omega arith
 reject-place (Rejects.eighteen z v l) = omega arith
+reject-place {script} {a} (Rejects.twentyNine v f) = let l = mark_laws.mark-within script a f.stands in omega arith
 reject-place {script} {j} {a} (Rejects.refused c h) = refused-within script j a h
 reject-place (Rejects.twentyEight c k m) = omega arith
 
@@ -54,8 +57,11 @@ unfolding answerText listingOf verdictText
 seen-text (Sees.twenty z) b s m = absurd (z b)
 seen-text {script} (Sees.rejected {j} {a} e h) b s m =
     let place = reject-place h in
-    let least = (compiler-number script h).0 in
-    let some : j ≡ 0 → ⊥ = λ z. omega arith in
+    let some : j ≡ 0 → ⊥ =
+    λ z. elim (compiler-number script h) [
+      | inl r ↦ omega (arith, r.0)
+      | inr r ↦ omega arith
+    ] in
     simp (ne_eqb j 0 some)
     (ap (refusedAt j) (block-place j a 0 0 (omega arith)) ∙ sym (ap verdictText (rejects-only compiler script (mostNeed (length script)) h)))
 seen-text {script} (Sees.nineteen {ts} e r l) b s m = let n = need script ts r.tokensOf in absurd (omega arith)

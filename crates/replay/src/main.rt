@@ -6,7 +6,7 @@
 //     the script's length
 //     how many bytes are lent for the records
 //     0 where tokenize is to answer, any other where tokenize_contact is
-//     the answer block, number, place, token count and record bytes: by the published tokenize; 18, 19, 27 and 28 by RULES and REQUESTS
+//     the answer block, number, place, token count and record bytes: by the published tokenize; 18, 19 and 27 to 29 by RULES and REQUESTS
 //     the script
 //     where the number is 0, the records: as many bytes as the block says
 //

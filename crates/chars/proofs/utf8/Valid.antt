@@ -2,7 +2,7 @@
 use Rattle.std.proofs.Common.{ℕ, zero, suc, ◌≤◌, ◌<◌, ◌+◌, ◌-◌, ◌≡◌, refl, sym, ◌∙◌, ap, Bool, true, false, ◌&&◌, ◌⊎◌, inl, inr, ⊎_elim, List, [], ◌∷◌, length, take, drop, length-drop, take_all, leb, ltb, arith, leb-true, ltb-true}
 use Rattle.std.proofs.Math.Seq.{take-nil, take-length}
 use Rattle.std.proofs.Math.Nat.{sub-zero}
-use Rattle.std.proofs.lemmas.Bool.{lt-leb, cases_Bool, false_from_ne_true}
+use Rattle.std.proofs.lemmas.Bool.{lt-leb, cases_Bool}
 use Rattle.std.proofs.Math.Bool.{and-false}
 use Rattle.chars.specs.paper.Quoted.{between}
 use Rattle.chars.specs.paper.Ranges.{Range, ◌to◌}
@@ -77,11 +77,6 @@ fit-length (◌to◌ low high ∷ row) (b ∷ t) e = let h = fit-length row t (a
 pub fit-within : (x : Range) (row : List Range) (s : List ℕ) (i : ℕ) → fits (x ∷ row) (drop i s) ≡ true
     → i + length (x ∷ row) ≤ length s
 fit-within x row s i e = let l = fit-length (x ∷ row) (drop i s) e in let d = length-drop i s in omega arith
-
--- where too few bytes are left it is not met
-pub fit-short : (x : Range) (row : List Range) (s : List ℕ) (i : ℕ) → length s < i + length (x ∷ row) → false ≡ fits (x ∷ row) (drop i s)
-fit-short x row s i h =
-    sym (false_from_ne_true (fits (x ∷ row) (drop i s)) (λ e. let l = fit-within x row s i e in omega arith))
 
 fits-take : (row : List Range) (t : List ℕ) (m : ℕ) → fits row t ≡ true → length row ≤ m → fits row (take m t) ≡ true
 fits-take [] t m e l = refl

@@ -1,12 +1,12 @@
 -- How wide a character is, and the check of one character after the other.
 use Rattle.std.proofs.lemmas.Grind.{common_steps}
-use Rattle.std.proofs.Common.{ℕ, zero, suc, ◌+◌, ◌-◌, ◌≤◌, ◌<◌, ◌≡◌, refl, sym, ◌∙◌, ap, Bool, true, false, cond, inl, inr, List, [], ◌∷◌, length, drop, get_or, length-drop, drop_of_length-le, drop-drop, leb, arith, leb-true, le-leb, not, map, take}
+use Rattle.std.proofs.Common.{ℕ, zero, suc, ◌+◌, ◌-◌, ◌≤◌, ◌<◌, ◌≡◌, refl, ◌∙◌, ap, Bool, true, false, cond, inl, inr, List, [], ◌∷◌, length, drop, get_or, length-drop, drop_of_length-le, drop-drop, leb, arith, leb-true, le-leb, not, map, take}
 use Rattle.chars.specs.paper.Ranges.{Range, ◌to◌}
-use Rattle.chars.specs.paper.Utf8.{table37, fits, Row, width}
+use Rattle.chars.specs.paper.Utf8.{fits, width}
 use Rattle.chars.specs.computed.Valid.{validFrom, validPrefix}
 use Rattle.chars.specs.code.Runs.{stepsIn, AllIn}
 use Rattle.chars.specs.code.Utf8.{rowAt, rowsOver, isAscii, manyAt, manyOver}
-use Rattle.std.proofs.lemmas.Bool.{cases_lt, cond_both}
+use Rattle.std.proofs.lemmas.Bool.{cases_lt}
 use Rattle.std.specs.List.{prefix_len}
 use Rattle.std.specs.Simd.Lanes.{mask_l}
 use Rattle.chars.proofs.Bools.{and-both}
@@ -15,7 +15,7 @@ use Rattle.std.proofs.lemmas.List.Sums.{prefix_len-le-length}
 use Rattle.chars.proofs.runs.Laws.{over-end, over-on, run-on}
 use Rattle.chars.proofs.utf8.Rows as rows
 use Rattle.chars.proofs.utf8.Wide.{Stood, stood}
-use Rattle.chars.proofs.utf8.Valid.{width-fit, fit-within, valid-shift, valid-none, valid-past}
+use Rattle.chars.proofs.utf8.Valid.{fit-within, valid-shift, valid-none, valid-past}
 
 pub width-most : (t : List ℕ) → (width t ≤ 4) × (width t ≤ length t)
 width-most t = elim (stood t) [ inl e ↦ (omega arith, omega arith) | inr s ↦ by s ]
@@ -29,6 +29,10 @@ width-most t = elim (stood t) [ inl e ↦ (omega arith, omega arith) | inr s ↦
 -- at a place
 pub width-within : (s : List ℕ) (i : ℕ) → i ≤ length s → i + width (drop i s) ≤ length s
 width-within s i h = let a = width-most (drop i s) in let b = length-drop i s in omega arith
+
+-- past the end nothing stands
+pub width-end : (s : List ℕ) (i : ℕ) → length s ≤ i → width (drop i s) ≡ 0
+width-end s i h = let a = width-most (drop i s) in let b = length-drop i s in omega arith
 
 -- ---- the check
 
@@ -47,43 +51,7 @@ valid-next s i w h e n =
     let d : validPrefix (drop w (drop i s)) ≡ validPrefix (drop (i + w) s) = ap validPrefix (drop-drop w i s) in
     omega (arith, valid-shift i 0 (drop i s), valid-shift (i + w) 0 (drop (i + w) s), p, d)
 
--- an ASCII byte is a character of one byte
-pub valid-ascii : (s : List ℕ) (i : ℕ) → i < length s → get_or s i 0 < 0x80 → validFrom (i + 1) 0 (drop (i + 1) s) ≡ validFrom i 0 (drop i s)
-valid-ascii s i h l =
-    valid-next s i 1 h (ap width (rows.here s i h) ∙ sym (rows.row-00 (get_or s i 0) (drop (i + 1) s) (omega arith) (omega arith))) (λ e. absurd (omega arith))
-
--- the check finds the same from j on as from i on, and j lies behind i within the text
-pub record Onward (s : List ℕ) (i j : ℕ) : Type 0 where
-  pub onward : i ≤ j
-  pub within : j ≤ length s
-  pub same : validFrom j 0 (drop j s) ≡ validFrom i 0 (drop i s)
-
 -- ---- characters of one row
-
-module _ {x : Range} {row : List Range} (w : Row table37 (x ∷ row)) (s : List ℕ) where
-  -- past one, which a test b has found
-  pub valid-row : (i : ℕ) {b : Bool} → b ≡ rowAt (x ∷ row) s i → b ≡ true → Onward s i (i + length (x ∷ row))
-  valid-row i q t =
-      let e = sym q ∙ t in
-      let l = fit-within x row s i e in
-      record { onward = omega arith; within = l; same = valid-next s i (length (x ∷ row)) (omega arith) (width-fit w (drop i s) e) (λ z. absurd (omega arith)) }
-
-  -- past one or none, then on
-  on-if : (b : Bool) (i j : ℕ) → i ≤ length s → (b ≡ true → Onward s i j) → Onward s i (cond b j i)
-  on-if b i j h f = cond_both b j i (Onward s i) f (λ e. record { onward = omega arith; within = h; same = refl })
-
-  rows-in : (n i : ℕ) → i ≤ length s → Onward s i (stepsIn n (length (x ∷ row)) (rowAt (x ∷ row) s) i)
-  unfolding stepsIn
-  rows-in zero i h = record { onward = omega arith; within = h; same = refl }
-  rows-in (suc n) i h =
-      on-if (rowAt (x ∷ row) s i) i _ h (λ e.
-      let v = valid-row i refl e in
-      let o = rows-in n (i + length (x ∷ row)) v.within in
-      record { onward = omega (arith, v.onward, o.onward); within = o.within; same = o.same ∙ v.same })
-
-  -- past all of them
-  pub valid-rows : (i j : ℕ) → i ≤ length s → j ≡ rowsOver (x ∷ row) s i → Onward s i j
-  valid-rows i j h e = rw e (rows-in (length s) i h)
 
 pub rows-stand : (x : Range) (row : List Range) (s : List ℕ) (i : ℕ) → rowAt (x ∷ row) s i ≡ true → rowsOver (x ∷ row) s (i + length (x ∷ row)) ≡ rowsOver (x ∷ row) s i
 rows-stand x row s = over-on (length (x ∷ row)) (rowAt (x ∷ row)) s (omega arith) (fit-within x row s)
@@ -98,7 +66,7 @@ module _ (s : List ℕ) where
   abbrev pub ascii : List Range
   ascii = 0x00 to 0x7F ∷ []
 
-  ascii-at : (i : ℕ) → i < length s → get_or s i 0 ≤ 0x7F → rowAt ascii s i ≡ true
+  pub ascii-at : (i : ℕ) → i < length s → get_or s i 0 ≤ 0x7F → rowAt ascii s i ≡ true
   ascii-at i h l = ap (fits ascii) (rows.here s i h) ∙ simp (le-leb 0x00 (get_or s i 0) (omega arith), le-leb (get_or s i 0) 0x7F l)
 
   ascii-low : (n i : ℕ) → i + n ≤ length s → AllIn 0x00 0x7F s i (i + n) → rowsOver ascii s (i + n) ≡ rowsOver ascii s i

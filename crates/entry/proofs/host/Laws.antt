@@ -21,7 +21,7 @@ use Rattle.token.specs.declared.refusal.Refusal.TheVariants as p
 use Rattle.entry.specs.declared.limits.Limits.{Limits}
 use Rattle.entry.specs.paper.Refusals.{refusalNumber}
 use Rattle.entry.specs.paper.Host.{seen}
-use Rattle.entry.specs.computed.Check.{checkOf}
+use Rattle.entry.specs.computed.Check.{cleanOf}
 use Rattle.entry.specs.computed.Host.{granted, rejected, lacking, tooMany, seenOf, Verdict, verdict, hostFor}
 use Rattle.entry.specs.code.Refusal.{refusalBy}
 use Rattle.entry.specs.code.Host.{judgedOf, Judged, scratchOf}
@@ -32,10 +32,10 @@ use Rattle.words.specs.Words.{blockOf}
 use Rattle.token.proofs.Base.{zero-one}
 use Rattle.token.proofs.theorems.Alone.{records-length}
 use Rattle.words.proofs.Stores.{sets-front}
-use Rattle.entry.proofs.host.Checks.{CheckedAs, long, over, invalid, good, checked-as, passed}
+use Rattle.entry.proofs.host.Checks.{CheckedAs, long, over, invalid, good, CleanAs, unchecked, marked, clean, clean-as, clean-passed}
 use Rattle.entry.proofs.host.Verdicts.{verdict-checked, verdict-rest, room-many, room-granted, room-lacking, room-rejected}
 
--- ---- judging: 17, 27, 18, 1 to 16, 28
+-- ---- judging: 17, 27, 18, 29, 1 to 16, 28
 
 -- a refusal of a piece, by its number
 piece-by : (w : token.Refusal) → refusalBy (piece.refusalNumber w) ≡ refusal.Piece w
@@ -80,24 +80,29 @@ judged-lacking ts n k = ap (λ m. Ok m) k.need
 
 module _ (limits : Limits) (s : List ℕ) where
   -- refused by a test
-  pub judge-checked : (e : Refused) → Err e ≡ checkOf limits.bytes s → (room : ℕ) → verdict limits s room ≡ rejected (refusalNumber e.what) e.place
+  pub judge-checked : (e : Refused) → Err e ≡ cleanOf limits.bytes s → (room : ℕ) → verdict limits s room ≡ rejected (refusalNumber e.what) e.place
   judge-checked e q room = verdict-checked limits s room e (sym q)
 
-  pub checked-by : (e : Refused) → Err e ≡ checkOf limits.bytes s → (room : ℕ) → Err e ≡ judgedOf (verdict limits s room)
+  pub checked-by : (e : Refused) → Err e ≡ cleanOf limits.bytes s → (room : ℕ) → Err e ≡ judgedOf (verdict limits s room)
   unfolding refusalBy
-  checked-by e q room = go (checked-as limits.bytes s) q ∙ sym (ap judgedOf (judge-checked e q room))
+  checked-by e q room = go (clean-as limits.bytes s) q ∙ sym (ap judgedOf (judge-checked e q room))
     where
       at : (r : Refusal) (a : ℕ) → refusalBy (refusalNumber r) ≡ r → e ≡ record { what = r; place = a } → Err e ≡ judgedOf (rejected (refusalNumber e.what) e.place)
       at r a by z = rw z (judged-checked r a by)
 
-      go : {x : Result (Unit {0}) Refused} → CheckedAs limits.bytes s x → Err e ≡ x → Err e ≡ judgedOf (rejected (refusalNumber e.what) e.place)
-      go (long l) q = at refusal.TooLong 0 refl (cc)
-      go (over l m) q = at refusal.OverLimit 0 refl (cc)
-      go (invalid l m x) q = at refusal.NotUtf8 (validPrefix s) refl (cc)
-      go (good l m x) q = zero-one (cc)
+      tested : {x : Result (Unit {0}) Refused} → CheckedAs limits.bytes s x → Err e ≡ x → Err e ≡ judgedOf (rejected (refusalNumber e.what) e.place)
+      tested (long l) q = at refusal.TooLong 0 refl (cc)
+      tested (over l m) q = at refusal.OverLimit 0 refl (cc)
+      tested (invalid l m x) q = at refusal.NotUtf8 (validPrefix s) refl (cc)
+      tested (good l m x) q = zero-one (cc)
 
-  module _ (u : Unit {0}) (q : Ok u ≡ checkOf limits.bytes s) where
-    passes : checkOf limits.bytes s ≡ Ok tt
+      go : {x : Result (Unit {0}) Refused} → CleanAs limits.bytes s x → Err e ≡ x → Err e ≡ judgedOf (rejected (refusalNumber e.what) e.place)
+      go (unchecked c) q = tested c q
+      go (marked {a} l m x f) q = at refusal.DirectionMark a refl (cc)
+      go (clean l m x f) q = zero-one (cc)
+
+  module _ (u : Unit {0}) (q : Ok u ≡ cleanOf limits.bytes s) where
+    passes : cleanOf limits.bytes s ≡ Ok tt
     passes = sym q
 
     -- refused by a piece
@@ -122,7 +127,7 @@ module _ (limits : Limits) (s : List ℕ) where
 
       module _ (f : tooMany limits.tokens n.tokens ≡ false) where
         pub judge-read : Judged limits s n
-        judge-read = record { in-limit = (passed limits.bytes s u q).0; checked = sym passes; needs = h; few = f }
+        judge-read = record { in-limit = clean-passed limits.bytes s u q; checked = sym passes; needs = h; few = f }
 
         pub read-by : (room : ℕ) → Ok n ≡ judgedOf (verdict limits s room)
         read-by room = go (answer s) refl h
@@ -146,12 +151,12 @@ module _ (limits : Limits) (s : List ℕ) where
 
   module _ (scratch : List ℕ) where
     -- as it was, where a test refuses
-    pub scratch-checked : (e : Refused) → Err e ≡ checkOf limits.bytes s → scratch ≡ scratchOf limits s scratch
+    pub scratch-checked : (e : Refused) → Err e ≡ cleanOf limits.bytes s → scratch ≡ scratchOf limits s scratch
     unfolding scratchOf
     scratch-checked e q = rw (← q) refl
 
     -- the records that fit, where none does
-    pub scratch-passed : (u : Unit {0}) → Ok u ≡ checkOf limits.bytes s → storedFrom s begun scratch ≡ scratchOf limits s scratch
+    pub scratch-passed : (u : Unit {0}) → Ok u ≡ cleanOf limits.bytes s → storedFrom s begun scratch ≡ scratchOf limits s scratch
     unfolding scratchOf
     scratch-passed u q = rw (← q) refl
 

@@ -11,7 +11,7 @@ use Rattle.token.specs.computed.Answer.{Answer, tokenized, refused, answer}
 use Rattle.entry.specs.declared.limits.Limits.{Limits}
 use Rattle.entry.specs.declared.refusal.Refused.{Refused}
 use Rattle.entry.specs.paper.Refusals.{refusalNumber}
-use Rattle.entry.specs.computed.Check.{checkOf}
+use Rattle.entry.specs.computed.Check.{cleanOf}
 use Rattle.entry.specs.computed.Host.{granted, rejected, lacking, tooMany, byRoom, verdict}
 
 module _ (most : Option ℕ) (room : ℕ) (w : Answer) where
@@ -34,10 +34,10 @@ module _ (most : Option ℕ) (room : ℕ) (w : Answer) where
   room-rejected j a e = rw e
 
 module _ (limits : Limits) (script : List ℕ) (room : ℕ) where
-  pub verdict-checked : (e : Refused) → checkOf limits.bytes script ≡ Err e → verdict limits script room ≡ rejected (refusalNumber e.what) e.place
+  pub verdict-checked : (e : Refused) → cleanOf limits.bytes script ≡ Err e → verdict limits script room ≡ rejected (refusalNumber e.what) e.place
   unfolding verdict
   verdict-checked e q = rw q
 
-  pub verdict-rest : checkOf limits.bytes script ≡ Ok tt → verdict limits script room ≡ byRoom limits.tokens room (answer script)
+  pub verdict-rest : cleanOf limits.bytes script ≡ Ok tt → verdict limits script room ≡ byRoom limits.tokens room (answer script)
   unfolding verdict
   verdict-rest q = rw q

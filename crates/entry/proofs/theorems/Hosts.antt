@@ -8,11 +8,13 @@ use lib.ListN.{length}
 use lib.Dec.{eqb, leb}
 use native.Mathlib.Omega.{arith}
 use borrow.Author.Tests.{ltb-true, ltb-false, lt-ltb, le-ltb, leb-true, leb-false, eqb-true, eqb-false, eq-eqb, ne_eqb}
-use Rattle.std.specs.Prelude.{◌⊎◌, Option, Some, None, IfSome, IsSomeAnd, Result}
+use Rattle.std.specs.Prelude.{◌⊎◌, Option, Some, None, IfSome, IsSomeAnd, Result, Err}
 use Rattle.chars.specs.computed.Valid.{validPrefix}
 use Rattle.chars.specs.paper.Text.{Text}
 use Rattle.chars.specs.paper.Utf8.{WellFormed}
+use Rattle.chars.specs.paper.Marks.{Unmarked}
 use Rattle.chars.proofs.theorems.Promises.{valid-laws}
+use Rattle.chars.proofs.theorems.Marks.{mark_laws}
 use Rattle.token.specs.paper.Kinds.{Token}
 use Rattle.token.specs.paper.Reading.{TokensOf}
 use Rattle.token.specs.paper.Refusals as piece
@@ -21,16 +23,19 @@ use Rattle.token.specs.computed.Answer.{Answer, answer}
 use Rattle.entry.specs.declared.limits.Limits.{Limits}
 use Rattle.entry.specs.declared.refusal.Refused.{Refused}
 use Rattle.entry.specs.paper.Limits.{compiler, contact, contactNeed, Few, Keeps}
-use Rattle.entry.specs.paper.Host.{Seen, seen, numberSeen, bufferSeen, Clean, Read, Rejects, Sees}
+use Rattle.entry.specs.paper.Refusals.{refusalNumber}
+use Rattle.entry.specs.computed.Check.{checkOf}
+use Rattle.entry.specs.paper.Host.{Seen, seen, numberSeen, bufferSeen, Valid, Clean, Read, Rejects, Sees}
 use Rattle.entry.specs.computed.Host.{granted, rejected, lacking, tooMany, Verdict, byRoom, verdict, seenOf, hostFor}
 use Rattle.entry.specs.Theorems.{HostTheorems, CompilerTheorems, ContactTheorems, Accepts}
-use Rattle.entry.proofs.host.Checks.{CheckedAs, long, over, invalid, good, checked-as, check-long, check-over, check-invalid, check-good}
+use Rattle.entry.proofs.host.Checks.{CheckedAs, long, over, invalid, good, CleanAs, unchecked, marked, clean, clean-as, check-long, check-over, check-invalid, clean-err, clean-mark, clean-good}
 use Rattle.entry.proofs.host.Verdicts.{verdict-checked, verdict-rest, room-many, room-granted, room-lacking, room-rejected}
 use Rattle.token.proofs.theorems.Theorems.{complete, refusal, need, answer-tokens, tokens-answer, theorems}
 use Rattle.token.proofs.theorems.Bounded.{last-eof}
 use Rattle.entry.proofs.theorems.Examples.{examples}
 use Rattle.entry.proofs.theorems.Contacts.{contact-need}
 open valid-laws use {valid, longest-one, valid-all, all-valid}
+open mark_laws use {first-mark, unmarked}
 
 -- the numbers of the refusals of a piece
 escape-range : {b q : Text} {j : ℕ} → piece.BadEscape b j q → (1 ≤ j) × (j ≤ 16)
@@ -77,16 +82,23 @@ tokens-many (Some m) n e = ltb-true m n e
 module _ (limits : Limits) (script : List ℕ) (room : ℕ) where
   judged : Clean limits script → verdict limits script room ≡ byRoom limits.tokens room (answer script)
   judged h =
-      let e = valid-all script h.utf8 in
-      verdict-rest limits script room (check-good limits.bytes script h.sized.in-limit h.sized.within (omega arith))
+      let v = h.valid in
+      let e = valid-all script v.utf8 in
+      verdict-rest limits script room (clean-good limits.bytes script v.sized.in-limit v.sized.within (omega arith) ((unmarked script).1 h.unmarked))
+
+  tested : (e : Refused) → checkOf limits.bytes script ≡ Err e → verdict limits script room ≡ rejected (refusalNumber e.what) e.place
+  tested e q = verdict-checked limits script room e (clean-err limits.bytes script e q)
 
   -- what is declared is computed
   pub rejects-only : {j a : ℕ} → Rejects limits script j a → verdict limits script room ≡ rejected j a
-  rejects-only (Rejects.seventeen l) = verdict-checked limits script room _ (check-long limits.bytes script l)
-  rejects-only (Rejects.twentySeven l m) = verdict-checked limits script room _ (check-over limits.bytes script l m)
+  rejects-only (Rejects.seventeen l) = tested _ (check-long limits.bytes script l)
+  rejects-only (Rejects.twentySeven l m) = tested _ (check-over limits.bytes script l m)
   rejects-only (Rejects.eighteen {n} z v m) =
       let q : validPrefix script ≡ n = longest-one (valid script) v in
-      verdict-checked limits script room _ (check-invalid limits.bytes script z.in-limit z.within n q m)
+      tested _ (check-invalid limits.bytes script z.in-limit z.within n q m)
+  rejects-only (Rejects.twentyNine {a} v f) =
+      let e = valid-all script v.utf8 in
+      verdict-checked limits script room _ (clean-mark limits.bytes script v.sized.in-limit v.sized.within (omega arith) a ((first-mark script a).1 f))
   rejects-only (Rejects.refused {j} {a} c h) = judged c ∙ room-rejected limits.tokens room (answer script) j a ((refusal script j a).1 h)
   rejects-only (Rejects.twentyEight {ts} c h m) =
       judged c ∙ room-many limits.tokens room (answer script) ts (answer-tokens script ts h) (many-tokens limits.tokens (tokenCount ts) m)
@@ -109,7 +121,7 @@ pub data Met (limits : Limits) (script : List ℕ) : Type 0 where
 module _ (limits : Limits) (script : List ℕ) where
   -- and one of both in every case
   pub met : Met limits script
-  met = tested (checked-as limits.bytes script)
+  met = judged (clean-as limits.bytes script)
     where
       counted : Clean limits script → (ts : List Token) → TokensOf script ts → (b : Bool) → tooMany limits.tokens (tokenCount ts) ≡ b
           → Met limits script
@@ -120,23 +132,33 @@ module _ (limits : Limits) (script : List ℕ) where
       read c (Answer.tokenized ts) q = counted c ts (tokens-answer script ts q) (tooMany limits.tokens (tokenCount ts)) refl
       read c (Answer.refused j a) q = rejects (Rejects.refused c ((refusal script j a).0 q))
 
-      tested : {x : Result (Unit {0}) Refused} → CheckedAs limits.bytes script x → Met limits script
-      tested (long l) = rejects (Rejects.seventeen l)
-      tested (over l m) = rejects (Rejects.twentySeven l m)
-      tested (invalid l m v) = rejects (Rejects.eighteen (record { in-limit = l; within = m }) (valid script) v)
-      tested (good l m v) = read (record { sized = record { in-limit = l; within = m }; utf8 = all-valid script v }) (answer script) refl
+      tested : {x : Result (Unit {0}) Refused} {e : Refused} → CheckedAs limits.bytes script x → x ≡ Err e → Met limits script
+      tested (long l) q = rejects (Rejects.seventeen l)
+      tested (over l m) q = rejects (Rejects.twentySeven l m)
+      tested (invalid l m v) q = rejects (Rejects.eighteen (record { in-limit = l; within = m }) (valid script) v)
+      tested (good l m v) q = absurd (let z : ◌≡◌ {A = ℕ} 0 1 = cc in omega arith)
 
-  pub number-of : {j a : ℕ} → Rejects limits script j a → ((1 ≤ j) × (j ≤ 18)) ⊎ ((27 ≤ j) × (j ≤ 28))
+      as-valid : length script ≤ mostBytes → length script ≤ limits.bytes → length script ≤ validPrefix script → Valid limits script
+      as-valid l m v = record { sized = record { in-limit = l; within = m }; utf8 = all-valid script v }
+
+      judged : {x : Result (Unit {0}) Refused} → CleanAs limits.bytes script x → Met limits script
+      judged (unchecked c) = tested c refl
+      judged (marked {a} l m v f) = rejects (Rejects.twentyNine (as-valid l m v) ((first-mark script a).0 f))
+      judged (clean l m v f) = read (record { valid = as-valid l m v; unmarked = (unmarked script).0 f }) (answer script) refl
+
+  pub number-of : {j a : ℕ} → Rejects limits script j a → ((1 ≤ j) × (j ≤ 18)) ⊎ ((27 ≤ j) × (j ≤ 29))
   number-of (Rejects.seventeen l) = inl (omega arith, omega arith)
   number-of (Rejects.twentySeven l m) = inr (omega arith, omega arith)
   number-of (Rejects.eighteen z v m) = inl (omega arith, omega arith)
+  number-of (Rejects.twentyNine v f) = inr (omega arith, omega arith)
   number-of (Rejects.refused c k) = let r = met-range k.first.met in let l = r.0 in let h = r.1 in inl (omega arith, omega arith)
   number-of (Rejects.twentyEight c k m) = inr (omega arith, omega arith)
 
   -- where there are tokens that keep the limits nothing of the script is refused
-  pub keeps-read : WellFormed script → length script ≤ mostBytes → length script ≤ limits.bytes → (ts : List Token) → TokensOf script ts
+  pub keeps-read : WellFormed script → Unmarked script → length script ≤ mostBytes → length script ≤ limits.bytes → (ts : List Token) → TokensOf script ts
       → Few limits ts → Read limits script ts
-  keeps-read utf8 l m ts k f = record { clean = record { sized = record { in-limit = l; within = m }; utf8 = utf8 }; tokensOf = k; few = f }
+  keeps-read utf8 u l m ts k f =
+      record { clean = record { valid = record { sized = record { in-limit = l; within = m }; utf8 = utf8 }; unmarked = u }; tokensOf = k; few = f }
 
 -- ---- what the host sees
 
@@ -183,7 +205,7 @@ module _ (limits : Limits) (script buffer block : List ℕ) where
   unchanged-by (Sees.nineteen e r m) h = refl
   unchanged-by (Sees.accepted e r m) h = absurd (h refl)
 
-  number-by : {x : Seen} → Sees limits script buffer block x → (numberSeen x ≤ 20) ⊎ ((27 ≤ numberSeen x) × (numberSeen x ≤ 28))
+  number-by : {x : Seen} → Sees limits script buffer block x → (numberSeen x ≤ 20) ⊎ ((27 ≤ numberSeen x) × (numberSeen x ≤ 29))
   number-by (Sees.twenty n) = inl (omega arith)
   number-by (Sees.rejected e k) = elim (number-of limits script k) [
     | inl h ↦ let l = h.1 in inl (omega arith)
@@ -192,14 +214,15 @@ module _ (limits : Limits) (script buffer block : List ℕ) where
   number-by (Sees.nineteen e r m) = inl (omega arith)
   number-by (Sees.accepted e r m) = inl (omega arith)
 
-  kept-by : {x : Seen} → Sees limits script buffer block x → numberSeen x ≡ 0 → Keeps limits script
+  kept-by : {x : Seen} → Sees limits script buffer block x → numberSeen x ≡ 0 → Unmarked script × Keeps limits script
   kept-by (Sees.twenty n) h = absurd (omega arith)
   kept-by (Sees.rejected e k) h = elim (number-of limits script k) [
     | inl r ↦ let l = r.0 in absurd (omega arith)
     | inr r ↦ let l = r.0 in absurd (omega arith)
   ]
   kept-by (Sees.nineteen e r m) h = absurd (omega arith)
-  kept-by (Sees.accepted {ts} e r m) h = record { within = r.clean.sized.within; tokens = ts; tokensOf = r.tokensOf; few = r.few }
+  kept-by (Sees.accepted {ts} e r m) h =
+      (r.clean.unmarked, record { within = r.clean.valid.sized.within; tokens = ts; tokensOf = r.tokensOf; few = r.few })
 
   -- where the lent bytes are enough for every reading that keeps the limits
   pub accepts : limits.bytes ≤ mostBytes → WellFormed script → length block ≡ 16
@@ -209,17 +232,18 @@ module _ (limits : Limits) (script buffer block : List ℕ) where
       record {
         exactly = (
           kept-by sees-host,
-          λ k. ap numberSeen (sees-only (Sees.accepted e (read-as k.tokens k.tokensOf k.within k.few) (room k.tokens k.tokensOf k.few))),
+          λ h. let k = h.1 in
+              ap numberSeen (sees-only (Sees.accepted e (read-as h.0 k.tokens k.tokensOf k.within k.few) (room k.tokens k.tokensOf k.few))),
         );
         one-reading = (theorems script).one-reading;
         has-tokens = λ ps h. let c = complete script ps h in (c.0, c.2);
-        writes = λ ps ts h t m f.
+        writes = λ ps ts h t u m f.
             let k : TokensOf script ts = record { pieces = ps; reading = h; tokens = t } in
-            sees-only (Sees.accepted e (read-as ts k m f) (room ts k f));
+            sees-only (Sees.accepted e (read-as u ts k m f) (room ts k f));
       }
     where
-      read-as : (ts : List Token) → TokensOf script ts → length script ≤ limits.bytes → Few limits ts → Read limits script ts
-      read-as ts k m f = keeps-read limits script utf8 (omega arith) m ts k f
+      read-as : Unmarked script → (ts : List Token) → TokensOf script ts → length script ≤ limits.bytes → Few limits ts → Read limits script ts
+      read-as u ts k m f = keeps-read limits script utf8 u (omega arith) m ts k f
 
   pub host-theorems : HostTheorems limits script buffer block
   host-theorems =
@@ -235,19 +259,23 @@ module _ (limits : Limits) (script buffer block : List ℕ) where
 -- ---- the compiler's limits, and a contact's
 
 -- within the compiler's neither 27 nor 28 is met
-pub compiler-number : (script : List ℕ) {j a : ℕ} → Rejects compiler script j a → (1 ≤ j) × (j ≤ 18)
-compiler-number script (Rejects.seventeen l) = (omega arith, omega arith)
+pub compiler-number : (script : List ℕ) {j a : ℕ} → Rejects compiler script j a → ((1 ≤ j) × (j ≤ 18)) ⊎ (j ≡ 29)
+compiler-number script (Rejects.seventeen l) = inl (omega arith, omega arith)
 compiler-number script (Rejects.twentySeven l m) = absurd (omega arith)
-compiler-number script (Rejects.eighteen z v m) = (omega arith, omega arith)
-compiler-number script (Rejects.refused c k) = let r = met-range k.first.met in let l = r.0 in let h = r.1 in (omega arith, omega arith)
+compiler-number script (Rejects.eighteen z v m) = inl (omega arith, omega arith)
+compiler-number script (Rejects.twentyNine v f) = inr refl
+compiler-number script (Rejects.refused c k) = let r = met-range k.first.met in let l = r.0 in let h = r.1 in inl (omega arith, omega arith)
 compiler-number script (Rejects.twentyEight c k m) = absurd m
 
 module _ (script buffer block : List ℕ) where
-  compiler-by : {x : Seen} → Sees compiler script buffer block x → numberSeen x ≤ 20
-  compiler-by (Sees.twenty n) = omega arith
-  compiler-by (Sees.rejected e k) = let l = compiler-number script k in omega arith
-  compiler-by (Sees.nineteen e r m) = omega arith
-  compiler-by (Sees.accepted e r m) = omega arith
+  compiler-by : {x : Seen} → Sees compiler script buffer block x → (numberSeen x ≤ 20) ⊎ (numberSeen x ≡ 29)
+  compiler-by (Sees.twenty n) = inl (omega arith)
+  compiler-by (Sees.rejected e k) = elim (compiler-number script k) [
+    | inl h ↦ inl (omega (arith, h.1))
+    | inr h ↦ inr h
+  ]
+  compiler-by (Sees.nineteen e r m) = inl (omega arith)
+  compiler-by (Sees.accepted e r m) = inl (omega arith)
 
   pub compiler_theorems : CompilerTheorems script buffer block
   compiler_theorems =
@@ -255,9 +283,11 @@ module _ (script buffer block : List ℕ) where
         compiler-numbers = compiler-by (sees-host compiler script buffer block);
         compiler-exactly = λ L l.
             let a = (host-theorems compiler script buffer block).lent-enough (omega arith) L in (
-              (λ z. let k = a.exactly.0 z in (k.tokensOf.pieces, k.tokensOf.reading)),
-              λ h. let c = complete script h.0 h.1 in
-                  a.exactly.1 (record { within = l; tokens = c.0; tokensOf = record { pieces = h.0; reading = h.1; tokens = c.2 }; few = tt }),
+              (λ z. let h = a.exactly.0 z in let k = h.1.tokensOf in (h.0, (k.pieces, k.reading))),
+              λ h. let p = h.1 in
+                  let c = complete script p.0 p.1 in
+                  a.exactly.1
+                  (h.0, record { within = l; tokens = c.0; tokensOf = record { pieces = p.0; reading = p.1; tokens = c.2 }; few = tt }),
             );
       }
 

@@ -9,6 +9,7 @@ use lib.Dec.{eqb}
 use native.Mathlib.Omega.{arith}
 use borrow.Author.Tests.{eqb-true, eqb-false, eq-eqb, ne_eqb}
 use Rattle.std.specs.Prelude.{◌⊎◌}
+use Rattle.chars.specs.paper.Marks.{Unmarked}
 use Rattle.words.proofs.Joins.{four-drop, four-le4}
 use Rattle.words.specs.Words.{le4, blockOf, Told, told, numberTold}
 use Rattle.token.specs.paper.Kinds.{Token}
@@ -56,15 +57,21 @@ module _ (script block : List ℕ) where
       by true h = judged (eqb-true (length block) 32 h) (met compiler script)
       by false h = put (Measures.twenty (eqb-false (length block) 32 h))
 
-  number-by : {x : Told} → Measures script block x → (numberTold x ≤ 18) ⊎ (numberTold x ≡ 20)
-  number-by (Measures.twenty n) = inr refl
-  number-by (Measures.rejected e h) = inl (compiler-number script h).1
+  number-by : {x : Told} → Measures script block x → (numberTold x ≤ 18) ⊎ (numberTold x ≡ 20) ⊎ (numberTold x ≡ 29)
+  number-by (Measures.twenty n) = inr (inl refl)
+  number-by (Measures.rejected e h) = elim (compiler-number script h) [
+    | inl r ↦ inl r.1
+    | inr r ↦ inr (inr r)
+  ]
   number-by (Measures.measured e r) = inl (omega arith)
 
-  read-by : {x : Told} → Measures script block x → numberTold x ≡ 0 → (ps : List Piece) × Reading script ps
+  read-by : {x : Told} → Measures script block x → numberTold x ≡ 0 → Unmarked script × ((ps : List Piece) × Reading script ps)
   read-by (Measures.twenty n) h = absurd (omega arith)
-  read-by (Measures.rejected e k) h = let l = (compiler-number script k).0 in absurd (omega arith)
-  read-by (Measures.measured e r) h = let k = r.tokensOf in (k.pieces, k.reading)
+  read-by (Measures.rejected e k) h = elim (compiler-number script k) [
+    | inl r ↦ absurd (omega (arith, r.0))
+    | inr r ↦ absurd (omega arith)
+  ]
+  read-by (Measures.measured e r) h = let k = r.tokensOf in (r.clean.unmarked, (k.pieces, k.reading))
 
   -- no number wraps in 4 bytes
   numbers : (ts : List Token) → length script ≤ mostBytes → TokensOf script ts → TellsNeed ts (needBlock ts)
@@ -90,16 +97,17 @@ module _ (script block : List ℕ) where
         measure-numbers = number-by measures-host;
         measure-exactly = λ utf8 l e. (
           read-by measures-host,
-          λ h. let c = complete script h.0 h.1 in
-              let k : TokensOf script c.0 = record { pieces = h.0; reading = h.1; tokens = c.2 } in
-              ap numberTold (measures-only (Measures.measured e (keeps-read compiler script utf8 l l c.0 k tt))),
+          λ h. let p = h.1 in
+              let c = complete script p.0 p.1 in
+              let k : TokensOf script c.0 = record { pieces = p.0; reading = p.1; tokens = c.2 } in
+              ap numberTold (measures-only (Measures.measured e (keeps-read compiler script utf8 h.0 l l c.0 k tt))),
         );
-        measured-told = λ ts utf8 l k e. measures-only (Measures.measured e (keeps-read compiler script utf8 l l ts k tt));
+        measured-told = λ ts utf8 u l k e. measures-only (Measures.measured e (keeps-read compiler script utf8 u l l ts k tt));
         numbers-told = λ ts l k. numbers ts l k;
-        enough-lent = λ ts buffer answer utf8 l k e m.
-            ap numberSeen (sees-only compiler script buffer answer (Sees.accepted e (keeps-read compiler script utf8 l l ts k tt) m));
-        fewer-lent = λ ts buffer answer utf8 l k e m.
-            ap numberSeen (sees-only compiler script buffer answer (Sees.nineteen e (keeps-read compiler script utf8 l l ts k tt) m));
+        enough-lent = λ ts buffer answer utf8 u l k e m.
+            ap numberSeen (sees-only compiler script buffer answer (Sees.accepted e (keeps-read compiler script utf8 u l l ts k tt) m));
+        fewer-lent = λ ts buffer answer utf8 u l k e m.
+            ap numberSeen (sees-only compiler script buffer answer (Sees.nineteen e (keeps-read compiler script utf8 u l l ts k tt) m));
         refused-told = λ j a h e. measures-only (Measures.rejected e h);
         refused-seen = λ j a buffer answer h e. sees-only compiler script buffer answer (Sees.rejected e h);
         script-theorems = theorems script;

@@ -5,7 +5,7 @@ use Rattle.token.specs.computed.Answer.{answer}
 use Rattle.token.specs.paper.Records.{mostBytes}
 use Rattle.token.specs.code.Records.{needFor, Needs, begun, storedFrom}
 use Rattle.token.specs.declared.counts.Need.{Need}
-use Rattle.entry.specs.computed.Check.{checkOf}
+use Rattle.entry.specs.computed.Check.{cleanOf}
 use Rattle.entry.specs.computed.Host.{granted, rejected, lacking, tooMany, Verdict}
 use Rattle.entry.specs.code.Refusal.{refusalBy}
 use Rattle.entry.specs.declared.limits.Limits.{Limits}
@@ -21,10 +21,10 @@ judgedOf (rejected j a) = Err (record { what = refusalBy j; place = a })
 abbrev pub blockBy : Need → List ℕ
 blockBy n = blockOf 0 0 n.tokens n.bytes ++ blockOf n.counts.int_lits n.counts.long_lits n.counts.strs n.counts.newlines
 
--- the script passes 17, 27 and 18, is not refused otherwise, and its records need so much
+-- the script passes 17, 27, 18 and 29, is not refused otherwise, and its records need so much
 pub record Judged (limits : Limits) (script : List ℕ) (n : Need) : Type 0 where
   pub in-limit : length script ≤ mostBytes
-  pub checked : Ok tt ≡ checkOf limits.bytes script
+  pub checked : Ok tt ≡ cleanOf limits.bytes script
   pub needs : Needs (answer script) n
   pub few : IsFalse (tooMany limits.tokens n.tokens)
 
@@ -34,4 +34,4 @@ storedBy (Ok x) stored scratch = stored
 storedBy (Err e) stored scratch = scratch
 
 unfoldable pub scratchOf : Limits → List ℕ → List ℕ → List ℕ
-scratchOf limits script scratch = storedBy (checkOf limits.bytes script) (storedFrom script begun scratch) scratch
+scratchOf limits script scratch = storedBy (cleanOf limits.bytes script) (storedFrom script begun scratch) scratch

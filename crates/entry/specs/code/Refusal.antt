@@ -16,4 +16,5 @@ refusalBy j =
     if j == 17 then refusal.TooLong else
     if j == 18 then refusal.NotUtf8 else
     if j == 27 then refusal.OverLimit else
-    if j == 28 then refusal.TooManyTokens else refusal.Piece (piece.refusalBy j)
+    if j == 28 then refusal.TooManyTokens else
+    if j == 29 then refusal.DirectionMark else refusal.Piece (piece.refusalBy j)

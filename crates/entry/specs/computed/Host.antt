@@ -9,7 +9,7 @@ use Rattle.entry.specs.declared.refusal.Refused.{Refused}
 use Rattle.entry.specs.paper.Limits.{compiler}
 use Rattle.entry.specs.paper.Refusals.{refusalNumber}
 use Rattle.entry.specs.paper.Host.{seen, Seen}
-use Rattle.entry.specs.computed.Check.{checkOf}
+use Rattle.entry.specs.computed.Check.{cleanOf}
 
 -- the answer with `room` bytes lent: accepted, a refusal's number and place, or 19, with the tokens
 pub data Verdict : Type 0 where
@@ -29,13 +29,13 @@ byRoom most room (Answer.tokenized ts) =
     if tooMany most (tokenCount ts) then rejected 28 0 else lent
 byRoom most room (Answer.refused j a) = rejected j a
 
--- 17, 27 and 18 go before
+-- 17, 27, 18 and 29 go before
 abbrev pub checkedBy : Result (Unit {0}) Refused → Verdict → Verdict
 checkedBy (Ok x) v = v
 checkedBy (Err e) v = rejected (refusalNumber e.what) e.place
 
 unfoldable pub verdict : Limits → List ℕ → ℕ → Verdict
-verdict limits script room = checkedBy (checkOf limits.bytes script) (byRoom limits.tokens room (answer script))
+verdict limits script room = checkedBy (cleanOf limits.bytes script) (byRoom limits.tokens room (answer script))
 
 -- the number, the buffer and the block that follow from it
 unfoldable pub seenOf : Verdict → List ℕ → Seen

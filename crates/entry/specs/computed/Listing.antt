@@ -7,7 +7,9 @@ use Rattle.token.specs.computed.Listing.{shown, refusedAt, listed}
 use Rattle.entry.specs.declared.limits.Limits.{Limits}
 use Rattle.entry.specs.paper.Limits.{compiler}
 use Rattle.entry.specs.paper.Host.{Seen}
-use Rattle.entry.specs.computed.Check.{checkOf}
+use Rattle.chars.specs.paper.Classes.{isMark}
+use Rattle.chars.specs.computed.Marks.{firstMark}
+use Rattle.entry.specs.computed.Check.{checkOf, markOf, cleanOf}
 use Rattle.entry.specs.computed.Host.{Verdict, granted, rejected, lacking, byRoom, verdict, seenOf, hostFor}
 use Rattle.entry.specs.computed.Measure.{toldOf, measureTold}
 
@@ -17,19 +19,19 @@ verdictText (granted ts) = shown ts
 verdictText (rejected j a) = refusedAt j a
 verdictText (lacking ts) = []
 
--- As many bytes are lent as a script needs at most, so that 19 is not met: N is 17, 18, or one of 1 to 16.
+-- As many bytes are lent as a script needs at most, so that 19 is not met: N is 17, 18, 29, or one of 1 to 16.
 unfoldable pub listingOf : List ℕ → List ℕ
 listingOf script = verdictText (verdict compiler script (mostNeed (length script)))
 
 -- Where these are unfolded, all of the computed definition is: the listing of any script, what a host sees, and what one is told that measures.
 unfoldable pub entered : List ℕ → List ℕ
-unfolding listed validFrom values recordLength recordBytes le4 le8 byRoom verdict verdictText listingOf checkOf
+unfolding listed validFrom values recordLength recordBytes le4 le8 byRoom verdict verdictText listingOf checkOf markOf cleanOf firstMark isMark
 entered script = listingOf script
 
 unfoldable pub hosted : Limits → List ℕ → List ℕ → List ℕ → Seen
-unfolding listed validFrom values recordLength recordBytes le2 le4 le8 byRoom verdict fieldsOf headOf recordOf records blockOf seenOf hostFor checkOf
+unfolding listed validFrom values recordLength recordBytes le2 le4 le8 byRoom verdict fieldsOf headOf recordOf records blockOf seenOf hostFor checkOf markOf cleanOf firstMark isMark
 hosted limits s buffer answerBlock = hostFor limits s buffer answerBlock
 
 unfoldable pub measuring : List ℕ → List ℕ → Told
-unfolding listed validFrom values recordLength recordBytes countsOf le2 le4 le8 byRoom verdict blockOf toldOf measureTold checkOf
+unfolding listed validFrom values recordLength recordBytes countsOf le2 le4 le8 byRoom verdict blockOf toldOf measureTold checkOf markOf cleanOf firstMark isMark
 measuring s answerBlock = measureTold s answerBlock

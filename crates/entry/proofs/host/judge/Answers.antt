@@ -4,12 +4,12 @@ use Rattle.entry.specs.code.Refusal.{pieceRefused}
 use Rattle.entry.proofs.host.Laws.{is-err, judge-checked, checked-by, judge-refused, refused-by, judge-many, many-by, judge-read, read-by, scratch-checked, scratch-passed}
 use Rattle.entry.proofs.host.judge.Goals as goal
 
-pub returns-in_err-check_text : goal.returns-in_err-check_text
-returns-in_err-check_text c =
+pub returns-in_err-check_clean : goal.returns-in_err-check_clean
+returns-in_err-check_clean c =
     let limits = c.args.limits.now in
     let script = c.args.script.now in
-    let check = c.in_err-check_text.ensures.value in
-    rw (is-err c.from_residual.result c.in_err-check_text.field-0.0 c.from_residual.ensures.1)
+    let check = c.in_err-check_clean.ensures.value in
+    rw (is-err c.from_residual.result c.in_err-check_clean.field-0.0 c.from_residual.ensures.1)
     (record {
       value = λ room. checked-by limits script _ check room;
       refusal = λ room. judge-checked limits script _ check room;
@@ -22,7 +22,7 @@ pub returns-in_err-need : goal.returns-in_err-need
 returns-in_err-need c =
     let limits = c.args.limits.now in
     let script = c.args.script.now in
-    let check = c.in_ok-check_text.ensures.value in
+    let check = c.in_ok-check_clean.ensures.value in
     let told = c.in_err-need.ensures in
     rw (is-err c.from_residual-in_err-need.result (pieceRefused c.in_err-need.field-0.0) c.from_residual-in_err-need.ensures.1)
     (record {
@@ -37,7 +37,7 @@ pub returns-then-has_too_many : goal.returns-then-has_too_many
 returns-then-has_too_many c =
     let limits = c.args.limits.now in
     let script = c.args.script.now in
-    let check = c.in_ok-check_text.ensures.value in
+    let check = c.in_ok-check_clean.ensures.value in
     let told = c.in_ok-need.ensures in
     let many = sym c.has_too_many.ensures ∙ c.if-has_too_many.true in
     rw c.at.ensures
@@ -53,7 +53,7 @@ pub returns : goal.returns
 returns c =
     let limits = c.args.limits.now in
     let script = c.args.script.now in
-    let check = c.in_ok-check_text.ensures.value in
+    let check = c.in_ok-check_clean.ensures.value in
     let told = c.in_ok-need.ensures in
     let few = sym c.has_too_many.ensures ∙ c.if-has_too_many.false in
     record {
