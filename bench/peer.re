@@ -2,8 +2,9 @@
 // same answer block, same refusals with their places; a refusal leaves the records buffer as it was. bench/peer builds it, bench/peer-check
 // compares it with the published tokenize. It is no part of the library.
 //
-// It copies the script, puts FF hex behind it and checks UTF-8 on the copy. FF is in no character, and no class has it: so no rule runs past the
-// end, and no loop looks for the end. The records go to memory of its own, and from there to the host's when the whole script has been read.
+// It copies the script, puts FF hex behind it, and on the copy checks UTF-8 and looks for direction marks, in one walk. FF is in no character, and no
+// class has it: so no rule runs past the end, and no loop looks for the end. The records go to memory of its own, and from there to the host's when
+// the whole script has been read.
 #include <stdint.h>
 #include <stdlib.h>
 #include <string.h>
@@ -463,20 +464,37 @@ static inline int continues(byte b)
     return (int8_t)b < -0x40;
 }
 
-// The length of the sequence of Table 3-7 that stands here, or 0. The FF hex behind the text is in no sequence.
-static inline size_t sequence(const byte *s)
+// Of three bytes that begin with E2 hex: whether they are U+202A to U+202E, or U+2066 to U+2069.
+static inline int is_mark(const byte *s)
+{
+    return (s[1] == 0x80 && s[2] >= 0xAA && s[2] <= 0xAE) || (s[1] == 0x81 && s[2] >= 0xA6 && s[2] <= 0xA9);
+}
+
+// The length of the sequence of Table 3-7 that stands here, or 0. The FF hex behind the text is in no sequence. The first direction mark is kept.
+static inline size_t sequence(const byte *s, const byte **mark)
 {
     if (s[0] < 0x80) return 1;
     if (s[0] < 0xE0) return s[0] >= 0xC2 && continues(s[1]) ? 2 : 0;
     if (!continues(s[1]) || !continues(s[2])) return 0;
-    if (s[0] < 0xF0) return (s[0] == 0xE0 && s[1] < 0xA0) || (s[0] == 0xED && s[1] > 0x9F) ? 0 : 3;
+    if (s[0] < 0xF0) {
+        if (s[0] > 0xE2) return s[0] == 0xED && s[1] > 0x9F ? 0 : 3;
+        if (s[0] < 0xE2) return s[0] == 0xE0 && s[1] < 0xA0 ? 0 : 3;
+        if (is_mark(s) && !*mark) *mark = s;
+        return 3;
+    }
     if ((s[0] == 0xF0 && s[1] < 0x90) || (s[0] == 0xF4 && s[1] > 0x8F) || s[0] > 0xF4) return 0;
     return continues(s[3]) ? 4 : 0;
 }
 
-// The end of the longest valid prefix: by 32 bytes where they are ASCII, else by characters.
-static const byte *valid_end(const byte *at, const byte *limit)
+// The end of the longest valid prefix, and the first direction mark before it, if one is there.
+typedef struct {
+    const byte *end, *mark;
+} Checked;
+
+// By 32 bytes where they are ASCII, else by characters.
+static Checked check(const byte *at, const byte *limit)
 {
+    const byte *mark = NULL;
     while (at < limit) {
         uint64_t words[4];
         const byte *end = limit - at < 32 ? limit : at + 32;
@@ -488,22 +506,23 @@ static const byte *valid_end(const byte *at, const byte *limit)
             }
         }
         while (at < end) {
-            size_t length = sequence(at);
-            if (length == 0) return at;
+            size_t length = sequence(at, &mark);
+            if (length == 0) return (Checked){at, mark};
             at += length;
         }
     }
-    return at;
+    return (Checked){at, mark};
 }
 
 // Reads a script through memory for its copy and for its records.
 static Answer read_script(const byte *script, size_t n, byte *copy, byte *scratch)
 {
-    const byte *end;
+    Checked checked;
     if (n) memcpy(copy, script, n);
     copy[n] = 0xFF;
-    end = valid_end(copy, copy + n);
-    if (end < copy + n) return (Answer){18, (uint32_t)(end - copy), 0, 0};
+    checked = check(copy, copy + n);
+    if (checked.end < copy + n) return (Answer){18, (uint32_t)(checked.end - copy), 0, 0};
+    if (checked.mark) return (Answer){29, (uint32_t)(checked.mark - copy), 0, 0};
     return lex(copy, copy + n, scratch);
 }
 

@@ -103,12 +103,10 @@ fn show_rows(bench: &mut Bench, words: &[String]) {
         "ergo_tokenize, the published tokenize and a lexer by re2c, in one process, by turns; medians of {} rounds; MB/s is 10^6 bytes",
         bench.rounds
     );
-    println!("of script a second. ergo_tokenize and re2c's check UTF-8, which tokenize's &str has behind it. \"one call\" writes into one buffer of");
-    println!("{INT_LIT}n + {HEAD} bytes, lent again and again: buffers were not cleared between calls. \"two calls\" measures, allocates just what is needed");
-    println!(
-        "(zeroed, as vec! does), writes, and frees. tokenize allocates its tokens and frees them. Ratios: the other's time by ours; above 1, ours"
-    );
-    println!("is faster. no.: 0, or the refusal, which stands at the end.");
+    println!("of script a second. ergo_tokenize and re2c's check UTF-8, which tokenize's &str has behind it, and look for direction marks.");
+    println!("\"one call\" writes into one buffer of {INT_LIT}n + {HEAD} bytes, lent again and again: buffers were not cleared between calls.");
+    println!("\"two calls\" measures, allocates just what is needed (zeroed, as vec! does), writes, and frees. tokenize allocates its tokens and frees");
+    println!("them. Ratios: the other's time by ours; above 1, ours is faster. no.: 0, or the refusal, which stands at the end.");
     println!();
     let heads = ["one call", "two calls", "tokenize", "re2c"];
     println!("{:<40} {:>9} {:>4} {:>9} {:>9} {:>9} {:>9} tokenize tokenize  re2c by", "row", "bytes", "no.", heads[0], heads[1], heads[2], heads[3]);

@@ -121,7 +121,7 @@ fn main() {
     }
     println!();
     println!("Instructions a byte of script; accepted, and with a byte at the end that is refused. by ours: so many times ours; above 1, ours takes");
-    println!("fewer. ours is ergo_tokenize, which checks UTF-8, as re2c's does; tokenize's &str has that behind it.");
+    println!("fewer. ours is ergo_tokenize, which checks UTF-8 and looks for direction marks, as re2c's does; tokenize's &str has the check behind it.");
     println!();
     println!(
         "{:<30} {:>9} {:>8} {:>8} {:>8} {:>9} {:>9} {:>9} {:>8} {:>8}",

@@ -43,6 +43,10 @@ const fn sign(name: &'static str) -> Kind {
     Kind { group: "signs", name, short: one(name), long: None }
 }
 
+const fn alphabet(name: &'static str, form: Form) -> Kind {
+    Kind { group: "alphabets", name, short: form, long: None }
+}
+
 const LETTERS: &str = "abcdefghijklmnopqrstuvwxyzABCDEFGHIJKLMNOPQRSTUVWXYZ";
 const WORDS: &str = "a few words ";
 
@@ -104,6 +108,22 @@ pub const KINDS: [Kind; 56] = [
     kind("quoted", "wide characters", "'é' ", one("'值' ")),
     kind("quoted", "symbols of names", "'a ", Form("'", LETTERS, 1, " ")),
     kind("quoted", "symbols of signs", "'+ ", Form("'", "+-*<>=!&|", 5, " ")),
+];
+
+// Comments and strings by the first bytes of their characters, C3, E0, E1 and E2 hex, and all of them mixed: what the UTF-8 check and the search for
+// direction marks go through. Chinese ones stand above; the mixture by chance goes without these.
+#[rustfmt::skip]
+const ALPHABETS: [Kind; 10] = [
+    alphabet("comments, accents", Form("// ", "été à Genève, où ça va très bien ", 3, "\n")),
+    alphabet("comments, Devanagari", Form("// ", "राशि शून्य से अधिक होनी चाहिए ", 2, "\n")),
+    alphabet("comments, Khmer", Form("// ", "ចំនួនទឹកប្រាក់ត្រូវតែធំជាងសូន្យ ", 2, "\n")),
+    alphabet("comments, U+2xxx", Form("// ", "⇒ – … ’ ≤ ∑ ", 5, "\n")),
+    alphabet("comments, mixed", Form("// ", "à payer – 金额 ≤ 10 € … राशि ⇒ ចំនួន ", 2, "\n")),
+    alphabet("strings, accents", Form("\"", "été à Genève, où ça va très bien ", 6, "\" ")),
+    alphabet("strings, Devanagari", Form("\"", "राशि शून्य से अधिक होनी चाहिए ", 4, "\" ")),
+    alphabet("strings, Khmer", Form("\"", "ចំនួនទឹកប្រាក់ត្រូវតែធំជាងសូន្យ ", 4, "\" ")),
+    alphabet("strings, U+2xxx", Form("\"", "⇒ – … ’ ≤ ∑ ", 10, "\" ")),
+    alphabet("strings, mixed", Form("\"", "à payer – 金额 ≤ 10 € … राशि ⇒ ចំនួន ", 4, "\" ")),
 ];
 
 const SIZES: [(&str, usize); 10] = [
@@ -203,7 +223,8 @@ fn forms(kind: &'static Kind) -> Vec<Row> {
 
 pub fn rows() -> Vec<Row> {
     static TABLE: [Kind; KINDS.len()] = KINDS;
-    let mut rows: Vec<Row> = TABLE.iter().flat_map(forms).collect();
+    static WIDE: [Kind; ALPHABETS.len()] = ALPHABETS;
+    let mut rows: Vec<Row> = TABLE.iter().chain(&WIDE).flat_map(forms).collect();
     let mut add = |group, name: &str, what| rows.push(Row { group, name: name.to_string(), what });
     add("mixtures", "contract", What::Contract("\n"));
     add("mixtures", "contract, CR LF", What::Contract("\r\n"));

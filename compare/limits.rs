@@ -1,13 +1,15 @@
-// Scripts at a contact's limits, REQUESTS, "Limits": of 4,095 to 4,097 bytes and of 511 to 513 tokens, with no other refusal and with each of 1 to 16 and 18.
+// Scripts at a contact's limits, REQUESTS, "Limits": of 4,095 to 4,097 bytes and of 511 to 513 tokens, with no other refusal and with each of 1 to 16, 18
+// and 29.
 use super::{wanted, CONTACT_BYTES, CONTACT_TOKENS, EXAMPLES, REFUSED};
 
-// What a script ends with: nothing, or what is refused by 1 to 16, in this order, or by 18.
+// What a script ends with: nothing, or what is refused by 1 to 16, in this order, or by 18 or 29.
 fn ends() -> Vec<&'static [u8]> {
     let mut ends: Vec<&[u8]> = vec![b""];
     ends.extend(EXAMPLES[REFUSED].iter().map(|text| text.as_bytes()));
     ends.push(b"a\xC0\x80");
+    ends.push(MARK);
     let numbers: Vec<u32> = ends.iter().map(|end| wanted(end).number).collect();
-    assert!(numbers.iter().copied().eq((0..=16).chain([18])), "an end that another number refuses: {numbers:?}");
+    assert!(numbers.iter().copied().eq((0..=16).chain([18, 29])), "an end that another number refuses: {numbers:?}");
     ends
 }
 
@@ -28,6 +30,13 @@ fn counted(token: &[u8], tokens: usize, end: &[u8]) -> Vec<u8> {
     script
 }
 
+// One that begins with a direction mark: so many bytes in all, or tokens beside it.
+const MARK: &[u8] = "\u{2066}".as_bytes();
+
+fn marked(script: Vec<u8>) -> Vec<u8> {
+    [MARK, &script].concat()
+}
+
 // Those that crates/replay replays.
 pub fn listed() -> Vec<Vec<u8>> {
     let tokens = CONTACT_TOKENS as usize;
@@ -42,6 +51,9 @@ pub fn listed() -> Vec<Vec<u8>> {
     list.push(filled(b' ', CONTACT_BYTES + 1, "\u{E9}".as_bytes()));
     list.push(vec![0xFF; CONTACT_BYTES]);
     list.push(vec![0xFF; 5000]);
+    list.extend((CONTACT_BYTES - 1..=CONTACT_BYTES + 1).map(|bytes| marked(filled(b' ', bytes - MARK.len(), b""))));
+    list.extend((tokens - 1..=tokens + 1).map(|count| marked(counted(TOKENS[0], count, b""))));
+    list.push(marked(filled(b' ', CONTACT_BYTES - MARK.len(), b"\xFF")));
     list
 }
 

@@ -182,7 +182,7 @@ fn joined(parts: &[&[u8]]) -> Vec<u8> {
 // ---- its scripts
 
 // For each sentence a few.
-const SENTENCES: [&str; 44] = [
+const SENTENCES: [&str; 46] = [
     // one line more than line ends
     "",
     "\n",
@@ -230,8 +230,10 @@ const SENTENCES: [&str; 44] = [
     // a tab is one character, and the line ends of other texts are none
     "\ta\t\n\t\tb",
     "\u{B}\u{C}\u{85}\u{2028}\u{2029}x",
-    // direction marks, which tokenizing may refuse
+    // direction marks, which tokenizing refuses, and their neighbours
     "\"\u{202E}\n\u{2066}\"",
+    "// \u{202A}\u{202B}\r\n/* \u{202C}\n\u{202D} */ `\u{2067}\n`\u{2068} '\u{2069}'",
+    "\u{2029}\u{202F}\n\u{2065}\u{206A}\r\n\u{200E}\u{200F}\u{61C}",
     "\0\n\0",
 ];
 
@@ -240,8 +242,9 @@ fn put_sentences(list: &mut List) {
     SENTENCES.iter().for_each(|script| list.put_whole(script.as_bytes()));
 }
 
-// What makes bytes no UTF-8: bytes that begin nothing, forms too long, surrogates, codes past the last, and sequences cut off.
-const NO_UTF8: [&[u8]; 26] = [
+// What makes bytes no UTF-8: bytes that begin nothing, forms too long, surrogates, codes past the last, sequences cut off, and
+// a byte too many, behind a direction mark too.
+const NO_UTF8: [&[u8]; 27] = [
     b"\x80",
     b"\xBF",
     b"\xC0\x80",
@@ -268,6 +271,7 @@ const NO_UTF8: [&[u8]; 26] = [
     b"\xF0\x9F\x98",
     b"\xF4\x8F\xBF",
     b"\xE2\x82\xAC\xAC",
+    b"\xE2\x80\xAE\xAE",
 ];
 
 fn put_no_utf8(list: &mut List) {

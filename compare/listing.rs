@@ -1,6 +1,6 @@
 // The cases that crates/listing_cases lists, and their listings by RULES, "Listing". A listing is written from the tokens of
 // the published tokenize, or from its error; no record bytes lie between.
-use super::{content, kind, refusal, EXAMPLES};
+use super::{content, kind, marks, refusal, EXAMPLES};
 use published::error::ParseError;
 use published::token::{tokenize, Token, TokenKind};
 use std::io::Write;
@@ -62,6 +62,10 @@ const KINDS: &[&str] = &[
 // Not UTF-8.
 const BYTES: &[&[u8]] = &[&[0x61, 0xC0, 0x80], &[0x22, 0xE4, 0xB8], &[0x0D, 0xED, 0xA0, 0x80], &[0xFF]];
 
+// With direction marks, and with their neighbours.
+const MARKED: &[&str] =
+    &["\u{202A}", "x // \u{202E}y\n\u{1}", "\u{1} \"\u{2066}\u{2069}\"", "`\u{2029}\u{202F}` \"\u{2065}\u{206A}\" '\u{200E}' /* \u{200F}\u{61C} */"];
+
 fn cases() -> Vec<Vec<u8>> {
     let texts = EXAMPLES.iter().chain(TRAPS).chain(KINDS);
     let mut list: Vec<Vec<u8>> = texts.map(|text| text.as_bytes().to_vec()).collect();
@@ -71,6 +75,8 @@ fn cases() -> Vec<Vec<u8>> {
     list.push([vec![b'a'; MOST_BYTES - 1], vec![b'"']].concat());
     list.push(vec![b' '; MOST_BYTES + 1]);
     list.push(vec![0xFF; MOST_BYTES + 1]);
+    list.extend(MARKED.iter().map(|text| text.as_bytes().to_vec()));
+    list.push(["\u{202E}".as_bytes(), b"\xFF"].concat());
     list
 }
 
@@ -101,6 +107,9 @@ fn listing(script: &[u8]) -> String {
         Ok(text) => text,
         Err(e) => return format!("refused 18 at {}\n", e.valid_up_to()),
     };
+    if let Some(place) = marks::first_mark(text) {
+        return format!("refused 29 at {place}\n");
+    }
     match tokenize(text) {
         Ok(tokens) => tokens.iter().map(|token| line(text, token)).collect(),
         Err(ParseError::Lexical { pos, msg }) => format!("refused {} at {pos}\n", refusal(&msg)),

@@ -100,6 +100,8 @@ pub fn cases() -> Vec<(Vec<u8>, Told)> {
         (b"7+2147483648".to_vec(), refused(6, 2)),
         (b"7 8L \"a\"\n\x01".to_vec(), refused(3, 9)),
         (b"7 8L \"a\"\nab\xE4".to_vec(), refused(18, 11)),
+        ("7 8L \"a\u{202E}\u{2069}\"\n\u{1}".as_bytes().to_vec(), refused(29, 7)),
+        ("7 8L \"a\u{202F}\"".as_bytes().to_vec(), [0, 0, 4, 72, 1, 1, 1, 0]),
         (vec![b' '; LIMIT + 1], refused(17, 0)),
         (vec![0xFF; LIMIT + 1], refused(17, 0)),
         (Vec::new(), [0, 0, 1, 13, 0, 0, 0, 0]),

@@ -7,7 +7,7 @@ pub struct Alphabet {
     pub length: u32,
 }
 
-pub const ALPHABETS: [Alphabet; 16] = [
+pub const ALPHABETS: [Alphabet; 17] = [
     Alphabet { name: "quotes and escapes", pieces: &["\"", "\\", "u", "1", "F", "\n", "'", "]"], length: 7 },
     Alphabet { name: "quotes alone", pieces: &["\"", "a", "\\"], length: 12 },
     Alphabet { name: "slashes, stars and line ends", pieces: &["/", "*", "\n", "\r", " ", "\t", "a"], length: 7 },
@@ -52,6 +52,11 @@ pub const ALPHABETS: [Alphabet; 16] = [
     },
     Alphabet { name: "keyword signs", pieces: &["=>", "=", ":", "#", "@", "/", "*", "\u{21D2}", " ", "'"], length: 5 },
     Alphabet { name: "single signs", pieces: &["(", ")", "[", "]", "{", "}", ",", ";", ".", "'", "\"", "\u{0}"], length: 5 },
+    Alphabet {
+        name: "direction marks and their neighbours",
+        pieces: &["\u{202A}", "\u{2069}", "\u{2029}", "\u{202F}", "\u{206A}", "\"", "`", "'", "//", "/*", "*/", "\n"],
+        length: 5,
+    },
 ];
 
 impl Alphabet {

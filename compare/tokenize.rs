@@ -6,10 +6,15 @@
 //     tokenize --cases                  print what crates/listing_cases/stdin is to hold
 //     tokenize --listing                print its listings, for crates/listing_cases/stdout; only the published tokenize is asked
 //
-// Refusals 1 to 16, every record byte and the counts of measuring are judged by tokenize; 17 to 21, 27 and 28, the answer blocks and the bytes past
-// the records by what RULES and REQUESTS say of them.
+// Refusals 1 to 16, every record byte and the counts of measuring are judged by tokenize; 17 to 21, 27 to 29, the answer blocks and the bytes past
+// the records by what RULES and REQUESTS say of them. tokenize takes direction marks, so its answer to a script that has one is not what is wanted: the
+// first mark is searched for here (marks.rs). Its tokens of such a script are used for what marks do not change (kept.rs): there rolls and lines
+// are asked too.
+#[cfg(whole)]
+mod kept;
 mod limits;
 mod listing;
+mod marks;
 mod measure;
 mod scripts;
 
@@ -200,6 +205,9 @@ fn answered(script: &[u8]) -> Wanted {
         Ok(text) => text,
         Err(e) => return refused(18, e.valid_up_to()),
     };
+    if let Some(place) = marks::first_mark(text) {
+        return refused(29, place);
+    }
     match tokenize(text) {
         Ok(tokens) => {
             let records = records(text, &tokens);
@@ -274,13 +282,15 @@ mod compare {
     pub struct Bench {
         scripts: u64,
         accepted: u64, // of the scripts that were tokenized
+        marked: u64,   // scripts that 29 refuses
         calls: u64,
         measured: u64, // of the calls, those of ergo_measure
         differed: u64, // scripts
         faults: u64,   // calls
         measure_faults: u64,
+        rolls: u64,      // of scripts with marks, read back
         greatest: usize, // need of a contact
-        numbers: [u64; 29],
+        numbers: [u64; 30],
         shown: Vec<String>,
         lent: Vec<u8>,
         before: Vec<u8>,
@@ -294,6 +304,11 @@ mod compare {
             if self.faults <= MOST_SHOWN {
                 self.shown.push(what);
             }
+        }
+
+        // Counts a script that 29 refuses.
+        fn marked(&mut self, want: &Wanted) {
+            self.marked += (want.number == 29) as u64;
         }
 
         // Counts a script, and whether any of its calls differs.
@@ -354,6 +369,7 @@ mod compare {
         pub fn script(&mut self, script: &[u8], number: u64) {
             let want = wanted(script);
             let need = want.bytes as usize;
+            self.marked(&want);
             self.accepted += (want.number == 0) as u64;
             let ample = if want.number == 0 { need + 5 } else { bound(script.len()) };
             let (lent, block) = match number % 8 {
@@ -380,6 +396,7 @@ mod compare {
         pub fn lengths(&mut self, script: &[u8]) {
             let want = wanted(script);
             let need = want.bytes as usize;
+            self.marked(&want);
             self.counted(|bench| {
                 for entry in ENTRIES {
                     for lent in 0..=need + 1 {
@@ -469,6 +486,18 @@ mod compare {
             });
         }
 
+        // What the other exports say of a script with a mark.
+        #[cfg(whole)]
+        pub fn kept(&mut self, script: &[u8]) {
+            let kept = kept::Kept::of(script);
+            if kept.calls == 0 {
+                return;
+            }
+            self.calls += kept.calls;
+            self.rolls += kept.rolls;
+            self.counted(|bench| kept.faults.into_iter().for_each(|what| bench.note(what)));
+        }
+
         // A script at a contact's limits, with what it needs and with what is enough for every contact.
         pub fn limit(&mut self, script: &[u8]) {
             let want = wanted(script);
@@ -483,6 +512,7 @@ mod compare {
 
         // Calls of both functions with buffers and blocks of given lengths, and of ergo_measure.
         pub fn at(&mut self, script: &[u8], want: &Wanted, lengths: &[(usize, usize)], masks: &[u8]) {
+            self.marked(want);
             self.counted(|bench| {
                 for entry in ENTRIES {
                     for &(lent, block) in lengths {
@@ -500,11 +530,13 @@ mod compare {
         fn join(&mut self, other: Bench) {
             self.scripts += other.scripts;
             self.accepted += other.accepted;
+            self.marked += other.marked;
             self.calls += other.calls;
             self.measured += other.measured;
             self.differed += other.differed;
             self.faults += other.faults;
             self.measure_faults += other.measure_faults;
+            self.rolls += other.rolls;
             self.greatest = self.greatest.max(other.greatest);
             self.shown.extend(other.shown);
             for (mine, theirs) in self.numbers.iter_mut().zip(other.numbers) {
@@ -519,14 +551,17 @@ mod compare {
         }
 
         pub fn say(&self, name: &str) {
-            let accepted = if self.accepted > 0 { format!(", {} of them accepted", self.accepted) } else { String::new() };
-            println!("{name}: {} scripts compared{accepted}, {} calls, {} differed", self.scripts, self.calls, self.differed);
+            let some = |count, what: &str| if count > 0 { format!(", {count} {what}") } else { String::new() };
+            let (accepted, marked) = (some(self.accepted, "of them accepted"), some(self.marked, "refused by 29"));
+            println!("{name}: {} scripts compared{accepted}{marked}, {} calls, {} differed", self.scripts, self.calls, self.differed);
         }
 
         pub fn say_numbers(&self) {
-            let met: Vec<String> = (0..22).chain(27..29).map(|n| format!("{n}: {}", self.numbers[n])).collect();
+            let met: Vec<String> = (0..22).chain(27..30).map(|n| format!("{n}: {}", self.numbers[n])).collect();
             println!("numbers wanted, with how many calls each: {}", met.join(", "));
             println!("ergo_measure: {} of the calls, {} differed", self.measured, self.measure_faults);
+            let read = if cfg!(whole) { format!(", and {} rolls of such read back", self.rolls) } else { String::new() };
+            println!("scripts with direction marks: {} refused by 29{read}", self.marked);
             println!("the greatest need of a contact at the limits: {} record bytes", self.greatest);
             assert_eq!(self.greatest, CONTACT_RECORDS, "what is enough for every contact is more than any needs");
         }
@@ -651,7 +686,13 @@ fn long_scripts(bench: &mut compare::Bench) {
     scripts.push(vec![b'\n'; LIMIT + 1]);
     let mut spoilt = vec![b' '; LIMIT + 1];
     spoilt[LIMIT - 1] = 0xE4;
-    scripts.push(spoilt);
+    scripts.push(spoilt.clone());
+    // 17 goes before 29 and 29 behind 18, however far the mark stands from the end.
+    let mark = "\u{202E}".as_bytes();
+    scripts.push([mark, &spoilt[3..]].concat());
+    scripts.push([mark, &vec![b' '; LIMIT - 2]].concat());
+    scripts.push([&vec![b' '; LIMIT - 3], mark, b" "].concat());
+    scripts.push("\u{4E00}".bytes().cycle().take(LIMIT - 4).chain(*b" ").chain(mark.iter().copied()).chain(*b" ").collect());
     for script in &scripts {
         let longest = &script[..script.len().min(LIMIT)];
         let want = wanted(longest);
@@ -693,6 +734,11 @@ fn compare_random(all: &mut compare::Bench, count: u64, seed: u64) {
         random.0 ^= i % 3;
         bench.script(&scripts::damaged(&mut random, &script), i);
     });
+    part(all, &format!("random texts with direction marks and their neighbours, seed {seed}"), count, |bench, i| {
+        let (mut random, script) = random_script(!seed, i);
+        let script = marks::marked(&mut random, &script);
+        bench.script(&if i % 4 == 0 { scripts::damaged(&mut random, &script) } else { script }, i);
+    });
     part(all, "random texts, each length of buffer and block", 40, |bench, i| {
         let mut random = Random(seed ^ i);
         bench.lengths(&contract(&mut random, i as usize));
@@ -701,10 +747,45 @@ fn compare_random(all: &mut compare::Bench, count: u64, seed: u64) {
         let mut random = Random(!seed ^ i);
         let length = random.below(30);
         let script = contract(&mut random, length);
-        let script = if i % 2 == 0 { script } else { scripts::damaged(&mut random, &script) };
+        let script = match i % 3 {
+            0 => script,
+            1 => scripts::damaged(&mut random, &script),
+            _ => marks::marked(&mut random, &script),
+        };
         bench.texts(&script[..script.len().min(60)]);
     });
 }
+
+// Scripts with direction marks and their neighbours.
+#[cfg(linked)]
+fn compare_marks(all: &mut compare::Bench) {
+    use compare::part;
+    let mut each = |name: &str, list: Vec<Vec<u8>>| part(all, name, list.len() as u64, |bench, i| bench.script(&list[i as usize], i));
+    each("direction marks and their neighbours in each kind of piece", marks::in_pieces());
+    each("before and behind what is refused by 1 to 16 and 18", [marks::beside_refused(), marks::pieces_beside_refused()].concat());
+    each("at each offset, beside characters of each width", marks::at_offsets());
+    each("marks before bytes that are no UTF-8", marks::before_spoilt());
+    part(all, "every two pieces with marks or neighbours", marks::PAIRS, |bench, i| bench.script(&marks::pair(i), i));
+    part(all, "every three bytes that begin as a character of three, alone and beside others", marks::THREES, |bench, i| {
+        bench.script(&marks::three(i), i)
+    });
+    let pieces = marks::in_pieces();
+    part(all, "marks and neighbours, each length of buffer and block", pieces.len() as u64 / 7, |bench, i| bench.lengths(&pieces[7 * i as usize]));
+}
+
+// What is kept of them: rolls, lines and token texts.
+#[cfg(whole)]
+fn compare_kept(all: &mut compare::Bench, count: u64, seed: u64) {
+    use compare::part;
+    part(all, "roll, lines and token texts of every two pieces with marks", marks::PAIRS, |bench, i| bench.kept(&marks::pair(i)));
+    part(all, &format!("roll, lines and token texts of random texts with marks, seed {seed}"), count / 4, |bench, i| {
+        let (mut random, script) = random_script(!seed, i);
+        bench.kept(&marks::marked(&mut random, &script));
+    });
+}
+
+#[cfg(all(linked, not(whole)))]
+fn compare_kept(_: &mut compare::Bench, _: u64, _: u64) {}
 
 #[cfg(linked)]
 fn compare_all(count: u64, seed: u64) {
@@ -715,7 +796,9 @@ fn compare_all(count: u64, seed: u64) {
         bench.lengths(EXAMPLES[i as usize].as_bytes())
     });
     compare_short(&mut all);
+    compare_marks(&mut all);
     compare_random(&mut all, count, seed);
+    compare_kept(&mut all, count, seed);
     let contacts = limits::compared();
     part(&mut all, "scripts at a contact's limits", contacts.len() as u64, |bench, i| bench.limit(&contacts[i as usize]));
     let cases = measure::cases();
@@ -738,7 +821,7 @@ fn compare_all(_count: u64, _seed: u64) {
 }
 
 // One case of the list that crates/replay/src/main.rt replays, whose format is written there.
-fn put_case(out: &mut Vec<u8>, entry: Entry, script: &[u8], want: &Wanted, lent: usize) {
+fn put_case(out: &mut Vec<u8>, entry: Entry, script: &[u8], want: &Wanted, lent: usize) -> u32 {
     let number = want.number_at(entry, lent, 16);
     out.extend((script.len() as u32).to_le_bytes());
     out.extend((lent as u32).to_le_bytes());
@@ -748,6 +831,7 @@ fn put_case(out: &mut Vec<u8>, entry: Entry, script: &[u8], want: &Wanted, lent:
     if number == 0 {
         out.extend_from_slice(&want.records);
     }
+    number
 }
 
 // Awkward characters of every sort.
@@ -763,7 +847,8 @@ fn put_texts(list: &mut Vec<Vec<u8>>, pieces: &'static [&'static str], length: u
     }
 }
 
-// The scripts of the list: the examples, each byte, every short text of some alphabets, some wide characters in each role, and random texts.
+// The scripts of the list: the examples, each byte, every short text of some alphabets, some wide characters in each role, random texts, and
+// direction marks and their neighbours in each piece and beside each refusal.
 fn listed_scripts() -> Vec<Vec<u8>> {
     let mut list: Vec<Vec<u8>> = EXAMPLES.iter().map(|text| text.as_bytes().to_vec()).collect();
     list.extend((0..=255).map(|byte| vec![byte]));
@@ -785,6 +870,7 @@ fn listed_scripts() -> Vec<Vec<u8>> {
         }
         list.push(script);
     }
+    list.extend(marks::listed());
     list
 }
 
@@ -792,8 +878,13 @@ fn listed_scripts() -> Vec<Vec<u8>> {
 // all at the limits of one, which are lent what is enough for every contact, and, where tokenize takes them, a byte too little and nothing.
 fn print_list() {
     let mut out = Vec::new();
-    let scripts = listed_scripts();
-    for (i, script) in scripts.iter().enumerate() {
+    let (mut cases, mut marked) = (0, 0);
+    let mut put = |entry, script: &[u8], want: &Wanted, lent| {
+        let number = put_case(&mut out, entry, script, want, lent);
+        cases += 1;
+        marked += (number == 29) as u32;
+    };
+    for (i, script) in listed_scripts().iter().enumerate() {
         let want = wanted(script);
         let lent = match i % 4 {
             0 if want.bytes > 0 => want.bytes as usize - 1,
@@ -801,13 +892,8 @@ fn print_list() {
             _ => want.bytes as usize,
         };
         let entry = if i % 3 == 2 { Entry::Contact } else { Entry::Compiler };
-        put_case(&mut out, entry, script, &want, lent);
+        put(entry, script, &want, lent);
     }
-    let mut cases = scripts.len();
-    let mut put = |entry, script: &[u8], want: &Wanted, lent| {
-        put_case(&mut out, entry, script, want, lent);
-        cases += 1;
-    };
     for script in &limits::listed() {
         let want = wanted(script);
         put(Entry::Contact, script, &want, CONTACT_RECORDS);
@@ -823,11 +909,12 @@ fn print_list() {
         }
     }
     std::io::stdout().write_all(&out).unwrap();
-    eprintln!("tokenize: {cases} scripts listed, {} bytes", out.len());
+    eprintln!("tokenize: {cases} scripts listed, {marked} refused by 29, {} bytes", out.len());
 }
 
 fn main() {
     assert_eq!(char::UNICODE_VERSION, (16, 0, 0), "a rustc of another Unicode is no judge of the classes: set RUSTC");
+    marks::check();
     let (mut count, mut seed) = (100_000, 1);
     let mut args = std::env::args().skip(1);
     while let Some(option) = args.next() {

@@ -1,12 +1,12 @@
 /* ErgoScript tokens as records: the eight functions of crates/ergo, for C and C++. `rt lib`, in that folder, makes the library,
  * crates/ergo/out/libergo.a, for Linux on x86-64 processors of level v2 (SSE4.2). Tokenizing takes at most some 9 kB of stack, measuring
- * some 300 bytes, reading stored records some 200, lines and columns less. The library allocates nothing, and calls nothing but memmove and memset,
+ * some 350 bytes, reading stored records some 200, lines and columns less. The library allocates nothing, and calls nothing but memmove and memset,
  * which the compiler puts in; a host without a C library must have these two. It keeps nothing between calls: calls from several threads at once
  * are fine as long as no two of them lend the same bytes for writing.
  *
- * All places are byte offsets from 0: those of tokens and of refusals 1 to 18 into the script, those of refusals 22 to 24 into the roll. All
- * numbers in records and answer blocks are unsigned and little-endian. Those of an index of line starts are uint32_t, in the machine's own byte
- * order. */
+ * All places are byte offsets from 0: those of tokens and of refusals 1 to 18 and 29 into the script, those of refusals 22 to 24 into the roll.
+ * All numbers in records and answer blocks are unsigned and little-endian. Those of an index of line starts are uint32_t, in the machine's own
+ * byte order. */
 #ifndef ERGO_TOKEN_H
 #define ERGO_TOKEN_H
 
@@ -23,11 +23,15 @@ extern "C" {
  * The k bytes at answer are the answer block; k must be ERGO_ANSWER_BYTES. It gets four numbers of 4 bytes each:
  *
  *     at 0   the number that is handed back
- *     at 4   the place of the refusal, for 1 to 16 and 18
+ *     at 4   the place of the refusal, for 1 to 16, 18 and 29
  *     at 8   the token count, line ends and Eof included, for 0 and 19
  *     at 12  the record bytes: how many all records take, for 0 and 19
  *
  * and 0 where nothing is to be said. With any other k the block keeps its values.
+ *
+ * The order of refusals is 20, 17, 18, 29, then the first of 1 to 16, then 19. So a script of UTF-8 and at most ERGO_SCRIPT_LIMIT bytes in which a
+ * direction mark stands is refused by ERGO_DIRECTION_MARK (29) at the first one, wherever that is, and whatever of 1 to 16 is met further left: marks
+ * make a comment or a string look other than it reads. A stored roll of such a script is read like any other.
  *
  * The buffer: ERGO_RECORD_BOUND(n) bytes are enough for every script of n bytes. ergo_measure tells the exact need, with the counts that it
  * comes from. A call with m = 0 tells the need too: an acceptable script is answered 19, with token count and record bytes in the block. A call
@@ -43,8 +47,8 @@ uint32_t ergo_tokenize(const uint8_t *script, size_t n, uint8_t *records, size_t
  * bytes still by 17. One that would else be accepted, but has more than ERGO_CONTACT_TOKENS tokens, line ends and Eof included, is refused by
  * ERGO_TOO_MANY_TOKENS (28). Of 27 and 28 the place is 0, and so are the two numbers behind it.
  *
- * The order of refusals is 20, then 17, 27, 18, then the first of 1 to 16, then 28, then 19: 5,000 bytes that are not UTF-8 are refused by 27, and an
- * open string behind 600 tokens by 7. 28 also comes where no buffer is lent.
+ * The order of refusals is 20, then 17, 27, 18, 29, then the first of 1 to 16, then 28, then 19: 5,000 bytes that are not UTF-8 are refused by 27, an
+ * open string behind 600 tokens by 7, and that with a direction mark in it by 29. 28 also comes where no buffer is lent.
  *
  * The buffer: ERGO_CONTACT_RECORDS bytes are enough for every contact, so that one call does, and 19 never comes. */
 uint32_t ergo_tokenize_contact(const uint8_t *script, size_t n, uint8_t *records, size_t m, uint8_t *answer, size_t k);
@@ -54,7 +58,7 @@ uint32_t ergo_tokenize_contact(const uint8_t *script, size_t n, uint8_t *records
  * gives, with the same place. The k bytes at answer are the answer block; k must be ERGO_MEASURE_BYTES. It gets eight numbers of 4 bytes each:
  *
  *     at ERGO_ANSWER_AT_NUMBER        the number that is handed back
- *     at ERGO_ANSWER_AT_PLACE         the place of the refusal, for 1 to 16 and 18
+ *     at ERGO_ANSWER_AT_PLACE         the place of the refusal, for 1 to 16, 18 and 29
  *     at ERGO_ANSWER_AT_COUNT         the token count, line ends and Eof included
  *     at ERGO_ANSWER_AT_RECORD_BYTES  the record bytes: ERGO_NEED of the counts here
  *     at ERGO_MEASURE_AT_INT_LITS     how many tokens are IntLits
@@ -63,7 +67,7 @@ uint32_t ergo_tokenize_contact(const uint8_t *script, size_t n, uint8_t *records
  *     at ERGO_MEASURE_AT_NEWLINES     how many are Newlines
  *
  * and 0 where nothing is to be said: on a refusal everything behind the place is 0. With any other k the answer is 20 and the block keeps its
- * values. The order of refusals is 20, 17, 18, then the first of 1 to 16; 19, 27 and 28 never come.
+ * values. The order of refusals is 20, 17, 18, 29, then the first of 1 to 16; 19, 27 and 28 never come.
  *
  * To reserve no more than is needed: measure, reserve the record bytes, and lend ergo_tokenize just these. It then accepts the script.
  *
@@ -73,12 +77,14 @@ uint32_t ergo_measure(const uint8_t *script, size_t n, uint8_t *answer, size_t k
 
 /* Whether the bytes of the script from start to end (end not included) are a text: 0 if so, else ERGO_TOKEN_TEXT (21). A token's text is then
  * script + start, of end - start bytes. It is 21 where start is past end, end is past n, or either lies inside a character: on a byte 0x80 to
- * 0xBF. The start and end of every record are answered 0. */
+ * 0xBF. The start and end of every record are answered 0. Nothing else is judged: a text of a script that is refused may hold direction marks, so
+ * show these by their numbers. */
 uint32_t ergo_token_text(const uint8_t *script, size_t n, uint32_t start, uint32_t end);
 
 /* Reads a stored roll, without its script: the n bytes at roll are to be the records of one script, as ergo_tokenize or ergo_tokenize_contact writes
  * them. The answer is 0 where every record can be read and the roll ends with its only Eof; else it is 22, 23 or 24, whichever is met first from the
- * roll's start on. The k bytes at answer are the answer block; k must be ERGO_ANSWER_BYTES. It gets four numbers of 4 bytes each:
+ * roll's start on. What only the script could tell is not judged: a roll stays readable where its script would now be refused by 29. The k bytes at
+ * answer are the answer block; k must be ERGO_ANSWER_BYTES. It gets four numbers of 4 bytes each:
  *
  *     at 0   the number that is handed back
  *     at 4   the place of the refusal: the offset of the record, or as ergo_number says of 24
@@ -119,7 +125,8 @@ uint32_t ergo_read_record(const uint8_t *roll, size_t n, uint32_t at, uint32_t p
 
 /* Builds the index of line starts of the n bytes at script: the place where each line starts, in order, the first of them 0. LF and CR LF end a
  * line everywhere, also inside strings, comments and backticks; a CR alone ends none. So a script has one line more than it has line ends, and at
- * least one. Of the script only length and UTF-8 are judged: it need not be one that ergo_tokenize accepts.
+ * least one. Of the script only length and UTF-8 are judged: it need not be one that ergo_tokenize accepts. So the line of a refusal, of 1 to 16 or of
+ * a direction mark (29), can be shown.
  *
  * Where the answer is 0, the starts are the first of the m numbers at index, and the numbers past them keep their values. On every refusal all m
  * numbers keep their values. The k bytes at answer are the answer block; k must be ERGO_ANSWER_BYTES. It gets four numbers of 4 bytes each:
@@ -154,7 +161,7 @@ uint32_t ergo_index_lines(const uint8_t *script, size_t n, uint32_t *index, size
  *
  * and 0 where nothing is to be said: on a refusal everything behind the place is 0, also at 26. With any other k the answer is 20 and the block
  * keeps its values. The order is 20, 17, 18, 25, 26. To show the place of an 18, ask over the bytes before it, n being that place: they are UTF-8,
- * and their end has the same line and column.
+ * and their end has the same line and column. The places of 1 to 16 and of 29 can be asked for as they are.
  *
  * Only the first numbers of the index are looked at, as many as the script has lines; the others may be anything. Over other numbers than the
  * script's own starts a query still ends, with some line from 1 to the number of lines and some column from 1 to one more than the place:
@@ -278,7 +285,7 @@ enum ergo_kind {
     ERGO_KW_AT = 45         /* @ */
 };
 
-/* The numbers handed back, each with the place that the block gives and what to do: for 1 to 16 the script's author, for 17 to 21 the host's,
+/* The numbers handed back, each with the place that the block gives and what to do: for 1 to 16 and 29 the script's author, for 17 to 21 the host's,
  * for 22 to 24, which only ergo_read_roll and ergo_read_record give, whoever keeps the stored roll, for 25 and 26, which only
  * ergo_index_lines and ergo_line_column give, the host's author again, and for 27 and 28, which only ergo_tokenize_contact gives, the author of the
  * contact's script. */
@@ -318,8 +325,11 @@ enum ergo_number {
     ERGO_SHORT_INDEX = 26,       /* 0: fewer numbers were lent than the script has lines; lend as many as ergo_index_lines says at
                                   * ERGO_ANSWER_AT_LINES */
     ERGO_OVER_LIMIT = 27,        /* 0: the contact has more than ERGO_CONTACT_BYTES bytes; shorten it */
-    ERGO_TOO_MANY_TOKENS = 28    /* 0: the contact has more than ERGO_CONTACT_TOKENS tokens, line ends and Eof included; use fewer, and take out
+    ERGO_TOO_MANY_TOKENS = 28,   /* 0: the contact has more than ERGO_CONTACT_TOKENS tokens, line ends and Eof included; use fewer, and take out
                                   * empty lines: each costs a token */
+    ERGO_DIRECTION_MARK = 29     /* the first mark: one of the nine characters U+202A to U+202E and U+2066 to U+2069, which may stand nowhere in a
+                                  * script; take it out, or write its escape, as \u202A, in a character or in a string that opens by one " and has no
+                                  * prefix */
 };
 
 #ifdef __cplusplus

@@ -16,6 +16,13 @@
 //! // A place has a line and a column.
 //! let at = ergo_token::position(b"x\n= 7", 4).expect("a refusal");
 //! assert_eq!((at.line, at.column), (2, 3));
+//!
+//! // So has a direction mark, for which a script is refused wherever it stands, in a comment too.
+//! let script = "x\n// \u{202E}".as_bytes();
+//! let refusal = ergo_token::tokenize(script).unwrap_err();
+//! assert_eq!((refusal.number, refusal.place), (29, 5));
+//! let at = ergo_token::position(script, refusal.place).expect("a refusal");
+//! assert_eq!((at.line, at.column), (2, 4));
 //! ```
 //!
 //! No function here panics, whatever the bytes. Memory aside (the records of a script of n bytes take at most [`record_bound`]`(n)` bytes),
@@ -31,7 +38,7 @@ mod view;
 pub use lines::{position, Lines, Position, Positions};
 pub use refusal::Refusal;
 pub use roll::Roll;
-pub use view::{view, view_contact};
+pub use view::{shown, view, view_contact};
 
 /// A longer script is refused by 17.
 pub const SCRIPT_LIMIT: usize = 16_777_216;
@@ -193,7 +200,8 @@ pub fn tokenize_contact(script: &[u8]) -> Result<Tokens<'_>, Refusal> {
 }
 
 /// The text of the script from `start` to `end` (`end` not included), or refusal 21 where `start` is past `end`, `end` is past the script, or
-/// either lies inside a character. Nothing is said of the bytes between; in a script that [`tokenize`] accepts they are UTF-8.
+/// either lies inside a character. Nothing is said of the bytes between; in a script that [`tokenize`] accepts they are UTF-8 without direction marks.
+/// [`shown`] makes a text of any other script safe to print.
 pub fn token_text(script: &[u8], start: u32, end: u32) -> Result<&[u8], Refusal> {
     // SAFETY: the slice is valid for its length, and only read.
     let number = unsafe { sys::ergo_token_text(script.as_ptr(), script.len(), start, end) };

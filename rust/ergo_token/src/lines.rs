@@ -51,8 +51,8 @@ pub struct Lines<'s> {
 }
 
 impl<'s> Lines<'s> {
-    /// The index of a script, or why there is none: 17 or 18. Nothing else of the script is judged. It asks for the number of lines first, and then
-    /// lends just as many numbers.
+    /// The index of a script, or why there is none: 17 or 18. Nothing else of the script is judged, so that one refused by 1 to 16 or by 29 has lines
+    /// too. It asks for the number of lines first, and then lends just as many numbers.
     pub fn index(script: &'s [u8]) -> Result<Lines<'s>, Refusal> {
         let mut starts = match build(script, &mut []) {
             (26, _, lines) => vec![0; lines as usize],

@@ -7,8 +7,9 @@ pub struct Refusal {
     /// 1 to 16: the script is no sequence of tokens. 17: it is too long. 18: it is not UTF-8. 19, of [`write`](crate::write) only: too few bytes
     /// were lent. 21: of [`token_text`](crate::token_text) only. 22 to 24, of [`Roll::read`](crate::Roll::read) only: the stored roll can't be
     /// read. 25, where a position is asked for: the place is past the script's end or inside a character. 27 and 28, of
-    /// [`tokenize_contact`](crate::tokenize_contact) only: the contact has too many bytes or tokens. (20, a wrong answer block, and 26, too few
-    /// numbers for the index of lines, do not occur here.)
+    /// [`tokenize_contact`](crate::tokenize_contact) only: the contact has too many bytes or tokens. 29: a direction mark, U+202A to U+202E or U+2066
+    /// to U+2069, stands in the script, and whether it is a sequence of tokens is not asked. (20, a wrong answer block, and 26, too few numbers for
+    /// the index of lines, do not occur here.)
     pub number: u32,
     /// A byte offset from 0 into the script, or for 22 to 24 into the roll, modulo 2^32; 0 where the header names none.
     pub place: u32,
@@ -75,6 +76,11 @@ impl Refusal {
             28 => (
                 "the contact has more than 512 tokens, line ends and the script's end included",
                 "use fewer tokens, and take out empty lines: each costs a token",
+            ),
+            29 => (
+                "a direction mark, which makes the script look other than it reads",
+                "take it out; in a character, or in a string that opens by one \" and has no prefix, its escape, \\u and four hex digits, can stand in \
+                 its place",
             ),
             _ => ("the library's header knows no such refusal", "link the libergo.a that this wrapper was written for"),
         }

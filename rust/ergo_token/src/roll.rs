@@ -23,7 +23,7 @@ pub struct Roll<'r> {
 
 impl<'r> Roll<'r> {
     /// Reads a roll, or tells by 22, 23 or 24 why it can't be read; the place is then an offset into the roll. Nothing that needs the script is
-    /// judged.
+    /// judged: the roll of a script that is now refused by 29 stays readable.
     pub fn read(records: &'r [u8]) -> Result<Roll<'r>, Refusal> {
         let mut answer = [0u8; 16];
         // SAFETY: both slices are valid for their lengths, and the one that is lent for writing is borrowed for it, so they don't overlap.

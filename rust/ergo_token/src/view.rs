@@ -12,21 +12,32 @@ cut: between that line end and this token stands a block comment that, past spac
 go on over a soft line end, after an operator for instance, does not go on over this one. End the line after the comment, or put the
 comment before the line end.";
 
-// A character as it is shown: one that a reader would not see, or that would move the others, by its number. A tab stays.
-fn shown(c: char) -> String {
-    let unseen =
-        matches!(c, '\u{AD}' | '\u{61C}' | '\u{180E}' | '\u{200B}'..='\u{200F}' | '\u{2028}'..='\u{202E}' | '\u{2060}'..='\u{206F}' | '\u{FEFF}');
-    if c.is_control() && c != '\t' || unseen {
-        format!("<U+{:04X}>", c as u32)
+// A character as it is shown: by its number if a reader would not see it, could not tell it from a space, or would see others moved by it. Printed
+// raw, a direction mark would do to what is shown what it is refused for, and a control could steer the terminal. A space and a tab stay.
+fn character(c: char) -> String {
+    // Unicode's Default_Ignorable_Code_Point, the nine direction marks among them, and the marks of annotations, U+FFF9 to U+FFFB.
+    let unseen = matches!(
+        c,
+        '\u{AD}' | '\u{34F}' | '\u{61C}' | '\u{115F}' | '\u{1160}' | '\u{17B4}' | '\u{17B5}' | '\u{180B}'..='\u{180F}' | '\u{200B}'..='\u{200F}'
+            | '\u{202A}'..='\u{202E}' | '\u{2060}'..='\u{206F}' | '\u{3164}' | '\u{FE00}'..='\u{FE0F}' | '\u{FEFF}' | '\u{FFA0}'
+            | '\u{FFF0}'..='\u{FFFB}' | '\u{1BCA0}'..='\u{1BCA3}' | '\u{1D173}'..='\u{1D17A}' | '\u{E0000}'..='\u{E0FFF}'
+    );
+    let blank = c.is_whitespace() || c.is_control();
+    if unseen || blank && c != ' ' && c != '\t' {
+        format!("<{}>", code(c))
     } else {
         c.to_string()
     }
 }
 
+fn code(c: char) -> String {
+    format!("U+{:04X}", c as u32)
+}
+
 // The first characters of a text.
 fn shown_text(text: &str) -> String {
     let mut characters = text.chars();
-    let mut out: String = characters.by_ref().take(SHOWN).map(shown).collect();
+    let mut out: String = characters.by_ref().take(SHOWN).map(character).collect();
     if characters.next().is_some() {
         out.push_str(" ...");
     }
@@ -45,12 +56,23 @@ fn pieces(bytes: &[u8]) -> Vec<String> {
                 (good, error.error_len().unwrap_or(rest.len() - good.len()))
             }
         };
-        out.extend(good.chars().map(shown));
+        out.extend(good.chars().map(character));
         let end = good.len() + bad;
         out.extend(rest.get(good.len()..end).unwrap_or_default().iter().map(|byte| format!("<{byte:02X}>")));
         rest = rest.get(end..).unwrap_or_default();
     }
     out
+}
+
+/// A text on one line, UTF-8 or not, so that it can be printed: by its number each character that a reader would not see, could not tell from a space, or
+/// would see others moved by, as a direction mark, and by its value each byte that is not UTF-8. A tab stays. [`view`] shows all texts like this.
+///
+/// ```
+/// assert_eq!(ergo_token::shown("a\u{202E}b\n".as_bytes()), "a<U+202E>b<U+000A>");
+/// assert_eq!(ergo_token::shown(b"\xFF"), "<FF>");
+/// ```
+pub fn shown(text: &[u8]) -> String {
+    pieces(text).concat()
 }
 
 // The last bytes of a text, enough of them, from a character's start on.
@@ -123,9 +145,12 @@ fn refused(out: &mut impl Write, script: &[u8], refusal: Refusal) -> io::Result<
     let (head, tail) = script.split_at((refusal.place as usize).min(script.len()));
     // Line and column of the place are those of the end of what stands before it, which is UTF-8 and short enough even where the script is not.
     let at = position(head, head.len() as u32).map_err(io::Error::other)?;
+    // Which of the nine marks is met, since nobody can tell them by looking, and its escape.
+    let mark = tail.get(..3).and_then(|bytes| std::str::from_utf8(bytes).ok()?.chars().next()).filter(|_| refusal.number == 29);
+    let (which, escape) = mark.map(|c| (format!(": {}", code(c)), format!(": \\u{:04X}", c as u32))).unwrap_or_default();
     writeln!(out, "refused {} at {}: {at}", refusal.number, refusal.place)?;
-    writeln!(out, "met: {}", refusal.meaning())?;
-    writeln!(out, "do:  {}", refusal.advice())?;
+    writeln!(out, "met: {}{which}", refusal.meaning())?;
+    writeln!(out, "do:  {}{escape}", refusal.advice())?;
 
     // The line, without its end, before the place and from it on.
     let head = &head[head.iter().rposition(|&byte| byte == b'\n').map_or(0, |lf| lf + 1)..];
@@ -162,7 +187,7 @@ fn view_by(out: &mut impl Write, script: &[u8], tokens: Result<Tokens<'_>, Refus
 
 /// Writes the tokens of a script for its author, one to a line: line and column (both from 1, the column in characters), kind, text, value. A
 /// token that carries the cut is marked, with the line end that is hard by it. For a refused script: number, place, line and column, what
-/// was met, what to do, and the line with a caret. Answers whether the script is accepted.
+/// was met, what to do, and the line with a caret. Texts are as [`shown`] makes them. Answers whether the script is accepted.
 pub fn view(out: &mut impl Write, script: &[u8]) -> io::Result<bool> {
     view_by(out, script, tokenize(script))
 }

@@ -248,6 +248,11 @@ fn examples() {
     }
     // Columns count characters.
     assert_eq!(position("\u{44F}\u{20AC}\u{1F600}b".as_bytes(), 9), Ok(found(1, 4)));
+    // A direction mark, for which the script is refused, is a character as any.
+    let marked = "a\n\"\u{2067}b\u{2069}\"\n".as_bytes();
+    let place = tokenize(marked).unwrap_err().place;
+    assert_eq!((place, position(marked, place), position(marked, 7)), (3, Ok(found(2, 2)), Ok(found(2, 4))));
+    agrees(marked);
     assert_eq!(found(2, 7).to_string(), "line 2, column 7");
 
     let mut index = [7; 4];

@@ -1,6 +1,6 @@
 // Stored rolls, read back without the script: by the wrapper and, step by step, by the library's own function for one record. What to expect of
 // damaged rolls is written down here a second time, from REQUESTS (docs/REQUESTS.md), "Stored rolls".
-use ergo_token::{tokenize, Kw, Record, Refusal, Roll, TokenKind};
+use ergo_token::{token_text, tokenize, Kw, Record, Refusal, Roll, TokenKind};
 use ergo_token::{INT_LIT_LENGTH, LONG_LIT_LENGTH, NEWLINE_LENGTH, RECORD_HEAD, STR_LENGTH};
 use std::iter::FusedIterator;
 
@@ -223,6 +223,19 @@ fn unused_is_told() {
     roll.iter();
     #[expect(unused_must_use)]
     Roll::read(tokens.records()).unwrap();
+}
+
+// Records hold places and no text, so the roll that was stored of a script with direction marks, when these were taken, is that of the same script with
+// other characters of three bytes.
+#[test]
+fn stored_before_marks_were_refused() {
+    let script = "x = \"a\u{202E}b\u{202C}\" // \u{2066}\n`\u{2069}` '\u{202A}'";
+    assert_eq!(tokenize(script.as_bytes()).map_err(|refusal| (refusal.number, refusal.place)), Err((29, 6)));
+    let stored = roll_of(&script.replace(|c: char| c > '\x7F', "\u{20AC}"));
+    assert_eq!(agrees(&stored), Ok(7));
+    let texts: Vec<_> = Roll::read(&stored).unwrap().iter().map(|record| token_text(script.as_bytes(), record.start, record.end)).collect();
+    assert_eq!(texts[5], Ok("'\u{202A}'".as_bytes()));
+    assert!(texts.iter().all(|text| text.is_ok()));
 }
 
 #[test]

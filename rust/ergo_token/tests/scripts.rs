@@ -1,7 +1,7 @@
 // The wrapper on the examples of RULES (docs/RULES.md): the header's and the C example's script, the listing, the twelve marked scripts, and each refusal's.
 // Every script is measured too, by the wrapper and by the library's own function, and what to expect is counted from its records, from REQUESTS
 // (docs/REQUESTS.md), "Exact need" and "Answer of measuring".
-use ergo_token::{measure, record_bound, token_text, tokenize, tokenize_contact, view, view_contact, write};
+use ergo_token::{measure, position, record_bound, shown, token_text, tokenize, tokenize_contact, view, view_contact, write};
 use ergo_token::{Kw, Need, Refusal, Roll, Size, Token, TokenKind, Tokens};
 use ergo_token::{CONTACT_BYTES, CONTACT_RECORDS, CONTACT_TOKENS, SCRIPT_LIMIT};
 use ergo_token::{INT_LIT_LENGTH, LONG_LIT_LENGTH, NEWLINE_LENGTH, RECORD_HEAD, STR_LENGTH};
@@ -13,6 +13,9 @@ extern "C" {
 
 // What the library must not change.
 const BYTE: u8 = 0xAA;
+
+// The direction marks.
+const MARKS: [char; 9] = ['\u{202A}', '\u{202B}', '\u{202C}', '\u{202D}', '\u{202E}', '\u{2066}', '\u{2067}', '\u{2068}', '\u{2069}'];
 
 // The record bytes of `a`: an identifier and Eof.
 const BYTES_OF_A: usize = 2 * RECORD_HEAD;
@@ -157,28 +160,30 @@ fn the_twelve_marked_scripts() {
     assert_eq!(listing("a\u{4E00}"), ["1 0 4 0", "18 4 4 0"]);
 }
 
+// One for each of 1 to 16, and one for 18.
+const EXAMPLES: [(&[u8], (u32, u32)); 17] = [
+    (b"a\rb", (1, 1)),
+    (b"x /* /* */", (2, 2)),
+    ("a\u{20AC}".as_bytes(), (3, 1)),
+    (b"`ab", (4, 0)),
+    (b"``", (5, 0)),
+    (b"7+2147483648", (6, 2)),
+    (b"\"str", (7, 4)),
+    (b"\"a\n", (8, 2)),
+    (b"\"\"\"a\"", (9, 5)),
+    (b"\"\"\"a\\", (10, 4)),
+    (b"s\"${", (11, 2)),
+    (b"\"\\", (12, 2)),
+    (b"\"\\u12G4\"", (13, 5)),
+    (b"\"\\\\\"", (14, 2)),
+    (b"'\\nx", (15, 3)),
+    (b"'(x", (16, 1)),
+    (b"a\xC0\x80", (18, 1)),
+];
+
 #[test]
 fn the_example_of_each_refusal() {
-    let examples: [(&[u8], (u32, u32)); 17] = [
-        (b"a\rb", (1, 1)),
-        (b"x /* /* */", (2, 2)),
-        ("a\u{20AC}".as_bytes(), (3, 1)),
-        (b"`ab", (4, 0)),
-        (b"``", (5, 0)),
-        (b"7+2147483648", (6, 2)),
-        (b"\"str", (7, 4)),
-        (b"\"a\n", (8, 2)),
-        (b"\"\"\"a\"", (9, 5)),
-        (b"\"\"\"a\\", (10, 4)),
-        (b"s\"${", (11, 2)),
-        (b"\"\\", (12, 2)),
-        (b"\"\\u12G4\"", (13, 5)),
-        (b"\"\\\\\"", (14, 2)),
-        (b"'\\nx", (15, 3)),
-        (b"'(x", (16, 1)),
-        (b"a\xC0\x80", (18, 1)),
-    ];
-    for (script, answer) in examples {
+    for (script, answer) in EXAMPLES.into_iter().chain([("// \u{202E}".as_bytes(), (29, 3))]) {
         assert_eq!(refusal(script), answer);
         // The buffer keeps its values.
         let mut lent = vec![BYTE; record_bound(script.len())];
@@ -220,6 +225,148 @@ fn contacts() {
     for script in ["", "x = 7 // n\n\"a\"", "a\rb", "\"str", "'(x"] {
         assert_eq!(tokenize_contact(script.as_bytes()), tokenize(script.as_bytes()));
     }
+}
+
+// A script is refused for a mark here, by each of the three functions, and no buffer is needed for that.
+fn marked(script: &[u8], place: usize) {
+    let refusal = Refusal { number: 29, place: place as u32 };
+    let name = script.escape_ascii();
+    assert_eq!(measured(script), Err(refusal), "{name}");
+    assert_eq!(tokenize(script), Err(refusal), "{name}");
+    assert_eq!(write(script, &mut []), Err(refusal), "{name}");
+    assert_eq!(tokenize_contact(script), Err(refusal), "{name}");
+}
+
+#[test]
+fn direction_marks_in_every_piece() {
+    // What stands before a mark and behind it, and whether other characters that can't be seen may stand there.
+    let around = [
+        ("// ", "", true),
+        ("a // ", "\r\nb", true),
+        ("/* ", " */", true),
+        ("/* /* ", "*/ */", true),
+        ("\"", "\"", true),
+        ("\"\\n", "\\n\"", true),
+        ("\"\"\"", "\"\"\"", true),
+        ("s\"", "\"", true),
+        ("s\"\"\"", "\"\"\"", true),
+        ("`", "`", true),
+        ("`", "`\"\"", true),
+        ("'", "'", false),
+        ("'s", "", false),
+        ("", "", false),
+        ("a ", " b", false),
+        ("a", "b", false),
+        ("7", "L", false),
+        ("+", "+", false),
+        ("\n", "\n", false),
+    ];
+    // Near the marks by code, by bytes, or by what they do to a text.
+    let others = "\u{2029}\u{202F}\u{2065}\u{206A}\u{206E}\u{200E}\u{200F}\u{61C}\u{20AA}\u{102A}\u{2026}\u{2069E}";
+    for (before, behind, any) in around {
+        for mark in MARKS {
+            marked(format!("{before}{mark}{behind}").as_bytes(), before.len());
+            marked(format!("{before}{mark}{mark}{behind}\u{2066}").as_bytes(), before.len());
+        }
+        for other in others.chars() {
+            let script = format!("{before}{other}{behind}");
+            match measured(script.as_bytes()) {
+                Ok(_) => {}
+                Err(refusal) => assert!(!any && refusal.number < 17, "{script:?}"),
+            }
+        }
+    }
+}
+
+// In a comment all other characters are taken.
+#[test]
+fn nine_marks_and_no_other() {
+    for c in '\0'..=char::MAX {
+        let number = tokenize(format!("/* {c} */").as_bytes()).map_or_else(|refusal| refusal.number, |_| 0);
+        assert_eq!(number, if MARKS.contains(&c) { 29 } else { 0 }, "U+{:04X}", c as u32);
+    }
+}
+
+// 18 or 29 where a script must be refused by it, told by std.
+fn barred(script: &[u8]) -> Option<(u32, u32)> {
+    match std::str::from_utf8(script) {
+        Ok(text) => text.find(MARKS).map(|place| (29, place as u32)),
+        Err(error) => Some((18, error.valid_up_to() as u32)),
+    }
+}
+
+// Each three bytes of which the first begins a character of three or four: alone, behind a character of three, and behind a mark.
+#[test]
+fn every_three_bytes() {
+    for before in ["", "\u{4E00}", "\u{202E}"] {
+        let mut script = format!("{before}... ").into_bytes();
+        for bytes in (0xE0_u8..=0xF4).flat_map(|a| (0..=0xFF).flat_map(move |b| (0..=0xFF).map(move |c| [a, b, c]))) {
+            script[before.len()..][..3].copy_from_slice(&bytes);
+            let given = measure(&script).err().map(|refusal| (refusal.number, refusal.place));
+            assert_eq!(given.filter(|&(number, _)| number > 17), barred(&script), "{}", script.escape_ascii());
+        }
+    }
+}
+
+// At each place of scripts about the lengths at which bytes are taken together, behind characters of one byte to four.
+#[test]
+fn direction_marks_at_every_place() {
+    for filler in ["a", "\n", "\u{44F}", "\u{2026}", "\u{2065}", "\u{1F600}"] {
+        for before in 0..150 {
+            for behind in [0, 1, 2, 3, 7, 64] {
+                let script = format!("{}\u{202A}{}", filler.repeat(before), "\u{2069}".repeat(behind));
+                marked(script.as_bytes(), filler.len() * before);
+            }
+        }
+    }
+}
+
+#[test]
+fn direction_marks_and_other_refusals() {
+    // 29 goes before 1 to 16, whatever the places, and behind 18, likewise.
+    for (script, (number, place)) in EXAMPLES {
+        for at in (0..=script.len()).filter(|&at| script.get(at).is_none_or(|byte| byte & 0xC0 != 0x80)) {
+            let with = [&script[..at], "\u{2067}".as_bytes(), &script[at..]].concat();
+            match number {
+                18 => assert_eq!(refusal(&with), (18, if at > place as usize { place } else { place + 3 })),
+                _ => marked(&with, at),
+            }
+        }
+    }
+    // A mark that is cut short, or has another byte in it, is none.
+    for (script, place) in [(&b"// \xE2\x80"[..], 3), (b"\xE2\x81\n\xA6", 0), (b"\xE2\x80\xAE\xAE", 3), (b"\xE2\xE2\x80\xAE", 0)] {
+        assert_eq!(refusal(script), (18, place));
+    }
+    // 17 and 27 go before it, also where the mark begins within the limit; 28 and 19 behind it. 20 goes before all.
+    let blanks = |n: usize| [&vec![b' '; n], "\u{2069}".as_bytes()].concat();
+    assert_eq!(refusal(&blanks(SCRIPT_LIMIT - 2)), (17, 0));
+    assert_eq!(refusal(&blanks(SCRIPT_LIMIT - 3)), (29, SCRIPT_LIMIT as u32 - 3));
+    assert_eq!(tokenize_contact(&blanks(CONTACT_BYTES - 2)), Err(Refusal { number: 27, place: 0 }));
+    assert_eq!(refusal(&blanks(CONTACT_BYTES - 2)), (29, CONTACT_BYTES as u32 - 2));
+    marked(&blanks(CONTACT_BYTES - 3), CONTACT_BYTES - 3);
+    marked(&[&[b','; CONTACT_TOKENS][..], "//\u{202A}".as_bytes()].concat(), CONTACT_TOKENS + 2);
+    assert_eq!(block("\u{202A}".as_bytes(), 16), (20, vec![BYTE; 16]));
+}
+
+// Written out, an escape is six ASCII characters.
+#[test]
+fn escapes_of_direction_marks() {
+    for mark in MARKS {
+        let escape = format!("\\u{:04X}", mark as u32);
+        for script in [format!("\"{escape}\""), format!("'{escape}'"), format!("s\"{escape}\""), format!("`{escape}` // {escape}")] {
+            assert_eq!(tokens(&script).len(), 2, "{script}");
+        }
+    }
+}
+
+// Of a script that is refused for one.
+#[test]
+fn places_and_texts_of_direction_marks() {
+    let script = "x\r\n\t\"a\u{202E}b\"".as_bytes();
+    marked(script, 6);
+    assert_eq!(position(script, 6).map(|at| (at.line, at.column)), Ok((2, 4)));
+    assert_eq!(token_text(script, 5, 10), Ok("a\u{202E}b".as_bytes()));
+    assert_eq!(token_text(script, 7, 10), Err(Refusal { number: 21, place: 0 }));
 }
 
 #[test]
@@ -345,8 +492,8 @@ fn contents_of_strings() {
 #[test]
 fn every_number_has_words() {
     let of = |number| Refusal { number, place: 3 };
-    let unknown = of(29);
-    for number in 1..=28 {
+    let unknown = of(30);
+    for number in 1..=29 {
         assert_ne!(of(number).meaning(), unknown.meaning());
         assert_ne!(of(number).advice(), unknown.advice());
         for other in 1..number {
@@ -356,10 +503,13 @@ fn every_number_has_words() {
     }
 }
 
+// Whatever is viewed, no mark is printed.
 fn viewed(script: &[u8]) -> (bool, String) {
     let mut out = Vec::new();
     let accepted = view(&mut out, script).unwrap();
-    (accepted, String::from_utf8(out).unwrap())
+    let text = String::from_utf8(out).unwrap();
+    assert!(!text.contains(MARKS), "{text:?}");
+    (accepted, text)
 }
 
 #[test]
@@ -412,6 +562,52 @@ fn view_of_a_refused_script() {
     assert!(viewed(long.as_bytes()).1.ends_with(&line));
 }
 
+#[test]
+fn view_of_direction_marks() {
+    for mark in MARKS {
+        let (number, script) = (format!("U+{:04X}", mark as u32), format!("x\n\t\"{mark}b\u{2066}\" // \u{202E}"));
+        let refusal = tokenize(script.as_bytes()).unwrap_err();
+        let text = format!(
+            "refused 29 at 4: line 2, column 3\nmet: {}: {number}\ndo:  {}: \\u{}\n2 | \t\"<{number}>b<U+2066>\" // <U+202E>\n  | \t ^\n",
+            refusal.meaning(),
+            refusal.advice(),
+            &number[2..]
+        );
+        assert_eq!(viewed(script.as_bytes()), (false, text));
+    }
+    // The first of two has the caret; behind one the caret stands behind its shown form.
+    assert!(viewed("\"\u{202E}\u{202C}\"".as_bytes()).1.ends_with("1 | \"<U+202E><U+202C>\"\n  |  ^\n"));
+    let (_, text) = viewed(b"a\n\xE2\x80\xAE\xFF\xE2\x81\xA6");
+    assert!(text.starts_with("refused 18 at 5: line 2, column 2\n") && text.ends_with("2 | <U+202E><FF><U+2066>\n  |         ^\n"), "{text}");
+    // Where the line is long, and where the limit is met.
+    let many = "\u{2068}".repeat(CONTACT_BYTES);
+    assert!(viewed(format!("/*{many}").as_bytes()).1.ends_with(&format!("1 | /*{} ...\n  |   ^\n", "<U+2068>".repeat(60))));
+    let mut out = Vec::new();
+    assert!(!view_contact(&mut out, many.as_bytes()).unwrap());
+    let text = String::from_utf8(out).unwrap();
+    assert!(text.starts_with("refused 27 at 0: ") && text.ends_with(&format!("1 | {} ...\n  | ^\n", "<U+2068>".repeat(60))), "{text}");
+}
+
+// What a reader would not see, or take for a space, has its number: in the lines, in the texts of tokens, and in names.
+#[test]
+fn view_of_what_is_not_seen() {
+    let blank = "\0\n\r\x1B\x7F\u{85}\u{9B}\u{A0}\u{1680}\u{2003}\u{2028}\u{202F}\u{3000}";
+    let unseen = "\u{AD}\u{34F}\u{61C}\u{180E}\u{200B}\u{200F}\u{2060}\u{206A}\u{3164}\u{FE0F}\u{FEFF}\u{FFF9}\u{E0041}";
+    for c in blank.chars().chain(unseen.chars()).chain(MARKS) {
+        assert_eq!(shown(format!("a{c}b").as_bytes()), format!("a<U+{:04X}>b", c as u32));
+    }
+    for text in ["a b\tc", "\u{44F}\u{20AC}\u{4E00}\u{1F600}", "\u{5D0}\u{627}\u{915}\u{947}", "\u{FFFD}<U+202E>"] {
+        assert_eq!(shown(text.as_bytes()), text);
+    }
+    assert_eq!(shown(b"\xE2\x80\xAE\xE2\x80"), "<U+202E><E2><80>");
+    let (_, text) = viewed("`a\u{200F}` \"\"\"\u{FEFF}\n\"\"\"".as_bytes());
+    assert!(text.starts_with("1:1       BacktickId   `a<U+200F>`\n1:6       Str          \"\"\"<U+FEFF><U+000A>\"\"\"  content <U+FEFF><U+000A>\n"));
+    // The name of a file that isn't there; the program stands where cargo or rust/build has put it.
+    let program = option_env!("CARGO_BIN_EXE_view").unwrap_or("target/rust/view");
+    let said = std::process::Command::new(program).arg("no\u{202E}\x1B[7m").output().unwrap().stderr;
+    assert!(said.starts_with(b"no<U+202E><U+001B>[7m: "), "{}", said.escape_ascii());
+}
+
 // The tokens follow each other up to the script's end.
 fn in_order(tokens: &Tokens) {
     let mut last = 0;
@@ -430,19 +626,26 @@ fn any_bytes() {
         "a", "_", "+", "/", "*", "\"", "'", "\\", "`", "\n", "\r", "\r\n", " ", "\t", "0", "x", "99999", "L", "$", "{", "}", "u", "\0", "\x7F", "€",
         "я", "😀", "/*", "*/",
     ];
-    let bad: [&[u8]; 3] = [b"\x80", b"\xC0", b"\xED\xA0\x80"];
-    let pieces: Vec<&[u8]> = texts.iter().map(|text| text.as_bytes()).chain(bad).collect();
+    let texts = texts.map(str::as_bytes);
+    // What is refused wherever it stands comes seldom, so that the other refusals are met too.
+    let seldom: [&[u8]; 5] = [b"\x80", b"\xC0", b"\xED\xA0\x80", "\u{202E}".as_bytes(), "\u{2066}".as_bytes()];
     let mut state = 1u64;
     let mut random = |below: u64| {
         state = state.wrapping_mul(6364136223846793005).wrapping_add(1442695040888963407);
         (state >> 33) % below
     };
-    let (mut accepted, mut numbers) = (0, [0; 22]);
+    let (mut accepted, mut numbers) = (0, [0; 30]);
     for _ in 0..200_000 {
-        let script: Vec<u8> = (0..random(12)).flat_map(|_| pieces[random(pieces.len() as u64) as usize].to_vec()).collect();
+        let mut script = Vec::new();
+        for _ in 0..random(12) {
+            let pieces = if random(16) == 0 { &seldom[..] } else { &texts };
+            script.extend_from_slice(pieces[random(pieces.len() as u64) as usize]);
+        }
         let tokens = tokenize(&script);
         assert_eq!(measured(&script).map(|need| need.count as usize), tokens.as_ref().map(Tokens::count).map_err(|&refusal| refusal));
         assert_eq!(viewed(&script).0, tokens.is_ok());
+        let given = tokens.as_ref().err().map(|refusal| (refusal.number, refusal.place));
+        assert_eq!(given.filter(|&(number, _)| number > 17), barred(&script));
         match tokens {
             Ok(tokens) => {
                 accepted += 1;
@@ -450,13 +653,10 @@ fn any_bytes() {
             }
             Err(refusal) => {
                 assert!(refusal.place as usize <= script.len());
-                if refusal.number == 18 {
-                    assert_eq!(std::str::from_utf8(&script).map_err(|error| error.valid_up_to()), Err(refusal.place as usize));
-                }
                 numbers[refusal.number as usize] += 1;
             }
         }
     }
     assert!(accepted > 0);
-    assert!(numbers[1..=16].iter().all(|&n| n > 0) && numbers[18] > 0, "{numbers:?}");
+    assert!(numbers[1..=16].iter().all(|&n| n > 0) && numbers[18] > 0 && numbers[29] > 0, "{numbers:?}");
 }

@@ -34,7 +34,8 @@ fn main() -> ExitCode {
         Ok(true) => ExitCode::SUCCESS,
         Ok(false) => ExitCode::from(1),
         Err(error) => {
-            eprintln!("{}: {error}", path.to_string_lossy());
+            // A name can hold direction marks as a script can.
+            eprintln!("{}: {error}", ergo_token::shown(path.as_encoded_bytes()));
             ExitCode::from(2)
         }
     }
