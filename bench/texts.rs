@@ -110,6 +110,20 @@ pub const KINDS: [Kind; 56] = [
     kind("quoted", "symbols of signs", "'+ ", Form("'", "+-*<>=!&|", 5, " ")),
 ];
 
+// More names of letters past ASCII. Hebrew, Devanagari and Hangul letters have no case, so they only go on in a name. Hebrew stands in escapes: it is
+// read from right to left, and an editor would turn the line around. These rows stand beside the others of their groups; the mixture by chance goes
+// without them, so that its text stays what it was.
+#[rustfmt::skip]
+const NAMES: [Kind; 7] = [
+    kind("names", "Hebrew names", "a\u{5E9} ", Form("a", "\u{5E1}\u{5DB}\u{5D5}\u{5DD}", 12, " ")),
+    kind("names", "Devanagari names", "aक ", Form("a", "कखगघ", 12, " ")),
+    kind("names", "Hangul names", "a값 ", Form("a", "합계금액", 12, " ")),
+    kind("names", "mixed names", "aя ", Form("", "totalСумма_值_μέσος", 4, " ")),
+    kind("names", "Cyrillic names in code", "сумма = выход.значение\n", one("  val сумма = выход.значение * доля - сбор(выход)\n")),
+    kind("quoted", "symbols, Cyrillic", "'я ", Form("'", "переменная", 5, " ")),
+    kind("quoted", "symbols of ⇒", "'⇒ ", Form("'", "⇒", 20, " ")),
+];
+
 // Comments and strings by the first bytes of their characters, C3, E0, E1 and E2 hex, and all of them mixed: what the UTF-8 check and the search for
 // direction marks go through. Chinese ones stand above; the mixture by chance goes without these.
 #[rustfmt::skip]
@@ -223,8 +237,13 @@ fn forms(kind: &'static Kind) -> Vec<Row> {
 
 pub fn rows() -> Vec<Row> {
     static TABLE: [Kind; KINDS.len()] = KINDS;
+    static MORE: [Kind; NAMES.len()] = NAMES;
     static WIDE: [Kind; ALPHABETS.len()] = ALPHABETS;
-    let mut rows: Vec<Row> = TABLE.iter().chain(&WIDE).flat_map(forms).collect();
+    let all = || TABLE.iter().chain(&MORE).chain(&WIDE);
+    let mut kinds: Vec<&Kind> = all().collect();
+    // Those of one group together, in whichever list they stand.
+    kinds.sort_by_key(|kind| all().position(|other| other.group == kind.group));
+    let mut rows: Vec<Row> = kinds.into_iter().flat_map(forms).collect();
     let mut add = |group, name: &str, what| rows.push(Row { group, name: name.to_string(), what });
     add("mixtures", "contract", What::Contract("\n"));
     add("mixtures", "contract, CR LF", What::Contract("\r\n"));
