@@ -5,7 +5,7 @@ use Rattle.std.proofs.Math.Bool.{or-true}
 use types.Run.{OneOf}
 use Rattle.chars.specs.paper.Quoted.{member}
 use Rattle.chars.specs.code.Classes.{bitIn}
-use Rattle.chars.specs.code.Masks.{inMasks}
+use Rattle.chars.specs.code.Masks.{inMask, inMasks}
 use Rattle.chars.specs.promises.Codes.{every, span, alike}
 use Rattle.chars.proofs.Bools.{clash, and-both}
 
@@ -56,7 +56,7 @@ mask-set low high p h w c =
 
 -- masks by blocks of 64 codes, where there are two blocks
 pub two-masks : (low high c : ℕ) → bitIn low high c ≡ ltb c 0x80 && inMasks (low ∷ high ∷ []) (0 ∷ 1 ∷ []) c
-unfolding bitIn inMasks
+unfolding bitIn inMask
 two-masks low high c = grind arith
 
 -- ---- the keys of a match's arm

@@ -1,3 +1,5 @@
 pub mod Texts
 pub mod Steps
 pub mod Places
+pub mod Runs
+pub mod Looks

@@ -10,16 +10,18 @@ ghost use Rattle.chars.specs.promises.Utf8.{Decoding, ValidLaws, EncodingLaws};
 ghost use Rattle.chars.specs.promises.Marks.{MarkLaws};
 ghost use Rattle.chars.specs.promises.StdUtf8.{StdLaws};
 
+use crate::classes::{Classes, classes_of};
 use crate::marks::is_mark;
 use crate::runs::{InRange, LANES, outside_at, run_end};
 use crate::thirds::{KINDS, SETS, THIRDS};
 use std::simd::prelude::*;
 
-/// A character: its code, and how many bytes it has.
+/// A character: its code, how many bytes it has, and what the four classes say of it.
 #[derive(Clone, Copy, Debug, PartialEq, Eq)]
 pub struct Decoded {
     pub code: u32,
     pub width: usize,
+    pub classes: Classes,
 }
 
 // Whether a byte from low to high stands at `at`. Here and below the two are numbers, as Table 3-7 has them: std's inclusive range is not `Copy`.
@@ -47,9 +49,9 @@ fn triple_in(s: &[u8], at: usize, low: u8, high: u8) -> bool
     pair_in(s, at, low, high, 0x80, 0xBF) && byte_in(s, at + 2, 0x80, 0xBF)
 }
 
-// How many bytes the well-formed character has that stands at `at`. The arms are the table's rows; those of one byte and two are told first.
+/// How many bytes the well-formed character has that stands at `at`. The arms are the table's rows; those of one byte and two are told first.
 #[inline(always)]
-fn width_at(s: &[u8], at: usize) -> Option<usize>
+pub fn width_at(s: &[u8], at: usize) -> Option<usize>
     ensures { result ≡ widthAt s.now at }
 {
     if s.len() <= at {
@@ -116,9 +118,11 @@ pub fn decode(s: &[u8], at: usize) -> Option<Decoded>
     ensures encoding_laws { EncodingLaws }
 {
     let width = width_at(s, at)?;
+    let code = code_at(s, at, width);
     Some(Decoded {
-        code: code_at(s, at, width),
+        code,
         width,
+        classes: classes_of(code),
     })
 }
 

@@ -1,6 +1,6 @@
 -- The character classes: what excludes what, each computed at the few characters that the rules name.
 use Rattle.std.proofs.Common.{ℕ, ◌^◌, ◌≤◌, ◌<◌, ◌≡◌, refl, sym, ap, ◌∙◌, Bool, true, false, cond, not, ◌&&◌, ◌||◌, ⊎_elim, arith, eqb-true, le-leb, lt-ltb, le-ltb, ne_eqb, eqb, ltb}
-use Rattle.std.proofs.lemmas.Bool.{cases_lt, false_from_ne_true, or_left, or_right, not-true, lt-leb}
+use Rattle.std.proofs.lemmas.Bool.{cases_lt, false_from_ne_true, not-true, lt-leb}
 use Prim.Native.String.{String}
 use Rattle.std.proofs.Math.Bool.{and-true, and-false, or-false}
 use Rattle.chars.specs.paper.Quoted.{between, codes, oneOf}
@@ -10,7 +10,6 @@ use Rattle.chars.proofs.classes.Ranges.{between-out, clear-out, covered-in, only
 use Rattle.chars.specs.promises.Codes.{every}
 use Rattle.chars.specs.promises.Classes.{lowStart, lowId}
 use Rattle.chars.proofs.Carry.{carry, each-same}
-use Rattle.chars.proofs.classes.Masks.{start-masks, id-masks}
 use Rattle.std.specs.Char.{is_ascii_alphanumeric}
 
 -- ---- operator signs
@@ -167,37 +166,5 @@ module _ (c : ℕ) (h : 0xFFFF < c) where
   unfolding isPrintable
   above-no-print = rw (lt-leb c 0xFFFF h)
 
--- ---- the Russian letters: in each table they are in one range, or in none
-
-small-range : (c : ℕ) → 0x0430 ≤ c → c ≤ 0x044F → lowercase c ≡ true
-unfolding lowercase
-small-range c l h = covered-in 0x0430 0x044F c l h lowercaseTable refl
-
-capital-range : (c : ℕ) → 0x0410 ≤ c → c ≤ 0x042F → uppercase c ≡ true
-unfolding uppercase
-capital-range c l h = covered-in 0x0410 0x042F c l h uppercaseTable refl
-
-letter-range : (c : ℕ) → 0x0410 ≤ c → c ≤ 0x044F → alphabetic c ≡ true
-unfolding alphabetic
-letter-range c l h = covered-in 0x0410 0x044F c l h alphabeticTable refl
-
-mark-range : (c : ℕ) → 0x0410 ≤ c → c ≤ 0x044F → alphaNotLetter c ≡ false
-unfolding alphaNotLetter
-mark-range c l h = clear-out 0x0410 0x044F c l h alphaNotLetterTable refl
-
-module _ (c : ℕ) (from : 0x0410 ≤ c) (to : c ≤ 0x044F) where
-  pub russian-start : isIdStart c ≡ true
-  russian-start =
-      wide-start c (omega arith) (omega arith) (λ m. absurd (omega arith))
-      ∙ ⊎_elim (λ l. or_right (lowercase c) (uppercase c) (capital-range c from (omega arith))) (λ l. or_left (lowercase c) (uppercase c) (small-range c l to)) (cases_lt c 0x0430)
-
-  pub russian-id : isIdChar c ≡ true
-  russian-id = wide-id c (omega arith) (omega arith) ∙ rw (letter-range c from to, mark-range c from to)
-
--- ---- what `src/classes.rt` names for the prover
-
-pub ruleset ascii_bytes = (byte-start, byte-id)
-
-pub ruleset start_laws = (start-masks, above-no-start)
-
-pub ruleset id_laws = (id-masks, above-no-id)
+  pub above-no-sign : isOpSign c ≡ false
+  above-no-sign = wide-none c (omega arith) (λ e. omega arith)

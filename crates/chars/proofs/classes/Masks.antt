@@ -1,14 +1,14 @@
--- The masks by blocks say of every code up to U+FFFF what the range tables say: both as the bits of one number, compared once for each class.
+-- The masks by blocks say of every code up to U+FFFF what the rules say: both as the bits of one number, compared once for each class.
 use Rattle.std.proofs.Common.{◌≡◌, ℕ, zero, suc, ◌+◌, ◌-◌, ◌*◌, ◌/◌, ◌%◌, ◌^◌, ◌<◌, ◌≤◌, min, max, Bool, true, false, cond, not, ◌&&◌, ◌||◌, List, [], ◌∷◌, length, get_or, eqb, leb, ltb, refl, sym, ap, ◌∙◌, ⊎_elim, arith, eq-eqb, ne_eqb, ltb-true, le-leb, bit_and, bit_or, bit_xor}
 use Rattle.std.proofs.lemmas.Bool.{cases_lt, cases_eq, lt-leb}
 use Rattle.std.specs.Int.{bit_at}
 use Rattle.std.proofs.lemmas.Nat.Bits.{bit_at-zero, bit_at_and, bit_at_or, bit_at_xor, bit_at-pow_same, bit_at-pow_other, bit_at_mask_inside, bit_at_mask_below, bit_at_mask_above, bit_at_cat_low, bit_at_cat_high}
-use Rattle.chars.specs.paper.Quoted.{between}
+use Rattle.chars.specs.paper.Quoted.{between, codes, member, oneOf}
 use Rattle.chars.specs.paper.Ranges.{Range, ◌to◌, inRanges}
 use Rattle.chars.specs.paper.Tables.{alphabeticTable, lowercaseTable, uppercaseTable, ndTable, alphaNotLetterTable}
-use Rattle.chars.specs.paper.Classes.{isIdStart, isIdChar, alphabetic, lowercase, uppercase, nd, alphaNotLetter}
-use Rattle.chars.specs.code.Masks.{inMasks}
-use Rattle.chars.specs.declared.masks.TheConstants.{BLOCKS, ID_CHARS, ID_STARTS}
+use Rattle.chars.specs.paper.Classes.{isIdStart, isIdChar, opSigns, isOpSign, isPrintable, alphabetic, lowercase, uppercase, nd, alphaNotLetter}
+use Rattle.chars.specs.code.Masks.{inMask, inMasks}
+use Rattle.chars.specs.declared.masks.TheConstants.{BLOCKS, ID_CHARS, ID_STARTS, OP_SIGNS, PRINTABLES}
 use Rattle.chars.proofs.Bools.{and-both}
 
 -- ---- the codes of ranges as the bits of one number
@@ -19,6 +19,11 @@ bitOf b = cond b 1 0
 bitsOf : List Range → ℕ
 bitsOf [] = 0
 bitsOf (◌to◌ a b ∷ t) = bit_or (2 ^ (b + 1) - 2 ^ a) (bitsOf t)
+
+-- the codes of a list
+bitsIn : List ℕ → ℕ
+bitsIn [] = 0
+bitsIn (x ∷ l) = bit_or (2 ^ x) (bitsIn l)
 
 -- the bits of x that y has not
 abbrev without : ℕ → ℕ → ℕ
@@ -52,6 +57,11 @@ module _ (c : ℕ) where
   unfolding bitsOf
   table-bit [] = bit_at-zero c
   table-bit (◌to◌ a b ∷ t) = or-bit (2 ^ (b + 1) - 2 ^ a) (bitsOf t) (between a b c) (inRanges t c) (range-bit a b) (table-bit t)
+
+  list-bit : (l : List ℕ) → bit_at (bitsIn l) c ≡ bitOf (member l c)
+  unfolding bitsIn
+  list-bit [] = bit_at-zero c
+  list-bit (x ∷ l) = or-bit (2 ^ x) (bitsIn l) (eqb c x) (member l c) (one-bit x) (list-bit l)
 
 -- ---- masks as the bits of one number
 
@@ -90,7 +100,7 @@ joined-bit masks e (i ∷ blocks) (suc k) j h l =
 -- where these are the bits of a test, the masks are the test
 by-bits : (masks blocks : List ℕ) (c : ℕ) (p : Bool) → allBelow (2 ^ 64) masks ≡ true → c < 64 * length blocks → bit_at (joined masks blocks) c ≡ bitOf p
     → inMasks masks blocks c ≡ p
-unfolding inMasks
+unfolding inMask
 by-bits masks blocks c p e h q =
     let z : 64 * (c / 64) + c % 64 ≡ c = omega arith in
     let b = joined-bit masks e blocks (c / 64) (c % 64) (omega arith) (omega arith) in
@@ -99,7 +109,7 @@ by-bits masks blocks c p e h q =
     one : (p : Bool) → eqb (bitOf p) 1 ≡ p
     one p = grind arith
 
--- ---- the two classes
+-- ---- the four classes
 
 idBits : ℕ
 idBits = bit_or (2 ^ 0x24) (bit_or (without (bitsOf alphabeticTable) (bitsOf alphaNotLetterTable)) (bitsOf ndTable))
@@ -108,7 +118,13 @@ startBits : ℕ
 startBits =
     without (bit_or (bit_or (bitsOf lowercaseTable) (bitsOf uppercaseTable)) (bit_or (2 ^ 0x24) (2 ^ 0x5F))) (bitsOf (0x24B6 to 0x24E9 ∷ []))
 
--- the two computed tests
+signBits : ℕ
+signBits = bitsIn (codes opSigns)
+
+printBits : ℕ
+printBits = without (bitsOf (0 to 0xFFFF ∷ [])) (bitsOf (0 to 0x1F ∷ 0x7F to 0x9F ∷ 0xFFF0 to 0xFFFF ∷ []))
+
+-- the four computed tests
 id-same : joined ID_CHARS BLOCKS ≡ idBits
 unfolding joined bitsOf idBits
 id-same = refl
@@ -116,6 +132,14 @@ id-same = refl
 start-same : joined ID_STARTS BLOCKS ≡ startBits
 unfolding joined bitsOf startBits
 start-same = refl
+
+sign-same : joined OP_SIGNS BLOCKS ≡ signBits
+unfolding joined bitsIn signBits
+sign-same = refl
+
+print-same : joined PRINTABLES BLOCKS ≡ printBits
+unfolding joined bitsOf printBits
+print-same = refl
 
 module _ (c : ℕ) (h : c ≤ 0xFFFF) where
   pub id-masks : inMasks ID_CHARS BLOCKS c ≡ isIdChar c
@@ -148,3 +172,45 @@ module _ (c : ℕ) (h : c ≤ 0xFFFF) where
     where
       shape : (a b d x l : Bool) → l ≡ true → (a || (b || d)) && not (x || false) ≡ (l && not x) && (a || (b || (d || false)))
       shape a b d x l e = grind (arith, e)
+
+  pub sign-masks : inMasks OP_SIGNS BLOCKS c ≡ isOpSign c
+  unfolding isOpSign signBits
+  sign-masks = by-bits OP_SIGNS BLOCKS c (oneOf opSigns c) refl (omega arith) (ap (λ z. bit_at z c) sign-same ∙ list-bit c (codes opSigns))
+
+  pub print-masks : inMasks PRINTABLES BLOCKS c ≡ isPrintable c
+  unfolding isPrintable printBits
+  print-masks =
+      let a = table-bit c (0 to 0xFFFF ∷ []) in
+      let n = table-bit c (0 to 0x1F ∷ 0x7F to 0x9F ∷ 0xFFF0 to 0xFFFF ∷ []) in
+      let x = between 0 0x1F c in
+      let y = between 0x7F 0x9F c in
+      let z = between 0xFFF0 0xFFFF c in
+      by-bits PRINTABLES BLOCKS c ((between 0 0xFFFF c || false) && not (x || (y || (z || false)))) refl (omega arith) (ap (λ z. bit_at z c) print-same ∙ without-bit c _ _ _ _ a n)
+      ∙ ap (λ l. (l || false) && not (x || (y || (z || false)))) all ∙ shape (leb c 0xFFFF) x y z (le-leb c 0xFFFF h)
+    where
+      all : between 0 0xFFFF c ≡ true
+      all = rw (le-leb 0 c (omega arith), le-leb c 0xFFFF h)
+
+      shape : (l x y z : Bool) → l ≡ true → true && not (x || (y || (z || false))) ≡ l && not x && not y && not z
+      shape l x y z e = grind (arith, e)
+
+-- ---- a code by its block and its place there
+
+by-place : (f : ℕ → ℕ → Bool) (g : ℕ → Bool) (block place : ℕ) → place < 64 → f ((64 * block + place) / 64) ((64 * block + place) % 64) ≡ g (64 * block + place) → f block place ≡ g (64 * block + place)
+by-place f g block place h e =
+    let b : (64 * block + place) / 64 ≡ block = omega arith in
+    let p : (64 * block + place) % 64 ≡ place = omega arith in
+    rw (b, p) at e
+
+module _ (block place : ℕ) (h : block < 1024) (l : place < 64) where
+  pub start-place : inMask ID_STARTS BLOCKS block place ≡ isIdStart (64 * block + place)
+  start-place = by-place (inMask ID_STARTS BLOCKS) isIdStart block place l (start-masks (64 * block + place) (omega arith))
+
+  pub id-place : inMask ID_CHARS BLOCKS block place ≡ isIdChar (64 * block + place)
+  id-place = by-place (inMask ID_CHARS BLOCKS) isIdChar block place l (id-masks (64 * block + place) (omega arith))
+
+  pub sign-place : inMask OP_SIGNS BLOCKS block place ≡ isOpSign (64 * block + place)
+  sign-place = by-place (inMask OP_SIGNS BLOCKS) isOpSign block place l (sign-masks (64 * block + place) (omega arith))
+
+  pub print-place : inMask PRINTABLES BLOCKS block place ≡ isPrintable (64 * block + place)
+  print-place = by-place (inMask PRINTABLES BLOCKS) isPrintable block place l (print-masks (64 * block + place) (omega arith))

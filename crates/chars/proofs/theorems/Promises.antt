@@ -22,9 +22,7 @@ use Rattle.chars.proofs.text.Texts as texts
 use Rattle.chars.proofs.Carry as carries
 use Rattle.chars.proofs.classes.Laws as classes
 use Rattle.chars.proofs.classes.Masks as masks
-use Rattle.chars.proofs.classes.Arrow as arrows
-use Rattle.chars.proofs.classes.Cyrillic as cyrillic
-use Rattle.chars.proofs.classes.IdRuns as runs
+use Rattle.chars.proofs.text.Runs as runs
 use Rattle.chars.proofs.classes.Ranges as ranges
 
 abbrev allAscend : List (List Range) → Bool
@@ -152,16 +150,12 @@ class-laws = record {
   above-no-start = classes.above-no-start;
   above-no-id = classes.above-no-id;
   above-no-print = classes.above-no-print;
-  russian-start = classes.russian-start;
-  russian-id = classes.russian-id;
-  russian = cyrillic.russian;
+  above-no-sign = classes.above-no-sign;
   tables-are = refl;
   id-masks = masks.id-masks;
   start-masks = masks.start-masks;
-  arrow-here = arrows.arrow-here;
-  arrow-sign = arrows.arrow-sign;
-  ascii-id = runs.ascii-id;
-  ascii-whole = runs.ascii-whole;
+  sign-masks = masks.sign-masks;
+  print-masks = masks.print-masks;
 }
 
 -- for contracts of which one is a clause

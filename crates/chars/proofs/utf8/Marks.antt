@@ -20,7 +20,7 @@ use Rattle.chars.proofs.utf8.Rows as rows
 use Rattle.chars.proofs.utf8.Wide.{Next, Stood, stood}
 use Rattle.chars.proofs.utf8.Valid.{width-fit, fit-within, valid}
 use Rattle.chars.proofs.utf8.Widths.{width-within, valid-next, valid-stop, valid-end, ascii-at}
-use Rattle.chars.proofs.text.Steps.{char-stands, nothing-stands}
+use Rattle.chars.proofs.text.Steps.{char-found, nothing-stands}
 use Rattle.chars.proofs.text.Places.{at-char, at-end}
 
 -- ---- codes
@@ -358,7 +358,7 @@ module _ (s : List ℕ) (i : ℕ) where
   pub mark-found : (d : Decoded) → Some d ≡ decodeAt s i → isMark d.code ≡ markAt s i
   unfolding markAt
   mark-found d e =
-      let t = char-stands s i d.code d.width e in
+      let t = char-found s i d e in
       let l = t.least in
       rw (t.width-is, t.code-is, lt-ltb 0 d.width (omega arith)) refl
 

@@ -1,5 +1,6 @@
--- What `text::char_at` answers.
-use Rattle.std.specs.Prelude.{ℕ, suc, ◌+◌, ◌-◌, max, Option, None, if◌then◌else◌, nat_lt, List, length, drop}
+-- What `text` answers.
+use Rattle.std.specs.Prelude.{ℕ, suc, ◌+◌, ◌-◌, ◌*◌, ◌/◌, max, Bool, not, ◌&&◌, ◌==◌, Option, None, if◌then◌else◌, nat_lt, List, length, drop}
+use Rattle.chars.specs.paper.Quoted.{between}
 use Rattle.chars.specs.paper.Utf8.{width, codeOf}
 use Rattle.chars.specs.code.Utf8.{decoded}
 use Rattle.chars.specs.declared.utf8.Decoded.{Decoded}
@@ -17,3 +18,12 @@ unfoldable pub stepAt : List ℕ → ℕ → Option Decoded
 stepAt s i =
     let t = drop i s in
     if nat_lt i (length s) then decoded (codeOf (width t) t) (max 1 (width t)) else None
+
+-- Are the bytes a, of E0 to EF, and b, of 80 to BF, the first two of a character of three bytes? By its block of 64 codes, halved into 32: none of the
+-- first 32 blocks, and no surrogate's.
+unfoldable pub beginsThree : ℕ → ℕ → Bool
+beginsThree a b = not ((64 * a + b - 0x3880) / 32 == 0) && not ((64 * a + b - 0x3880) / 32 == 27)
+
+-- are the three bytes such a character?
+abbrev pub threeBytes : ℕ → ℕ → ℕ → Bool
+threeBytes a b c = between 0xE0 0xEF a && (between 0x80 0xBF b && (between 0x80 0xBF c && beginsThree a b))

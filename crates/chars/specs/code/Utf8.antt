@@ -10,11 +10,12 @@ use Rattle.chars.specs.paper.Classes.{isMark}
 use Rattle.chars.specs.paper.Text.{from}
 use Rattle.chars.specs.computed.Valid.{validFrom}
 use Rattle.chars.specs.computed.Marks.{firstMark}
+use Rattle.chars.specs.code.Classes.{answers}
 use Rattle.chars.specs.code.Runs.{stepsOver}
 
--- a character of the code c that is w bytes wide
+-- a character of the code c that is w bytes wide, with what the four classes say of that code
 abbrev pub decoded : ℕ → ℕ → Option Decoded
-decoded c w = Some (record { code = c; width = w })
+decoded c w = Some (record { code = c; width = w; classes = answers c })
 
 -- how many bytes the well-formed character has that stands at a byte offset, or that none does
 unfoldable pub widthAt : List ℕ → ℕ → Option ℕ

@@ -1,4 +1,4 @@
--- The classes of a character: RULES, "Characters"; REQUESTS, "Direction mark".
+-- The classes of a character: RULES, "Characters"; REQUESTS, "One look at each character", "Direction mark".
 use Rattle.std.specs.Prelude.{ℕ, Bool, not, ◌&&◌, ◌||◌, nat_le}
 use Prim.Native.String.{String}
 use Rattle.chars.specs.paper.Quoted.{between, oneOf}
@@ -42,6 +42,16 @@ isOpSign c = oneOf opSigns c
 -- U+FFF0 to U+FFFF."
 unfoldable pub isPrintable : ℕ → Bool
 isPrintable c = nat_le c 0xFFFF && not (between 0x0000 0x001F c) && not (between 0x007F 0x009F c) && not (between 0xFFF0 0xFFFF c)
+
+-- REQUESTS, "One look at each character": what the four classes say of a character
+pub record Classes : Type 0 where
+  pub idStart : Bool
+  pub idChar : Bool
+  pub opSign : Bool
+  pub printable : Bool
+
+abbrev pub classesOf : ℕ → Classes
+classesOf c = record { idStart = isIdStart c; idChar = isIdChar c; opSign = isOpSign c; printable = isPrintable c }
 
 -- REQUESTS, "Direction mark": "A direction mark is one of U+202A to U+202E and U+2066 to U+2069."
 unfoldable pub isMark : ℕ → Bool

@@ -2,7 +2,7 @@
 -- on is the list of characters from there to the script's end; a piece stands between two such texts, so it never ends inside a character."
 use Rattle.std.specs.Prelude.{ℕ, zero, suc, ◌-◌, Bool, false, List, [], ◌∷◌, drop}
 use Rattle.chars.specs.paper.Utf8.{width, codeOf}
-use Rattle.chars.specs.paper.Classes.{isIdChar}
+use Rattle.chars.specs.paper.Classes.{classesOf}
 
 pub record Char : Type 0 where
   pub code : ℕ
@@ -34,4 +34,4 @@ headIs p [] = false
 headIs p (c ∷ s) = p c.code
 
 abbrev pub idChar : Text → Bool
-idChar s = headIs isIdChar s
+idChar s = headIs (λ c. (classesOf c).idChar) s

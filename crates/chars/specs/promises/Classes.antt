@@ -1,19 +1,14 @@
--- Character classes: the order of the tables, what excludes what, ASCII by its byte, runs of id characters.
-use Rattle.std.specs.Prelude.{ℕ, ◌+◌, ◌≤◌, ◌<◌, ◌≡◌, Bool, IsTrue, IsFalse, ◌&&◌, ◌||◌, length, drop, slice_index, nat_lt}
+-- Character classes: the order of the tables, what excludes what, ASCII by its byte, what the masks say.
+use Rattle.std.specs.Prelude.{ℕ, ◌≤◌, ◌<◌, ◌≡◌, Bool, IsTrue, IsFalse, ◌&&◌, ◌||◌, nat_lt}
 use mathlib.Core.List.{List, [], ◌∷◌, Memᴰ}
 use Rattle.chars.specs.paper.Quoted.{between, oneOf}
 use Rattle.chars.specs.paper.Ranges.{Range, Ascending}
 use Rattle.chars.specs.paper.Tables.{alphabeticTable, lowercaseTable, uppercaseTable, ndTable, alphaNotLetterTable}
 use Rattle.chars.specs.paper.Classes.{isIdStart, isIdChar, opSigns, isOpSign, isPrintable}
-use Rattle.chars.specs.paper.Text.{from, place, headIs, idChar}
-use Rattle.chars.specs.computed.Runs.{afterRun}
-use Rattle.chars.specs.code.Classes.{asciiIdChar, isAsciiId, arrowAt, cyrillicAt}
-use Rattle.chars.specs.code.Text.{codeAt, charEnd}
 use Rattle.chars.specs.code.Tables.{pairs}
 use Rattle.chars.specs.code.Masks.{inMasks}
 use Rattle.chars.specs.declared.tables.TheConstants.{ALPHABETIC, LOWERCASE, UPPERCASE, ND, ALPHA_NOT_LETTER}
-use Rattle.chars.specs.declared.masks.TheConstants.{BLOCKS, ID_CHARS, ID_STARTS}
-use Rattle.chars.specs.promises.Texts.{AsciiClass}
+use Rattle.chars.specs.declared.masks.TheConstants.{BLOCKS, ID_CHARS, ID_STARTS, OP_SIGNS, PRINTABLES}
 
 -- the five tables
 unfoldable pub tables : List (List Range)
@@ -25,15 +20,6 @@ lowStart c = between 0x61 0x7A c || between 0x41 0x5A c || oneOf "$_" c
 
 abbrev pub lowId : ℕ → Bool
 lowId c = oneOf "$" c || (between 0x41 0x5A c || between 0x61 0x7A c || between 0x30 0x39 c)
-
--- a Russian letter, U+0410 to U+044F, stands at i: two bytes, which start an identifier and go on in one
-pub record Russian (s : List ℕ) (i : ℕ) : Type 0 where
-  pub letter : IsTrue (between 0x0410 0x044F (codeAt s i))
-  pub within : i + 2 ≤ length s
-  pub next : charEnd s i ≡ i + 2
-  pub start : IsTrue (headIs isIdStart (from s i))
-  pub goes-on : IsTrue (isIdChar (codeAt s i))
-  pub after : from s (i + 2) ≡ drop 1 (from s i)
 
 pub record ClassLaws : Type 0 where
   -- each table ascends: RULES, "Unicode tables"
@@ -53,21 +39,11 @@ pub record ClassLaws : Type 0 where
   pub above-no-start : (c : ℕ) → 0xFFFF < c → IsFalse (isIdStart c)
   pub above-no-id : (c : ℕ) → 0xFFFF < c → IsFalse (isIdChar c)
   pub above-no-print : (c : ℕ) → 0xFFFF < c → IsFalse (isPrintable c)
-  -- the Russian letters U+0410 to U+044F do both
-  pub russian-start : (c : ℕ) → 0x0410 ≤ c → c ≤ 0x044F → IsTrue (isIdStart c)
-  pub russian-id : (c : ℕ) → 0x0410 ≤ c → c ≤ 0x044F → IsTrue (isIdChar c)
-  -- and one of them by its two bytes
-  pub russian : (s : List ℕ) (i : ℕ) → IsTrue (cyrillicAt s i) → Russian s i
-  -- the source's range tables are these five; its masks, by blocks of 64 codes, say what these say, of every code up to U+FFFF
+  -- and it is no operator sign: all four answers are no
+  pub above-no-sign : (c : ℕ) → 0xFFFF < c → IsFalse (isOpSign c)
+  -- the source's range tables are these five; its masks, by blocks of 64 codes, say what the rules say, of every code up to U+FFFF
   pub tables-are : pairs ALPHABETIC ∷ pairs LOWERCASE ∷ pairs UPPERCASE ∷ pairs ND ∷ pairs ALPHA_NOT_LETTER ∷ [] ≡ tables
-  pub id-masks : (c : ℕ) → c ≤ 0xFFFF → inMasks ID_CHARS BLOCKS c ≡ isIdChar c
   pub start-masks : (c : ℕ) → c ≤ 0xFFFF → inMasks ID_STARTS BLOCKS c ≡ isIdStart c
-  -- `⇒` by its three bytes: where a byte past ASCII stands there is no other operator sign
-  pub arrow-here : (s : List ℕ) (i : ℕ) → IsTrue (arrowAt s i) → (i + 3 ≤ length s) × (codeAt s i ≡ 0x21D2) × (charEnd s i ≡ i + 3)
-  pub arrow-sign : (s : List ℕ) (i : ℕ) → 0x80 ≤ slice_index s i → slice_index s i < 0x100 → isOpSign (codeAt s i) ≡ arrowAt s i
-  -- an id character of ASCII is seen by its byte
-  pub ascii-id : AsciiClass isAsciiId
-  -- where a run of ASCII id characters ends at r, and the byte there is ASCII, the run of all id characters ends at r too; past the script the byte
-  -- counts as 0
-  pub ascii-whole : (s : List ℕ) (i r : ℕ) → i ≤ length s → r ≡ place (length s) (afterRun asciiIdChar (from s i)) → slice_index s r < 0x80
-      → (i ≤ r) × (r ≤ length s) × (afterRun idChar (from s i) ≡ from s r)
+  pub id-masks : (c : ℕ) → c ≤ 0xFFFF → inMasks ID_CHARS BLOCKS c ≡ isIdChar c
+  pub sign-masks : (c : ℕ) → c ≤ 0xFFFF → inMasks OP_SIGNS BLOCKS c ≡ isOpSign c
+  pub print-masks : (c : ℕ) → c ≤ 0xFFFF → inMasks PRINTABLES BLOCKS c ≡ isPrintable c

@@ -12,8 +12,8 @@ returns-in_err-width-clause-decoding c = decoding _ _
 pub returns-in_err-width-clause-encoding_laws : goal.returns-in_err-width-clause-encoding_laws
 returns-in_err-width-clause-encoding_laws c = encoding-laws
 
-pub code_at-requires : goal.code_at-requires
-code_at-requires c =
+pub code_at-code-requires : goal.code_at-code-requires
+code_at-code-requires c =
     let t = stands c.args.s.now c.args.at _ c.in_ok-width.ensures in
     let m = width-most (drop c.args.at c.args.s.now) in
     let l = width-within c.args.s.now c.args.at (omega (arith, t.within)) in
