@@ -12,13 +12,14 @@ ghost use Rattle.token.specs.code.Charsym.{escapedChar, plainOf, endOf, runSymbo
 
 use crate::byte_class::Class;
 use crate::cursor::{Cursor, byte_at};
-use crate::ident::{consume_id_rest, consume_op_run, name_end, opens_comment};
+use crate::ident::{consume_op_run, name_end, opens_comment};
 use crate::kinds::TokenKind;
 use crate::names::{Here, run_end, word_end};
 use crate::piece::Piece;
 use crate::refusal::Refusal;
 use crate::string::consume_escape;
-use chars::classes::is_arrow_at;
+use chars::text::look;
+use chars::utf8::Decoded;
 
 /// A character or a symbol, from its `'` on.
 #[inline(always)]
@@ -91,11 +92,7 @@ fn plain_end(s: &[u8], c: Cursor, b: u8) -> Option<Cursor>
     }
     let class = Class::of(b);
     if begins_word(class) {
-        let end = word_end(s, next.at);
-        if end.class.asks_more() {
-            return Some(more_name(s, c.at, end));
-        }
-        return Some(Cursor { at: end.at });
+        return Some(name_symbol_end(s, c.at, next.at));
     }
     if class.in_run() {
         let end = run_end(s, next.at);
@@ -106,14 +103,33 @@ fn plain_end(s: &[u8], c: Cursor, b: u8) -> Option<Cursor>
     if class.is_op() {
         return run_symbol_end(s, c);
     }
-    if b == b';' && !Class::at(s, next.at).asks_more() {
+    if b == b';' && !sign_at(s, next) {
         return Some(next);
     }
-    full_end(s, c)
+    if class == Class::WIDE {
+        return wide_end(s, c);
+    }
+    None
+}
+
+// Where the identifier from `start` on ends, whose first character ends at `next`.
+#[inline(always)]
+fn name_symbol_end(s: &[u8], start: usize, next: usize) -> Cursor
+    requires start { start < length s.now }
+    requires within { next ≤ length s.now }
+    requires next_same { from s.now next ≡ drop 1 (from s.now start) }
+    ensures within { result.at ≤ length s.now }
+    ensures rest { from s.now result.at ≡ afterIdent false (from s.now next) }
+{
+    let end = word_end(s, next);
+    if end.class.asks_more() {
+        return more_name(s, start, end);
+    }
+    Cursor { at: end.at }
 }
 
 // Where the identifier from `start` on ends, whose ASCII id characters and underscores end at `end`.
-#[inline(never)] // as `full_end` and `run_symbol_end`: what is rare takes no registers of the walk's then
+#[inline(never)] // as `run_symbol_end`: what is rare takes no registers of the walk's then
 fn more_name(s: &[u8], start: usize, end: Here) -> Cursor
     requires some { start < end.at }
     requires within { end.at ≤ length s.now }
@@ -132,34 +148,31 @@ fn begins_word(class: Class) -> bool
     !class.is_sign() && class.starts_word()
 }
 
-// The same of every character and symbol, by the character that it begins with.
-#[inline(never)]
-fn full_end(s: &[u8], c: Cursor) -> Option<Cursor>
+// The same where a character past ASCII stands.
+#[inline(always)]
+fn wide_end(s: &[u8], c: Cursor) -> Option<Cursor>
     requires within { c.at ≤ length s.now }
-    requires no_escape { slice_index s.now c.at ≢ 0x5C }
+    requires wide { IsTrue (classAt s.now c.at == wideClass) }
     ensures { result ≡ endOf (length s.now) (plainOf (from s.now c.at)) }
 {
-    let (code, next) = c.peek(s)?;
-    if closes_char(s, code, next) {
+    let (here, next) = c.peek(s)?;
+    if closes_char(s, here, next) {
         return Some(Cursor { at: next.at + 1 });
     }
-    if chars::classes::is_op_char(code) {
-        return run_symbol_end(s, c);
+    if here.classes.id_start {
+        return Some(name_symbol_end(s, c.at, next.at));
     }
-    if chars::classes::is_id_start(code) {
-        return Some(consume_id_rest(s, next, false));
-    }
-    if is_semi(s, code, next) {
-        return Some(next);
+    if here.classes.op_sign {
+        return Some(consume_op_run(s, next));
     }
     None
 }
 
 // Is the character printable, and a `'` next?
-fn closes_char(s: &[u8], code: u32, next: Cursor) -> bool
-    ensures { result ≡ isPrintable code && slice_index s.now next.at == 0x27 }
+fn closes_char(s: &[u8], here: Decoded, next: Cursor) -> bool
+    ensures { result ≡ here.classes.printable && slice_index s.now next.at == 0x27 }
 {
-    byte_at(s, next.at) == b'\'' && chars::classes::is_printable_char(code)
+    byte_at(s, next.at) == b'\'' && here.classes.printable
 }
 
 // Where the run of operator signs ends that stands there; None, where a comment begins.
@@ -174,16 +187,14 @@ fn run_symbol_end(s: &[u8], c: Cursor) -> Option<Cursor>
     Some(consume_op_run(s, c))
 }
 
-// Is the character a `;` that no operator sign follows?
-fn is_semi(s: &[u8], code: u32, next: Cursor) -> bool
-    ensures { result ≡ code == 0x3B && not (opSign (from s.now next.at)) }
-{
-    code == 0x3B && !sign_at(s, next)
-}
-
-// Does an operator sign stand there? One of them is past ASCII, so a byte does not tell.
+// Does an operator sign stand there? Of a character past ASCII a byte does not tell.
 fn sign_at(s: &[u8], c: Cursor) -> bool
+    requires { c.at ≤ length s.now }
     ensures { result ≡ opSign (from s.now c.at) }
 {
-    Class::at(s, c.at).is_op() || is_arrow_at(s, c.at)
+    let class = Class::at(s, c.at);
+    if class == Class::WIDE {
+        return look(s, c.at).classes.op_sign;
+    }
+    class.is_op()
 }

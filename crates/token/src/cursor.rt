@@ -7,6 +7,8 @@ ghost use Rattle.token.specs.paper.Tests.{isAny};
 ghost use Rattle.token.specs.code.Cursor.{peekAt};
 
 use chars::runs::{OneOf, run_end};
+use chars::text::char_at;
+use chars::utf8::Decoded;
 
 /// A byte offset in a script, which goes in by value and comes back advanced. One word, for a register: it does not bring the script along, so each
 /// reader asks that it lies within.
@@ -45,16 +47,14 @@ impl Cursor {
     /// The character at the cursor with the cursor after it; nothing at the end of script.
     #[tactic(auto, using(crate::proofs::cursor::Laws::peek_step, crate::proofs::cursor::Laws::step_within))]
     #[inline(always)]
-    pub fn peek(self, s: &[u8]) -> Option<(u32, Cursor)>
+    pub fn peek(self, s: &[u8]) -> Option<(Decoded, Cursor)>
         ensures { result ≡ peekAt s.now self.at }
     {
-        let here = chars::text::char_at(s, self.at)?;
-        Some((
-            here.code,
-            Cursor {
-                at: self.at + here.width,
-            },
-        ))
+        let here = char_at(s, self.at)?;
+        let next = Cursor {
+            at: self.at + here.width,
+        };
+        Some((here, next))
     }
 
     /// Past one character, if one stands there.
@@ -64,7 +64,7 @@ impl Cursor {
         ensures within { result.at ≤ length s.now }
         ensures past { from s.now result.at ≡ drop 1 (from s.now self.at) }
     {
-        match chars::text::char_at(s, self.at) {
+        match char_at(s, self.at) {
             Some(here) => Cursor {
                 at: self.at + here.width,
             },

@@ -19,12 +19,12 @@ use crate::byte_class::Class;
 use crate::cursor::{Cursor, byte_at};
 use crate::keyword::{run_number, word_number};
 use crate::kinds::{Kw, TokenKind, keyword_of};
-use crate::names::{Here, ends_low, opens_with, word_end};
+use crate::names::{Here, ends_low, id_run_end, opens_with, word_end};
 use crate::piece::Piece;
 use crate::refusal::{Refusal, Refused};
 use crate::string::lex_prefixed_string;
-use chars::classes::{id_run_end, is_arrow_at};
 use chars::runs::{NoneOf, run_end};
+use chars::text::look;
 
 // Does an operator sign of ASCII stand there? FREE: one that opens no comment.
 #[inline(always)]
@@ -40,7 +40,7 @@ fn is_op_sign<const FREE: bool>(s: &[u8], at: usize) -> bool
     class.is_op()
 }
 
-// Past the operator signs that stand there. FREE: a comment's opening ends them. Past ASCII the one sign is U+21D2.
+// Past the operator signs that stand there. FREE: a comment's opening ends them.
 #[inline(never)] // its loops have registers of their own then
 fn consume_signs<const FREE: bool>(s: &[u8], c: Cursor) -> Cursor
     requires { c.at ≤ length s.now }
@@ -48,15 +48,19 @@ fn consume_signs<const FREE: bool>(s: &[u8], c: Cursor) -> Cursor
     ensures rest { from s.now result.at ≡ afterRun (signIn FREE) (from s.now c.at) }
 {
     let mut i = c.at;
-    // A step is the one byte of a sign of ASCII, or the three of U+21D2: no iterator takes such steps.
+    // A step is a sign past ASCII, and those of ASCII before it.
     loop {
         while is_op_sign::<FREE>(s, i) {
             i += 1;
         }
-        if !is_arrow_at(s, i) {
+        if Class::at(s, i) != Class::WIDE {
             return Cursor { at: i };
         }
-        i += 3;
+        let here = look(s, i);
+        if !here.classes.op_sign {
+            return Cursor { at: i };
+        }
+        i += here.width;
     }
 }
 

@@ -1,12 +1,15 @@
-// Words and runs of operator signs of ASCII: byte by byte, since few have the sixteen that `chars::runs` looks at together. Each is told by a place and
-// the class of the byte there.
+// Words and runs of operator signs: byte by byte while they are ASCII, since few have the sixteen that `chars::runs` looks at together, and past it by
+// one look at each character. Each is told by a place and the class of the byte there.
 ghost use Rattle.std.specs.Prelude.{◌≡◌, ◌≤◌, ◌<◌, length};
+ghost use Rattle.chars.specs.paper.Text.{from, place, idChar};
+ghost use Rattle.chars.specs.computed.Runs.{afterRun};
 ghost use Rattle.chars.specs.paper.Quoted.{oneOf};
 ghost use Rattle.token.specs.code.ByteClass.{inWord, inRun};
-ghost use Rattle.token.specs.code.Names.{hereOf, runTo, lowBefore};
+ghost use Rattle.token.specs.code.Names.{hereOf, runTo, lowBefore, wordChar, runChar};
 
 use crate::byte_class::Class;
 use crate::cursor::byte_at;
+use chars::text::look;
 
 /// A place, and what the byte there is.
 #[derive(Clone, Copy, Debug, PartialEq, Eq)]
@@ -39,6 +42,48 @@ pub fn word_end(s: &[u8], at: usize) -> Here
     here_at(s, i)
 }
 
+/// Where all id characters and underscores end that stand there.
+#[inline(always)]
+pub fn wide_word_end(s: &[u8], at: usize) -> Here
+    requires { at ≤ length s.now }
+    ensures { result ≡ hereOf s.now (place (length s.now) (afterRun wordChar (from s.now at))) }
+{
+    let mut end = word_end(s, at);
+    // A step is a character past ASCII, and the ASCII behind it.
+    while end.class == Class::WIDE {
+        let here = look(s, end.at);
+        if !here.classes.id_char {
+            return end;
+        }
+        end = word_end(s, end.at + here.width);
+    }
+    end
+}
+
+/// Where the id characters end that stand there.
+#[inline(always)]
+pub fn id_run_end(s: &[u8], at: usize) -> usize
+    requires { at ≤ length s.now }
+    ensures { result ≡ place (length s.now) (afterRun idChar (from s.now at)) }
+{
+    let mut i = at;
+    // A step is a byte of ASCII or a character past it: no iterator takes such steps.
+    loop {
+        let class = Class::at(s, i);
+        if class == Class::WIDE {
+            let here = look(s, i);
+            if !here.classes.id_char {
+                return i;
+            }
+            i += here.width;
+        } else if class.in_word() && s[i] != b'_' {
+            i += 1;
+        } else {
+            return i;
+        }
+    }
+}
+
 /// Does an underscore stand last in the word, and not first?
 pub fn ends_low(s: &[u8], start: usize, end: usize) -> bool
     requires some { start < end }
@@ -58,6 +103,24 @@ pub fn run_end(s: &[u8], at: usize) -> Here
         i += 1;
     }
     here_at(s, i)
+}
+
+/// Where all operator signs other than `/` end that stand there.
+#[inline(always)]
+pub fn wide_run_end(s: &[u8], at: usize) -> Here
+    requires { at ≤ length s.now }
+    ensures { result ≡ hereOf s.now (place (length s.now) (afterRun runChar (from s.now at))) }
+{
+    let mut end = run_end(s, at);
+    // A step is a character past ASCII, and the ASCII behind it.
+    while end.class == Class::WIDE {
+        let here = look(s, end.at);
+        if !here.classes.op_sign {
+            return end;
+        }
+        end = run_end(s, end.at + here.width);
+    }
+    end
 }
 
 /// Is the byte behind a `/` one that makes it a comment's opening?

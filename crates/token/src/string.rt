@@ -9,7 +9,7 @@ ghost use Rattle.token.specs.code.String.{endedOf, escapeOf, hexesOf, isOrdinary
 ghost use Rattle.chars.specs.promises.Texts.{Suffix};
 
 use crate::byte_class::Class;
-use crate::cursor::{Cursor, byte_at};
+use crate::cursor::{Cursor, byte_at, two_at};
 use crate::digits::digit_run;
 use crate::kinds::TokenKind;
 use crate::piece::Piece;
@@ -349,7 +349,7 @@ pub fn lex_plain_string(s: &[u8], c: Cursor) -> Piece
     requires opens { IsTrue (quote (from s.now c.at)) }
     ensures { result ≡ pieceOf (length s.now) (scanString (length s.now) (from s.now c.at)) }
 {
-    if three_quotes(s, c.at) {
+    if two_at(s, c.at + 1, b'"', b'"') {
         return lex_plain_triple(s, c);
     }
     let end = lex_single_string(s, c, false)?;

@@ -21,11 +21,13 @@ use crate::form::{put_head_if, put_if, put_record};
 use crate::ident::{consume_backtick, lex_ident, lex_op_run};
 use crate::keyword::{run_number, word_number};
 use crate::kinds::{Form, TokenKind};
-use crate::names::{Here, ends_low, here_at, opens_with, run_end, word_end};
+use crate::names::{
+    Here, ends_low, here_at, opens_with, run_end, wide_run_end, wide_word_end, word_end,
+};
 use crate::piece::Piece;
 use crate::refusal::{Refusal, Refused};
 use crate::string::{lex_plain_string, lex_prefixed_string};
-use chars::classes::{IdStart, class_end, is_arrow_at};
+use chars::text::look;
 
 const HEAD: usize = TokenKind::HEAD_LENGTH as usize;
 
@@ -61,6 +63,21 @@ impl Stand {
             mark: 1,
             cut: false,
         }
+    }
+}
+
+// The same, field by field: copied whole, padding would be kept too, and in `walk` each piece would take ten instructions more.
+#[inline(always)]
+fn by_field(x: Stand) -> Stand
+    ensures { result ≡ x }
+{
+    Stand {
+        at: x.at,
+        class: x.class,
+        bytes: x.bytes,
+        line: x.line,
+        mark: x.mark,
+        cut: x.cut,
     }
 }
 
@@ -122,6 +139,7 @@ fn behind_comment(s: &[u8], x: Stand, end: usize) -> Stand
 // equation and its class, and be longer than they are.
 
 // Past the blank that stands there and those behind it. Most blanks stand alone.
+#[inline(always)]
 fn blank_step(s: &[u8], x: Stand) -> Stand
     requires short { length s.now ≤ mostBytes }
     requires good { Good s.now x }
@@ -144,6 +162,7 @@ fn blank_step(s: &[u8], x: Stand) -> Stand
 }
 
 // One of the nine signs.
+#[inline(always)]
 fn sign_step(out: &mut [u8], s: &[u8], x: Stand) -> Stand
     requires short { length s.now ≤ mostBytes }
     requires good { Good s.now x }
@@ -157,6 +176,7 @@ fn sign_step(out: &mut [u8], s: &[u8], x: Stand) -> Stand
 }
 
 // An LF.
+#[inline(always)]
 fn line_step(out: &mut [u8], s: &[u8], counts: &mut Counts, x: Stand) -> Stand
     requires short { length s.now ≤ mostBytes }
     requires good { Good s.now x }
@@ -253,6 +273,7 @@ fn operator_number(s: &[u8], class: Class, at: usize, end: Here) -> u16
 }
 
 // Stores an operator's record, where it fits: its keyword is looked for there only.
+#[inline(always)]
 fn put_run_if(out: &mut [u8], s: &[u8], x: Stand, end: Here)
     requires left { IsTrue (x.class.number == signKeywordClass) → LeftTo s.now x.at end.at }
     requires room { x.bytes + headLength ≤ 18446744073709551615 }
@@ -331,6 +352,7 @@ fn name_number(s: &[u8], class: Class, at: usize, end: usize) -> u16
 }
 
 // Stores a word's record, where it fits: its keyword is looked for there only.
+#[inline(always)]
 fn put_word_if(out: &mut [u8], s: &[u8], x: Stand, end: usize)
     requires left { IsTrue (x.class.number == keywordClass) → LeftTo s.now x.at end }
     requires room { x.bytes + headLength ≤ 18446744073709551615 }
@@ -531,13 +553,14 @@ fn wide_step(out: &mut [u8], s: &[u8], counts: &mut Counts, x: Stand) -> Result<
     ensures uncounted { IfErr result (λ e. counts.new ≡ counts.old) }
 {
     let c = Cursor { at: x.at };
-    if is_arrow_at(s, x.at) {
-        return run_step(out, s, counts, x, c.step(s));
+    let here = look(s, x.at);
+    if here.classes.op_sign {
+        return run_step(out, s, counts, x, Cursor { at: c.at + here.width });
     }
-    let Some(next) = class_end::<IdStart>(s, x.at) else {
-        return Err(Refusal::NoPiece.at(x.at));
-    };
-    name_step(out, s, counts, x, Cursor { at: next })
+    if here.classes.id_start {
+        return name_step(out, s, counts, x, Cursor { at: c.at + here.width });
+    }
+    Err(Refusal::NoPiece.at(x.at))
 }
 
 // A plain string.
@@ -630,14 +653,20 @@ fn run_goes_on(s: &[u8], end: Here) -> bool
     end.class.in_operator() && !(end.class == Class::SLASH && opens_with(byte_at(s, end.at + 1)))
 }
 
-// As far as blanks, signs, words, line ends, runs of operator signs and numbers stand there of which no byte behind them makes more, as most pieces
-// are.
-fn walk_words(out: &mut [u8], s: &[u8], counts: &mut Counts, start: Stand) -> Stand
+// As far as blanks, signs, words, line ends, runs of operator signs and numbers of ASCII stand there of which no byte behind them makes more, as most
+// pieces are. Err, where a character past ASCII stands, or makes more of the word or the run that it follows.
+fn walk_words(
+    out: &mut [u8],
+    s: &[u8],
+    counts: &mut Counts,
+    start: Stand,
+) -> Result<Stand, Stand>
     requires short { length s.now ≤ mostBytes }
     requires good { Good s.now start }
     requires counted { Counted start counts.old }
-    ensures on { Steps s.now start counts.old out.old result counts.new out.new }
-    ensures left { Left s.now result }
+    ensures on { IfOk result (λ x. Steps s.now start counts.old out.old x counts.new out.new) }
+    ensures left { IfOk result (λ x. Left s.now x) }
+    ensures on_to_wide { IfErr result (λ x. Steps s.now start counts.old out.old x counts.new out.new) }
 {
     let mut x = start;
     // A step is a piece, and what it makes of the state.
@@ -649,7 +678,10 @@ fn walk_words(out: &mut [u8], s: &[u8], counts: &mut Counts, start: Stand) -> St
         } else if x.class.starts_word() {
             let end = word_end(s, x.at + 1);
             if goes_on(s, x.at, end) {
-                return x;
+                if end.class == Class::WIDE {
+                    return Err(x);
+                }
+                return Ok(x);
             }
             put_word_if(out, s, x, end.at);
             x = behind(x, end, HEAD);
@@ -658,23 +690,115 @@ fn walk_words(out: &mut [u8], s: &[u8], counts: &mut Counts, start: Stand) -> St
         } else if x.class.in_run() {
             let end = run_end(s, x.at + 1);
             if run_goes_on(s, end) {
-                return x;
+                if end.class == Class::WIDE {
+                    return Err(x);
+                }
+                return Ok(x);
             }
             put_run_if(out, s, x, end);
             x = behind(x, end, HEAD);
         } else if x.class == Class::CR {
             let Ok(y) = return_step(out, s, counts, x) else {
-                return x;
+                return Ok(x);
             };
             x = y;
         } else if x.class == Class::DIGIT {
             let Some(y) = number_step(out, s, counts, x) else {
-                return x;
+                return Ok(x);
             };
             x = y;
+        } else if x.class.in_operator() && !x.class.is_op() {
+            return Err(x); // past ASCII; asked so, the compiler keeps the order of the tests before
+        } else {
+            return Ok(x);
+        }
+    }
+}
+
+// May what stands behind a word with all its characters make more of it?
+fn whole_goes_on(s: &[u8], start: usize, end: Here) -> bool
+    requires some { start < end.at }
+    requires within { end.at ≤ length s.now }
+    ensures { result ≡ (asksMore end.class.number && (end.class.number == quoteClass || lowBefore s.now start end.at)) }
+{
+    end.class.asks_more() && (end.class == Class::QUOTE || ends_low(s, start, end.at))
+}
+
+// May it of a run of signs?
+fn whole_run_goes_on(s: &[u8], end: Here) -> bool
+    requires here { end ≡ hereOf s.now end.at }
+    requires within { end.at ≤ length s.now }
+    ensures { result ≡ wholeRunGoesOn s.now end.at }
+{
+    end.class == Class::SLASH && !opens_with(byte_at(s, end.at + 1))
+}
+
+// The same as `walk_words` of all characters, but for numbers and lines that a CR ends: those are left, as what is compiled twice would be called.
+fn wide_words(out: &mut [u8], s: &[u8], counts: &mut Counts, start: Stand) -> Stand
+    requires short { length s.now ≤ mostBytes }
+    requires good { Good s.now start }
+    requires counted { Counted start counts.old }
+    ensures { Steps s.now start counts.old out.old result counts.new out.new }
+{
+    let mut x = start;
+    // A step is a piece, and what it makes of the state.
+    loop {
+        if x.class == Class::BLANK {
+            x = blank_step(s, x);
+        } else if x.class.is_sign() {
+            x = sign_step(out, s, x);
+        } else if x.class.starts_word() {
+            let end = wide_word_end(s, x.at + 1);
+            if whole_goes_on(s, x.at, end) {
+                return x;
+            }
+            put_word_if(out, s, x, end.at);
+            x = behind(x, end, HEAD);
+        } else if x.class == Class::WIDE {
+            let here = look(s, x.at);
+            let next = x.at + here.width;
+            if here.classes.id_start {
+                let end = wide_word_end(s, next);
+                if whole_goes_on(s, x.at, end) {
+                    return x;
+                }
+                put_word_if(out, s, x, end.at);
+                x = behind(x, end, HEAD);
+            } else if here.classes.op_sign {
+                let end = wide_run_end(s, next);
+                if whole_run_goes_on(s, end) {
+                    return x;
+                }
+                put_run_if(out, s, x, end);
+                x = behind(x, end, HEAD);
+            } else {
+                return x;
+            }
+        } else if x.class == Class::LF {
+            x = line_step(out, s, counts, x);
+        } else if x.class.in_run() {
+            let end = wide_run_end(s, x.at + 1);
+            if whole_run_goes_on(s, end) {
+                return x;
+            }
+            put_run_if(out, s, x, end);
+            x = behind(x, end, HEAD);
         } else {
             return x;
         }
+    }
+}
+
+// Both: what is past ASCII, most scripts do not have, and the first loop keeps its registers to itself.
+fn walk_plain(out: &mut [u8], s: &[u8], counts: &mut Counts, start: Stand) -> Stand
+    requires short { length s.now ≤ mostBytes }
+    requires good { Good s.now start }
+    requires counted { Counted start counts.old }
+    ensures { Steps s.now start counts.old out.old result counts.new out.new }
+{
+    match walk_words(out, s, counts, start) {
+        Ok(x) => x,
+        Err(x) => wide_words(out, s, counts, x),
     }
 }
 
@@ -711,9 +835,9 @@ pub fn walk(out: &mut [u8], s: &[u8], counts: &mut Counts) -> Result<Need, Refus
     // The same steps, of every piece, by the class of its first byte.
     loop {
         if !x.cut {
-            x = walk_words(out, s, counts, x);
+            x = by_field(walk_plain(out, s, counts, x));
         }
-        x = match x.class {
+        let y = match x.class {
             Class::SLASH => slash_step(out, s, counts, x)?,
             Class::QUOTE => string_step(out, s, counts, x)?,
             Class::WIDE => wide_step(out, s, counts, x)?,
@@ -731,5 +855,6 @@ pub fn walk(out: &mut [u8], s: &[u8], counts: &mut Counts) -> Result<Need, Refus
             _ if x.at < s.len() => return Err(Refusal::NoPiece.at(x.at)),
             _ => return Ok(finish(out, *counts, x)),
         };
+        x = by_field(y);
     }
 }

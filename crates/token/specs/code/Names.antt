@@ -1,5 +1,7 @@
 -- What `names` answers: where words and runs of operator signs end, by the classes of their bytes.
-use Rattle.std.specs.Prelude.{ℕ, ◌+◌, ◌-◌, Bool, ◌&&◌, List, length, slice_index, ◌==◌, nat_lt}
+use Rattle.std.specs.Prelude.{ℕ, ◌+◌, ◌-◌, Bool, not, ◌&&◌, ◌||◌, List, length, slice_index, ◌==◌, nat_lt}
+use Rattle.chars.specs.paper.Text.{Text, idChar}
+use Rattle.token.specs.paper.Tests.{isAny, opSign}
 use Rattle.token.specs.code.Loops.{stepsWhile}
 use Rattle.token.specs.code.ByteClass.{classAt}
 use Rattle.token.specs.declared.names.Here.{Here}
@@ -21,3 +23,10 @@ runTo p s i = bytesTo (λ j. p (classAt s j)) s i
 -- a `_` stands last before e, and not at the start
 abbrev pub lowBefore : List ℕ → ℕ → ℕ → Bool
 lowBefore s start e = slice_index s (e - 1) == 0x5F && nat_lt start (e - 1)
+
+-- an id character or `_`; an operator sign other than `/`
+abbrev pub wordChar : Text → Bool
+wordChar t = idChar t || isAny "_" t
+
+abbrev pub runChar : Text → Bool
+runChar t = opSign t && not (isAny "/" t)
