@@ -45,7 +45,7 @@ impl Cursor {
     }
 
     /// The character at the cursor with the cursor after it; nothing at the end of script.
-    #[tactic(auto, using(crate::proofs::cursor::Laws::peek_step, crate::proofs::cursor::Laws::step_within))]
+    #[tactic(auto, using(crate::proofs::cursor::Laws::step_within))]
     #[inline(always)]
     pub fn peek(self, s: &[u8]) -> Option<(Decoded, Cursor)>
         ensures { result ≡ peekAt s.now self.at }

@@ -76,7 +76,10 @@ pub fn id_run_end(s: &[u8], at: usize) -> usize
                 return i;
             }
             i += here.width;
-        } else if class.in_word() && s[i] != b'_' {
+        } else if class.in_word() {
+            if s[i] == b'_' {
+                return i;
+            }
             i += 1;
         } else {
             return i;

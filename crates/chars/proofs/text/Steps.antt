@@ -28,3 +28,8 @@ nothing-stands s i e = ⊎_elim (λ z. z) (λ n. let f = rw (ne_eqb (width (drop
 pub step_end : (s : List ℕ) (i : ℕ) → length s ≤ i → None ≡ stepAt s i
 unfolding stepAt
 step_end s i h = rw (le-ltb i (length s) h)
+
+-- what is handed back has the classes of its code
+pub step-classes : (s : List ℕ) (i : ℕ) (d : Decoded) → Some d ≡ stepAt s i → Some d ≡ decoded d.code d.width
+unfolding stepAt
+step-classes s i d e = grind arith

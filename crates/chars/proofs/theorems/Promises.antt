@@ -18,6 +18,7 @@ use Rattle.chars.proofs.utf8.Widths.{width-most, width-within}
 use Rattle.chars.proofs.text.Steps.{CharStands, char-stands}
 use Rattle.chars.proofs.utf8.Valid as valids
 use Rattle.chars.proofs.text.Places as places
+use Rattle.chars.proofs.text.Steps as steps
 use Rattle.chars.proofs.text.Texts as texts
 use Rattle.chars.proofs.Carry as carries
 use Rattle.chars.proofs.classes.Laws as classes
@@ -116,6 +117,7 @@ text-laws = record {
   wide-past = places.wide-past;
   head-byte = places.head-byte;
   step-text = places.step-text;
+  step-classes = steps.step-classes;
   step-none = places.step-none;
   suffix-refl = texts.suffix-refl;
   suffix-cons = texts.suffix-cons;

@@ -1,8 +1,9 @@
 -- The text from a place on, the suffixes of a text, runs of characters.
-use Rattle.std.specs.Prelude.{ℕ, ◌+◌, ◌-◌, ◌≤◌, ◌<◌, ◌≡◌, Bool, IsTrue, IsFalse, None, List, [], ◌∷◌, length, drop, slice_index}
+use Rattle.std.specs.Prelude.{ℕ, ◌+◌, ◌-◌, ◌≤◌, ◌<◌, ◌≡◌, Bool, IsTrue, IsFalse, Some, None, List, [], ◌∷◌, length, drop, slice_index}
 use Rattle.chars.specs.paper.Text.{Char, Text, from, place, headIs}
 use Rattle.chars.specs.computed.Runs.{afterRun}
 use Rattle.chars.specs.code.Utf8.{decoded}
+use Rattle.chars.specs.declared.utf8.Decoded.{Decoded}
 use Rattle.chars.specs.code.Text.{codeAt, charEnd, stepAt}
 
 -- r is what is left of s after some characters
@@ -45,6 +46,8 @@ pub record TextLaws : Type 0 where
   pub head-byte : (p : ℕ → Bool) → AsciiClass p → (s : List ℕ) (i : ℕ) → headIs p (from s i) ≡ p (slice_index s i)
   -- ---- one step
   pub step-text : (s : List ℕ) (i c w : ℕ) → decoded c w ≡ stepAt s i → (i < length s) × (codeAt s i ≡ c) × (charEnd s i ≡ i + w)
+  -- what is handed back has the classes of its code
+  pub step-classes : (s : List ℕ) (i : ℕ) (d : Decoded) → Some d ≡ stepAt s i → Some d ≡ decoded d.code d.width
   pub step-none : (s : List ℕ) (i : ℕ) → None ≡ stepAt s i → length s ≤ i
   -- ---- suffixes
   pub suffix-refl : (s : Text) → Suffix s s

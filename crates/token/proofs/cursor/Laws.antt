@@ -1,9 +1,12 @@
 -- The cursor: one character, and runs of bytes.
-use Rattle.token.proofs.cursor.Words.{ℕ, zero, suc, ◌+◌, ◌-◌, ◌≤◌, ◌<◌, ◌≡◌, ◌∙◌, ap, List, ◌∷◌, length, get_or, arith, Text, from, stepAt, text-laws, cursorAt, peekAt, peekedTo, Cursor, None, Option, Some, refl, drop, sym}
+use Rattle.token.proofs.cursor.Words.{ℕ, zero, suc, ◌+◌, ◌-◌, ◌≤◌, ◌<◌, ◌≡◌, ◌∙◌, ap, List, ◌∷◌, length, get_or, arith, Text, from, stepAt, text-laws, cursorAt, Cursor, None, Option, Some, refl, drop, sym}
+use Rattle.std.proofs.lemmas.Option.{none-some, same_Some}
+use Rattle.chars.specs.code.Classes.{answers}
+use Rattle.token.specs.code.Cursor.{peekAt, peekedOf}
 use Rattle.chars.specs.code.Runs.{Each}
 use Rattle.chars.specs.code.Utf8.{decoded}
 use Rattle.chars.specs.declared.utf8.Decoded.{Decoded}
-open text-laws use {at-char, at-end, place-from, next-on, step-text, step-none}
+open text-laws use {at-char, next-on, step-classes, step-text, step-none}
 
 -- the character at i, as the code has it
 pub record Here (s : List ℕ) (i code next : ℕ) : Type 0 where
@@ -15,34 +18,41 @@ pub record Here (s : List ℕ) (i code next : ℕ) : Type 0 where
 pub here : (s : List ℕ) (i code wide : ℕ) → decoded code wide ≡ stepAt s i → Here s i code (i + wide)
 here s i code wide e = let t = step-text s i code wide e in grind (arith, at-char, next-on)
 
+-- the same of what the code looked at, with the classes
+pub record Seen (s : List ℕ) (i : ℕ) (d : Decoded) : Type 0 where
+  pub here : Here s i d.code (i + d.width)
+  pub classes : d.classes ≡ answers d.code
+
+pub seen : (s : List ℕ) (i : ℕ) (d : Decoded) → Some d ≡ stepAt s i → Seen s i d
+seen s i d e =
+    let k = step-classes s i d e in
+    let q = same_Some d (record { code = d.code; width = d.width; classes = answers d.code }) k in
+    record { here = here s i d.code d.width (sym k ∙ e); classes = ap (λ (z : Decoded). z.classes) q }
+
 -- a character ends within the script
 pub step_within : (s : List ℕ) (i : ℕ) (d : Decoded) → Some d ≡ stepAt s i → i + d.width ≤ length s
-step_within s i d e = (here s i d.code d.width e).within
+step_within s i d e = (seen s i d e).here.within
 
 pub step_past : (s : List ℕ) (i : ℕ) (d : Decoded) → Some d ≡ stepAt s i → from s (i + d.width) ≡ drop 1 (from s i)
-step_past s i d e = sym (ap (drop 1) (here s i d.code d.width e).text)
-
--- a peek, by the step that the code makes
-abbrev pub peekStep : ℕ → Option Decoded → Option (ℕ × Cursor)
-peekStep i (Some d) = peekedTo d.code (cursorAt (i + d.width))
-peekStep i None = None
-
-pub peek_step : (s : List ℕ) (i : ℕ) → peekAt s i ≡ peekStep i (stepAt s i)
-unfolding peekAt
-peek_step s i = go (stepAt s i) refl
-  where
-    go : (x : Option Decoded) → x ≡ stepAt s i → peekAt s i ≡ peekStep i x
-    go (Some d) e = let h = here s i d.code d.width e in rw (h.text, place-from s (i + d.width) h.within)
-    go None e = rw (at-end s i (step-none s i e))
+step_past s i d e = sym (ap (drop 1) (seen s i d e).here.text)
 
 -- what a peek says
-pub peeked-char : (s : List ℕ) (i code : ℕ) (next : ℕ) → peekedTo code (cursorAt next) ≡ peekAt s i → Here s i code next
-unfolding peekAt
-peeked-char s i code next e = grind (arith, at-char, at-end, next-on, place-from)
+pub peeked : (s : List ℕ) (i : ℕ) (d : Decoded) (c : Cursor) → Some (d, c) ≡ peekAt s i → Seen s i d × (c.at ≡ i + d.width)
+peeked s i d c e = go (stepAt s i) refl e
+  where
+    go : (x : Option Decoded) → stepAt s i ≡ x → Some (d, c) ≡ peekedOf i x → Seen s i d × (c.at ≡ i + d.width)
+    go (Some y) f q =
+        let p = same_Some (d, c) (y, cursorAt (i + y.width)) q in
+        let a : d ≡ y = ap (λ z. z.0) p in
+        (seen s i d (ap Some a ∙ sym f), ap (λ z. z.1.at) p ∙ ap (λ (z : Decoded). i + z.width) (sym a))
+    go None f q = absurd (none-some (d, c) (sym q))
 
 pub peeked-end : (s : List ℕ) (i : ℕ) → None ≡ peekAt s i → length s ≤ i
-unfolding peekAt
-peeked-end s i e = grind (arith, at-char)
+peeked-end s i e = go (stepAt s i) refl e
+  where
+    go : (x : Option Decoded) → stepAt s i ≡ x → None ≡ peekedOf i x → length s ≤ i
+    go (Some y) f q = absurd (none-some (y, cursorAt (i + y.width)) q)
+    go None f q = step-none s i (sym f)
 
 -- ---- bytes of one property, passed together: what f finds past any one of them is what it finds before it
 

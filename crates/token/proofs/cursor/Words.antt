@@ -27,8 +27,7 @@ unfoldable pub use Rattle.words.specs.Words.{eightAt, fourAt, le2, le4, le8, two
 unfoldable pub use Rattle.token.specs.code.Ascii.{signNumber}
 pub use Rattle.token.specs.code.ByteClass.{backtickClass, blankClass, classAt, crClass, digitClass, inRun, inWord, isSign, keywordClass, lfClass, quoteClass, slashClass, startsWord, tickClass, upToBlank, wideClass}
 unfoldable pub use Rattle.token.specs.code.ByteClass.{classOf}
-pub use Rattle.token.specs.code.Cursor.{cursorAt, peekedOf, peekedTo}
-unfoldable pub use Rattle.token.specs.code.Cursor.{peekAt}
+pub use Rattle.token.specs.code.Cursor.{cursorAt, peekAt, peekedOf}
 pub use Rattle.token.specs.code.Digits.{Untested}
 unfoldable pub use Rattle.token.specs.code.Digits.{digitOf, letterOf, intOr, longOr, numberBy}
 pub use Rattle.token.specs.paper.Digits.{IsBase, RunEnds, digitsTo, fitting}

@@ -1,13 +1,15 @@
--- Operator signs, by the classes of their bytes, and past ASCII by three bytes.
-use Rattle.token.proofs.lexer.Words.{◌≡◌, refl, sym, ◌∙◌, ap, ap₂, ℕ, ◌+◌, ◌≤◌, ◌<◌, Bool, true, false, cond, not, ◌&&◌, List, ◌∷◌, length, get_or, eqb, ltb, ltb-true, ltb-false, leb-false, ne_eqb, eqb-true, ◌-◌, arith, and-true, or-false, lt-leb, Option, none, some, codes, oneOf, isOpSign, Text, from, arrowAt, charEnd, afterRun, clash, and-both, text-laws, class-laws, begins, opSign, freeSign, opensComment, runOf, wordOf, symbolKeywords, wordKeywords, Found, codesTo, runOr, scanOperator, classOf, classAt, keywordClass, signKeywordClass, wideClass, slashClass, isSign, signIn, asciiSign, runBefore, LeftTo, Kw, TokenKind, nul-no-sign, sign-byte, by-test}
+-- Operator signs, by the classes of their bytes, and past ASCII by one look.
+use Rattle.token.proofs.lexer.Words.{◌≡◌, refl, sym, ◌∙◌, ap, ap₂, ℕ, ◌+◌, ◌≤◌, ◌<◌, Bool, true, false, cond, not, ◌&&◌, List, ◌∷◌, length, get_or, eqb, ltb, ltb-true, ltb-false, leb-false, ne_eqb, eqb-true, ◌-◌, arith, and-true, or-false, lt-leb, Option, none, some, codes, oneOf, isOpSign, Some, Char, Text, from, afterRun, clash, and-both, text-laws, class-laws, begins, opSign, freeSign, opensComment, runOf, wordOf, symbolKeywords, wordKeywords, Found, codesTo, runOr, scanOperator, classOf, classAt, keywordClass, signKeywordClass, wideClass, slashClass, isSign, signIn, asciiSign, runBefore, LeftTo, Kw, TokenKind, nul-no-sign, sign-byte, by-test}
 use Rattle.token.specs.declared.kinds.TokenKind.TheVariants as tk
-use Rattle.token.proofs.cursor.Bytes.{inside}
+use Rattle.chars.specs.code.Text.{stepAt}
+use Rattle.chars.specs.declared.classes.Classes.{Classes}
+use Rattle.chars.specs.declared.utf8.Decoded.{Decoded}
+use Rattle.token.proofs.cursor.Laws.{seen}
 use Rattle.token.proofs.ident.Laws.{comment_bytes, head-low}
 use Rattle.token.proofs.byte_class.Laws.{class-sign, class-keyword, class-sign-keyword, class-slash, class-wide}
 use Rattle.token.proofs.keyword.Laws.{run-at, word-at, first-none}
 use Rattle.token.proofs.names.Bytes.{class-inside}
-open class-laws use {arrow-here, arrow-sign}
-open text-laws use {at-char, ascii-next, next-on, run-next, run-stays}
+open text-laws use {ascii-next, run-next, run-stays}
 
 -- ---- what a class excludes
 
@@ -34,6 +36,15 @@ plain_sign true k o e = rw e (sym (and-true (isSign k)))
 plain_sign false k o e = sym (and-true (isSign k))
 
 pub ruleset sign_tests = (slash_sign, plain_sign)
+
+-- a character past ASCII opens no comment
+pub wide-clear : (s : List ℕ) (j : ℕ) → eqb (classAt s j) wideClass ≡ true → opensComment (from s j) ≡ false
+wide-clear s j w = comment-class s j ∙ ap (λ z. eqb z slashClass && oneOf "*/" (get_or s (j + 1) 0)) (eqb-true (classAt s j) wideClass w)
+
+-- a run goes on behind its first character
+run-on : (p : Text → Bool) (c : Char) (t : Text) → p (c ∷ t) ≡ true → afterRun p (c ∷ t) ≡ afterRun p t
+unfolding afterRun
+run-on p c t e = rw (e, afterRun)
 
 sign-is : (f : Bool) (t : Text) → signIn f t ≡ opSign t && not (f && opensComment t)
 sign-is true t = refl
@@ -62,45 +73,38 @@ module _ (s : List ℕ) (j : ℕ) where
         let l = sign-low k in
         (h, ap (λ i. afterRun (signIn free) (from s i)) (sym (ascii-next s j h l)) ∙ run-next (signIn free) s j h (sign-same l ∙ e))
 
-    -- past the double arrow, which begins no comment
-    pub arrow-on : arrowAt s j ≡ true → (j + 3 ≤ length s) × (afterRun (signIn free) (from s (j + 3)) ≡ afterRun (signIn free) (from s j))
-    unfolding begins isOpSign
-    arrow-on e =
-        let a = arrow-here s j e in
-        let h : j < length s = let l = a.0 in omega arith in
-        let n = next-on s j h in
-        let c = a.2 in (
-          omega (arith, n.1),
-          ap (λ i. afterRun (signIn free) (from s i)) (sym c) ∙ run-next (signIn free) s j h (ap (signIn free) (at-char s j h) ∙ ap (λ k. signIn free (record { code = k; at = j } ∷ from s (charEnd s j))) a.1 ∙ go free (from s (charEnd s j))),
-        )
-      where
-        go : (f : Bool) (r : Text) → signIn f (record { code = 0x21D2; at = j } ∷ r) ≡ true
-        go true r = refl
-        go false r = refl
+    -- one past ASCII, which begins no comment
+    module _ (d : Decoded) (w : eqb (classAt s j) wideClass ≡ true) (e : Some d ≡ stepAt s j) where
+      wide-here : signIn free (from s j) ≡ d.classes.op_sign
+      wide-here =
+          let n = seen s j d e in
+          let o : opSign (from s j) ≡ d.classes.op_sign = ap opSign n.here.text ∙ sym (ap (λ (z : Classes). z.op_sign) n.classes) in
+          sign-is free (from s j) ∙ ap₂ (λ x y. x && not (free && y)) o (wide-clear s j w) ∙ plain free d.classes.op_sign
+        where
+          plain : (f o : Bool) → o && not (f && false) ≡ o
+          plain true o = and-true o
+          plain false o = and-true o
 
-    -- where neither stands, none does
-    pub sign-stop : asciiSign free s j ≡ false → arrowAt s j ≡ false → get_or s j 0 < 0x100 → signIn free (from s j) ≡ false
-    sign-stop e f l =
-        by-test (ltb (get_or s j 0) 0x80) (λ q. sign-same (ltb-true (get_or s j 0) 0x80 q) ∙ e) (λ q.
-        let m = ltb-false (get_or s j 0) 0x80 q in
-        let h : j < length s = inside s j (omega arith) in
-        sign-is free (from s j) ∙ ap (λ z. z && not (free && opensComment (from s j))) (ap opSign (at-char s j h) ∙ arrow-sign s j m l ∙ f))
+      pub wide-on : d.classes.op_sign ≡ true → (j + d.width ≤ length s) × (j < j + d.width) × (afterRun (signIn free) (from s (j + d.width)) ≡ afterRun (signIn free) (from s j))
+      wide-on o =
+          let n = seen s j d e in
+          (n.here.within, n.here.on, sym (ap (afterRun (signIn free)) n.here.text ∙ run-on (signIn free) _ (from s (j + d.width)) (ap (signIn free) (sym n.here.text) ∙ wide-here ∙ o)))
 
--- by its class, or past ASCII by three bytes
+      pub wide-stop : d.classes.op_sign ≡ false → afterRun (signIn free) (from s j) ≡ from s j
+      wide-stop o = run-stays (signIn free) (from s j) (wide-here ∙ o)
+
+    -- where neither a sign of ASCII stands nor a character past it, none does
+    pub sign-stop : asciiSign free s j ≡ false → eqb (classAt s j) wideClass ≡ false → signIn free (from s j) ≡ false
+    sign-stop e f = sign-same (low-byte _ f) ∙ e
+
+-- by its class
 module _ (s : List ℕ) (j : ℕ) where
   pub sign-here : isSign (classAt s j) ≡ true → opSign (from s j) ≡ true
   sign-here e = sign-text s j (sign-low s j e) ∙ e
 
-  pub arrow-opens : arrowAt s j ≡ true → opSign (from s j) ≡ true
-  unfolding isOpSign
-  arrow-opens e =
-      let a = arrow-here s j e in
-      let h : j < length s = let l = a.0 in omega arith in
-      ap opSign (at-char s j h) ∙ ap isOpSign a.1
-
-  pub arrow-decides : isSign (classAt s j) ≡ false → get_or s j 0 < 0x100 → arrowAt s j ≡ opSign (from s j)
-  arrow-decides e l =
-      by-test (arrowAt s j) (λ f. f ∙ sym (arrow-opens f)) (λ f. f ∙ sym (sign-stop s j false (ap (λ z. z && true) e) f l))
+  -- past ASCII by one look
+  pub wide-sign : (d : Decoded) → Some d ≡ stepAt s j → opSign (from s j) ≡ d.classes.op_sign
+  wide-sign d e = let n = seen s j d e in ap opSign n.here.text ∙ sym (ap (λ (z : Classes). z.op_sign) n.classes)
 
 -- where neither a sign nor a character past ASCII stands, the run of free signs is at its end, and no comment opens
 pub run-over : (s : List ℕ) (j : ℕ) → classAt s j < wideClass → (from s j ≡ afterRun freeSign (from s j)) × (opensComment (from s j) ≡ false)

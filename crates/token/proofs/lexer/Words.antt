@@ -12,7 +12,6 @@ pub use mathlib.Core.Option.{Option, none, some}
 pub use Rattle.chars.proofs.Bools.{and-both, clash, or-neither}
 pub use Rattle.chars.proofs.Prefix.{end, passed, stopped}
 pub use Rattle.chars.proofs.theorems.Promises.{class-laws, code_laws, text-laws}
-unfoldable pub use Rattle.chars.specs.code.Classes.{arrowAt}
 unfoldable pub use Rattle.chars.specs.code.Text.{charEnd}
 unfoldable pub use Rattle.chars.specs.computed.Runs.{afterRun}
 pub use Rattle.chars.specs.paper.Classes.{opSigns}
@@ -36,7 +35,7 @@ unfoldable pub use Rattle.token.specs.code.Gap.{closedOf}
 pub use Rattle.token.specs.code.Ident.{asciiSign, runBefore, signIn}
 unfoldable pub use Rattle.token.specs.code.Keyword.{keywordOf, numberOr}
 unfoldable pub use Rattle.token.specs.code.Loops.{stepsWhile}
-pub use Rattle.token.specs.code.Names.{hereOf, lowBefore, runTo}
+pub use Rattle.token.specs.code.Names.{hereOf, lowBefore, runChar, runTo, wordChar}
 unfoldable pub use Rattle.token.specs.code.Names.{bytesTo}
 pub use Rattle.token.specs.code.Piece.{PieceAnswer, tokenTo}
 unfoldable pub use Rattle.token.specs.code.Piece.{pieceOf}

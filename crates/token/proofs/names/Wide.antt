@@ -1,0 +1,223 @@
+-- Words and runs of operator signs with their characters past ASCII: a run of characters, of which the loops pass those of ASCII by their classes and the
+-- others by one look at each.
+use Rattle.token.proofs.lexer.Words.{◌≡◌, refl, sym, ◌∙◌, ap, ap₂, subst, ℕ, zero, suc, ◌+◌, ◌-◌, ◌≤◌, ◌<◌, Bool, true, false, not, ◌&&◌, ◌||◌, List, [], ◌∷◌, Some, length, drop, get_or, eqb, eqb-true, leb, leb-true, ltb, ltb-true, ltb-false, ne_eqb, le-leb, lt-ltb, arith, and-true, or-false, clash, and-both, or-neither, under-no-id, oneOf, isIdChar, isOpSign, Char, Text, from, place, idChar, charEnd, afterRun, text-laws, class-laws, isAny, opSign, classAt, otherClass, wideClass, inWord, inRun, hereOf, runTo, wordChar, runChar, sign-byte, nul-no-sign, Here, by-test}
+use Rattle.chars.specs.code.Text.{stepAt}
+use Rattle.chars.specs.declared.classes.Classes.{Classes}
+use Rattle.chars.specs.declared.utf8.Decoded.{Decoded}
+use Rattle.token.proofs.byte_class.Laws.{class-word, class-run, class-wide}
+use Rattle.token.proofs.cursor.Bytes.{any-byte}
+use Rattle.token.proofs.cursor.Laws.{seen}
+use Rattle.token.proofs.ident.Laws.{head-low}
+use Rattle.token.proofs.ident.Signs.{low-byte}
+use Rattle.token.proofs.names.Bytes.{pass-keep, pass-within, pass-done, class-inside}
+open text-laws use {at-end, ascii-next, next-on, place-from, run-next, run-stays}
+open class-laws use {byte-id}
+
+-- a run of characters: those of ASCII are told by their class, the others by an answer of one look
+pub record Kind (p : Text → Bool) (q : ℕ → Bool) (f : Classes → Bool) : Type 0 where
+  pub nil : p [] ≡ false
+  pub outside : q otherClass ≡ false
+  pub not-wide : q wideClass ≡ false
+  pub ascii : (s : List ℕ) (i : ℕ) → get_or s i 0 < 0x80 → p (from s i) ≡ q (classAt s i)
+  pub wide : (s : List ℕ) (i : ℕ) (d : Decoded) → eqb (classAt s i) wideClass ≡ true → Some d ≡ stepAt s i → p (from s i) ≡ f d.classes
+
+high : (s : List ℕ) (i : ℕ) → eqb (classAt s i) wideClass ≡ true → 0x80 ≤ get_or s i 0
+high s i w = leb-true 0x80 (get_or s i 0) (sym (class-wide (get_or s i 0)) ∙ w)
+
+pub word-kind : Kind wordChar inWord (λ k. k.id_char)
+word-kind = record {
+  nil = refl;
+  outside = refl;
+  not-wide = refl;
+  ascii = λ s i l.
+      let b = get_or s i 0 in
+      ap₂ (λ x y. x || y) (head-low isIdChar s i (byte-id 0) l) (any-byte "_" refl s i ∙ or-false (eqb b 0x5F))
+      ∙ sym (ap (λ z. (z && isIdChar b) || eqb b 0x5F) (lt-ltb b 0x80 l)) ∙ sym (class-word b);
+  wide = λ s i d w e.
+      let n = seen s i d e in
+      let h = high s i w in
+      ap₂ (λ x y. x || y) (ap idChar n.here.text ∙ sym (ap (λ (z : Classes). z.id_char) n.classes)) (any-byte "_" refl s i ∙ or-false (eqb (get_or s i 0) 0x5F) ∙ ne_eqb (get_or s i 0) 0x5F (λ q. omega arith))
+      ∙ or-false d.classes.id_char;
+}
+
+pub run-kind : Kind runChar inRun (λ k. k.op_sign)
+run-kind = record {
+  nil = refl;
+  outside = refl;
+  not-wide = refl;
+  ascii = λ s i l.
+      let b = get_or s i 0 in
+      ap₂ (λ x y. x && not y) (head-low isOpSign s i nul-no-sign l ∙ sign-byte b l) (any-byte "/" refl s i ∙ or-false (eqb b 0x2F)) ∙ sym (class-run b);
+  wide = λ s i d w e.
+      let n = seen s i d e in
+      let h = high s i w in
+      ap₂ (λ x y. x && not y) (ap opSign n.here.text ∙ sym (ap (λ (z : Classes). z.op_sign) n.classes)) (any-byte "/" refl s i ∙ or-false (eqb (get_or s i 0) 0x2F) ∙ ne_eqb (get_or s i 0) 0x2F (λ q. omega arith))
+      ∙ and-true d.classes.op_sign;
+}
+
+-- ---- the loops
+
+-- a run goes on behind its first character
+run-on : (p : Text → Bool) (c : Char) (t : Text) → p (c ∷ t) ≡ true → afterRun p (c ∷ t) ≡ afterRun p t
+unfolding afterRun
+run-on p c t e = rw (e, afterRun)
+
+module _ {p : Text → Bool} {q : ℕ → Bool} {f : Classes → Bool} (k : Kind p q f) (s : List ℕ) where
+  low : (i : ℕ) → q (classAt s i) ≡ true → get_or s i 0 < 0x80
+  low i e = low-byte (get_or s i 0) (ne_eqb (classAt s i) wideClass (λ z. clash (sym k.not-wide ∙ ap q (sym z) ∙ e)))
+
+  -- where the bytes of ASCII end that are passed first
+  pub record Passed (at e : ℕ) : Type 0 where
+    pub within : e ≤ length s
+    pub on : at ≤ e
+    pub run : afterRun p (from s e) ≡ afterRun p (from s at)
+    pub stops : q (classAt s e) ≡ false
+
+  pub ascii-passed : (at : ℕ) → at ≤ length s → Passed at (runTo q s at)
+  ascii-passed at h =
+      let in-script : (j : ℕ) → q (classAt s j) ≡ true → j < length s = λ j e. class-inside s j q k.outside e in
+      let w = pass-within (λ j. q (classAt s j)) s in-script at h in
+      record {
+        within = w.1;
+        on = w.0;
+        run = pass-keep (λ j. q (classAt s j)) s in-script at (λ j. afterRun p (from s j) ≡ afterRun p (from s at))
+            (λ j l e r. ap (λ i. afterRun p (from s i)) (sym (ascii-next s j l (low j e))) ∙ run-next p s j l (k.ascii s j (low j e) ∙ e) ∙ r) refl;
+        stops = pass-done (λ j. q (classAt s j)) s in-script at;
+      }
+
+  pub passed-on : {at i e : ℕ} → Passed at i → Passed i e → Passed at e
+  passed-on a b = record { within = b.within; on = omega (arith, a.on, b.on); run = b.run ∙ a.run; stops = b.stops }
+
+  module _ {at i : ℕ} (g : Passed at i) where
+    ended : p (from s i) ≡ false → i ≡ place (length s) (afterRun p (from s at))
+    ended n = sym (ap (place (length s)) (sym g.run ∙ run-stays p (from s i) n) ∙ place-from s i g.within)
+
+    -- ASCII stands there, and stops it
+    pub ascii-done : eqb (classAt s i) wideClass ≡ false → i ≡ place (length s) (afterRun p (from s at))
+    ascii-done w = ended (k.ascii s i (low-byte (get_or s i 0) w) ∙ g.stops)
+
+    module _ (w : eqb (classAt s i) wideClass ≡ true) (d : Decoded) (e : Some d ≡ stepAt s i) where
+      -- a character past ASCII stops it
+      pub wide-done : f d.classes ≡ false → i ≡ place (length s) (afterRun p (from s at))
+      wide-done n = ended (k.wide s i d w e ∙ n)
+
+      -- or is passed, with the ASCII behind it
+      pub wide-passed : f d.classes ≡ true → (i < i + d.width) × (i + d.width ≤ length s) × Passed at (runTo q s (i + d.width))
+      wide-passed y =
+          let n = (seen s i d e).here in
+          let r : afterRun p (from s (i + d.width)) ≡ afterRun p (from s at) =
+          sym (ap (afterRun p) n.text ∙ run-on p _ (from s (i + d.width)) (ap p (sym n.text) ∙ k.wide s i d w e ∙ y)) ∙ g.run in
+          let a = ascii-passed (i + d.width) n.within in
+          (n.on, n.within, record { within = a.within; on = omega (arith, g.on, n.on, a.on); run = a.run ∙ r; stops = a.stops })
+
+  -- ---- a place with its class, as the loops keep it
+
+  abbrev pub Kept : ℕ → Here → Type 0
+  Kept at e = (e ≡ hereOf s e.at) × Passed at e.at
+
+  pub first : (at : ℕ) → at ≤ length s → (e : Here) → e ≡ hereOf s (runTo q s at) → Kept at e
+  first at h e z =
+      let y : e.at ≡ runTo q s at = ap (λ (x : Here). x.at) z in
+      (z ∙ ap (hereOf s) (sym y), subst (Passed at) (sym y) (ascii-passed at h))
+
+  module _ {at : ℕ} {e : Here} (g : Kept at e) {b r : Bool} (t : r ≡ eqb e.class.number wideClass) (u : r ≡ b) where
+    pub class-is : eqb (classAt s e.at) wideClass ≡ b
+    class-is = sym (ap (λ (x : Here). eqb x.class.number wideClass) g.0) ∙ sym t ∙ u
+
+  module _ {at : ℕ} {e : Here} (g : Kept at e) where
+    pub kept-ascii : eqb (classAt s e.at) wideClass ≡ false → e ≡ hereOf s (place (length s) (afterRun p (from s at)))
+    kept-ascii w = g.0 ∙ ap (hereOf s) (ascii-done g.1 w)
+
+    module _ (w : eqb (classAt s e.at) wideClass ≡ true) where
+      pub kept-inside : e.at < length s
+      kept-inside = class-inside s e.at (λ z. eqb z wideClass) refl w
+
+      module _ (d : Decoded) (z : Some d ≡ stepAt s e.at) where
+        pub kept-wide : f d.classes ≡ false → e ≡ hereOf s (place (length s) (afterRun p (from s at)))
+        kept-wide n = g.0 ∙ ap (hereOf s) (wide-done g.1 w d z n)
+
+        pub kept-next : f d.classes ≡ true → (e.at < e.at + d.width) × (e.at + d.width ≤ length s)
+        kept-next y = let a = wide-passed g.1 w d z y in (a.0, a.1)
+
+        pub kept-on : f d.classes ≡ true → (y : Here) → y ≡ hereOf s (runTo q s (e.at + d.width)) → Kept at y × (e.at < y.at) × (y.at ≤ length s)
+        kept-on n y x =
+            let a = wide-passed g.1 w d z n in
+            let v : y.at ≡ runTo q s (e.at + d.width) = ap (λ (x : Here). x.at) x in
+            let o = ascii-passed (e.at + d.width) a.1 in
+            ((x ∙ ap (hereOf s) (sym v), subst (Passed at) (sym v) a.2), omega (arith, a.0, o.on, v), omega (arith, o.within, v))
+
+-- what a test of a class says of the class that stands there
+pub told : (f : ℕ → Bool) {k j : ℕ} {r b : Bool} → k ≡ j → r ≡ f k → r ≡ b → f j ≡ b
+told f q n e = ap f (sym q) ∙ sym n ∙ e
+
+-- ---- id characters, underscores left out
+
+-- a run of them from a place on ends where that from the start on does
+pub record Ids (s : List ℕ) (at i : ℕ) : Type 0 where
+  pub within : i ≤ length s
+  pub run : afterRun idChar (from s i) ≡ afterRun idChar (from s at)
+
+module _ {s : List ℕ} {at i : ℕ} (g : Ids s at i) where
+  ids-ended : idChar (from s i) ≡ false → i ≡ place (length s) (afterRun idChar (from s at))
+  ids-ended n = sym (ap (place (length s)) (sym g.run ∙ run-stays idChar (from s i) n) ∙ place-from s i g.within)
+
+  module _ (w : eqb (classAt s i) wideClass ≡ true) where
+    pub ids-inside : i < length s
+    ids-inside = class-inside s i (λ z. eqb z wideClass) refl w
+
+    module _ (d : Decoded) (e : Some d ≡ stepAt s i) where
+      answer : idChar (from s i) ≡ d.classes.id_char
+      answer = let n = seen s i d e in ap idChar n.here.text ∙ sym (ap (λ (z : Classes). z.id_char) n.classes)
+
+      pub ids-wide : d.classes.id_char ≡ false → i ≡ place (length s) (afterRun idChar (from s at))
+      ids-wide n = ids-ended (answer ∙ n)
+
+      pub ids-on : d.classes.id_char ≡ true → (i < i + d.width) × Ids s at (i + d.width)
+      ids-on y =
+          let n = (seen s i d e).here in
+          (n.on, record { within = n.within; run = sym (ap (afterRun idChar) n.text ∙ run-on idChar _ (from s (i + d.width)) (ap idChar (sym n.text) ∙ answer ∙ y)) ∙ g.run })
+
+  -- ASCII, by its class
+  module _ (w : eqb (classAt s i) wideClass ≡ false) where
+    byte-low : get_or s i 0 < 0x80
+    byte-low = low-byte (get_or s i 0) w
+
+    byte-answer : idChar (from s i) ≡ isIdChar (get_or s i 0)
+    byte-answer = head-low isIdChar s i (byte-id 0) byte-low
+
+    by-word : inWord (classAt s i) ≡ isIdChar (get_or s i 0) || eqb (get_or s i 0) 0x5F
+    by-word = class-word (get_or s i 0) ∙ ap (λ z. (z && isIdChar (get_or s i 0)) || eqb (get_or s i 0) 0x5F) (lt-ltb (get_or s i 0) 0x80 byte-low)
+
+    pub ids-other : inWord (classAt s i) ≡ false → i ≡ place (length s) (afterRun idChar (from s at))
+    ids-other n = ids-ended (byte-answer ∙ (or-neither (isIdChar (get_or s i 0)) (eqb (get_or s i 0) 0x5F) (sym by-word ∙ n)).0)
+
+    module _ (y : inWord (classAt s i) ≡ true) where
+      pub ids-in : i < length s
+      ids-in = class-inside s i inWord refl y
+
+      pub ids-under : get_or s i 0 ≡ 0x5F → i ≡ place (length s) (afterRun idChar (from s at))
+      ids-under u = ids-ended (byte-answer ∙ under-no-id (get_or s i 0) (rw u))
+
+      pub ids-next : (get_or s i 0 ≡ 0x5F → ⊥) → Ids s at (i + 1)
+      ids-next n =
+          let o : isIdChar (get_or s i 0) ≡ true = sym (or-false (isIdChar (get_or s i 0))) ∙ ap (λ z. isIdChar (get_or s i 0) || z) (sym (ne_eqb (get_or s i 0) 0x5F n)) ∙ sym by-word ∙ y in
+          record { within = let h = ids-in in omega arith; run = ap (λ j. afterRun idChar (from s j)) (sym (ascii-next s i ids-in byte-low)) ∙ run-next idChar s i ids-in (byte-answer ∙ o) ∙ g.run }
+
+-- ---- what holds at a run's start, and behind each character that it passes, holds where it ends
+module _ (p : Text → Bool) (z : p [] ≡ false) (s : List ℕ) (K : ℕ → Type 0) (on : (j : ℕ) → j < length s → p (from s j) ≡ true → K j → K (charEnd s j)) where
+  stop : (j : ℕ) → j ≤ length s → K j → p (from s j) ≡ false → K (place (length s) (afterRun p (from s j)))
+  stop j h k e = subst K (sym (ap (place (length s)) (run-stays p (from s j) e) ∙ place-from s j h)) k
+
+  inside : (j : ℕ) → p (from s j) ≡ true → j < length s
+  inside j e = by-test (ltb j (length s)) (ltb-true j (length s)) (λ x. absurd (clash (sym (ap p (at-end s j (ltb-false j (length s) x)) ∙ z) ∙ e)))
+
+  more : (j : ℕ) → p (from s j) ≡ true → K (place (length s) (afterRun p (from s (charEnd s j)))) → K (place (length s) (afterRun p (from s j)))
+  more j e r = subst (λ t. K (place (length s) t)) (run-next p s j (inside j e) e) r
+
+  keep : (n j : ℕ) → length s - j ≤ n → j ≤ length s → K j → K (place (length s) (afterRun p (from s j)))
+  keep zero j m h k = by-test (p (from s j)) (λ e. absurd (let l = inside j e in omega arith)) (stop j h k)
+  keep (suc n) j m h k =
+      by-test (p (from s j)) (λ e. let a = next-on s j (inside j e) in more j e (keep n (charEnd s j) (omega (arith, inside j e, a.0)) a.1 (on j (inside j e) e k))) (stop j h k)
+
+  pub run-keep : (j : ℕ) → j ≤ length s → K j → K (place (length s) (afterRun p (from s j)))
+  run-keep j h k = keep (length s - j) j (omega arith) h k

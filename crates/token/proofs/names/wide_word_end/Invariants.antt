@@ -1,0 +1,10 @@
+-- Behind each character past ASCII, and the ASCII behind it, the run goes on as before.
+use Rattle.token.proofs.lexer.Words.{◌≡◌, ◌-◌, length, hereOf}
+use Rattle.token.proofs.names.Wide.{word-kind, Passed}
+use Rattle.token.proofs.names.wide_word_end.Given as goal
+
+abbrev pub invariant-loop-here : goal.invariant-loop-here
+invariant-loop-here l = (l.end ≡ hereOf l.s l.end.at) × Passed word-kind l.s l.at l.end.at
+
+abbrev pub decreases-loop-here : goal.decreases-loop-here
+decreases-loop-here l = length l.s - l.end.at
