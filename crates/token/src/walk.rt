@@ -10,7 +10,7 @@ ghost use Rattle.token.specs.code.Form.{byForm, plainForm};
 ghost use Rattle.token.specs.code.ByteClass.{classAt, blankClass, digitClass, lfClass, crClass, tickClass, backtickClass, quoteClass, keywordClass, signKeywordClass, slashClass, wideClass, upToBlank, startsWord, asksMore, isSign, inWord};
 ghost use Rattle.token.specs.code.Names.{hereOf, lowBefore};
 ghost use Rattle.token.specs.code.Piece.{pieceOf};
-ghost use Rattle.token.specs.code.Walk.{beginning, movedTo, tokenBehind, needAt, lineBehind, commentBehind, blockBehind, runGoesOn, nameNumber, operatorNumber, Good, Counted, Left, LeftTo, Prefixes, Refuses, Steps};
+ghost use Rattle.token.specs.code.Walk.{beginning, movedTo, tokenBehind, needAt, lineBehind, commentBehind, blockBehind, runGoesOn, wholeGoesOn, wholeRunGoesOn, nameNumber, operatorNumber, Good, Counted, Left, LeftTo, Prefixes, Refuses, Steps};
 
 use crate::byte_class::Class;
 use crate::charsym::lex_char_sym;
@@ -555,10 +555,13 @@ fn wide_step(out: &mut [u8], s: &[u8], counts: &mut Counts, x: Stand) -> Result<
     let c = Cursor { at: x.at };
     let here = look(s, x.at);
     if here.classes.op_sign {
-        return run_step(out, s, counts, x, Cursor { at: c.at + here.width });
+        return run_step(out, s, counts, x, c.step(s));
     }
     if here.classes.id_start {
-        return name_step(out, s, counts, x, Cursor { at: c.at + here.width });
+        let next = Cursor {
+            at: c.at + here.width,
+        };
+        return name_step(out, s, counts, x, next);
     }
     Err(Refusal::NoPiece.at(x.at))
 }
@@ -719,16 +722,15 @@ fn walk_words(
 fn whole_goes_on(s: &[u8], start: usize, end: Here) -> bool
     requires some { start < end.at }
     requires within { end.at ≤ length s.now }
-    ensures { result ≡ (asksMore end.class.number && (end.class.number == quoteClass || lowBefore s.now start end.at)) }
+    ensures { result ≡ wholeGoesOn s.now start end }
 {
     end.class.asks_more() && (end.class == Class::QUOTE || ends_low(s, start, end.at))
 }
 
 // May it of a run of signs?
 fn whole_run_goes_on(s: &[u8], end: Here) -> bool
-    requires here { end ≡ hereOf s.now end.at }
-    requires within { end.at ≤ length s.now }
-    ensures { result ≡ wholeRunGoesOn s.now end.at }
+    requires { end.at ≤ length s.now }
+    ensures { result ≡ wholeRunGoesOn s.now end }
 {
     end.class == Class::SLASH && !opens_with(byte_at(s, end.at + 1))
 }

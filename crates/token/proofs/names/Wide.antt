@@ -10,7 +10,7 @@ use Rattle.token.proofs.cursor.Laws.{seen}
 use Rattle.token.proofs.ident.Laws.{head-low}
 use Rattle.token.proofs.ident.Signs.{low-byte}
 use Rattle.token.proofs.names.Bytes.{pass-keep, pass-within, pass-done, class-inside}
-open text-laws use {at-end, ascii-next, next-on, place-from, run-next, run-stays}
+open text-laws use {ascii-next, place-from, run-next, run-stays}
 open class-laws use {byte-id}
 
 -- a run of characters: those of ASCII are told by their class, the others by an answer of one look
@@ -202,22 +202,3 @@ module _ {s : List ℕ} {at i : ℕ} (g : Ids s at i) where
       ids-next n =
           let o : isIdChar (get_or s i 0) ≡ true = sym (or-false (isIdChar (get_or s i 0))) ∙ ap (λ z. isIdChar (get_or s i 0) || z) (sym (ne_eqb (get_or s i 0) 0x5F n)) ∙ sym by-word ∙ y in
           record { within = let h = ids-in in omega arith; run = ap (λ j. afterRun idChar (from s j)) (sym (ascii-next s i ids-in byte-low)) ∙ run-next idChar s i ids-in (byte-answer ∙ o) ∙ g.run }
-
--- ---- what holds at a run's start, and behind each character that it passes, holds where it ends
-module _ (p : Text → Bool) (z : p [] ≡ false) (s : List ℕ) (K : ℕ → Type 0) (on : (j : ℕ) → j < length s → p (from s j) ≡ true → K j → K (charEnd s j)) where
-  stop : (j : ℕ) → j ≤ length s → K j → p (from s j) ≡ false → K (place (length s) (afterRun p (from s j)))
-  stop j h k e = subst K (sym (ap (place (length s)) (run-stays p (from s j) e) ∙ place-from s j h)) k
-
-  inside : (j : ℕ) → p (from s j) ≡ true → j < length s
-  inside j e = by-test (ltb j (length s)) (ltb-true j (length s)) (λ x. absurd (clash (sym (ap p (at-end s j (ltb-false j (length s) x)) ∙ z) ∙ e)))
-
-  more : (j : ℕ) → p (from s j) ≡ true → K (place (length s) (afterRun p (from s (charEnd s j)))) → K (place (length s) (afterRun p (from s j)))
-  more j e r = subst (λ t. K (place (length s) t)) (run-next p s j (inside j e) e) r
-
-  keep : (n j : ℕ) → length s - j ≤ n → j ≤ length s → K j → K (place (length s) (afterRun p (from s j)))
-  keep zero j m h k = by-test (p (from s j)) (λ e. absurd (let l = inside j e in omega arith)) (stop j h k)
-  keep (suc n) j m h k =
-      by-test (p (from s j)) (λ e. let a = next-on s j (inside j e) in more j e (keep n (charEnd s j) (omega (arith, inside j e, a.0)) a.1 (on j (inside j e) e k))) (stop j h k)
-
-  pub run-keep : (j : ℕ) → j ≤ length s → K j → K (place (length s) (afterRun p (from s j)))
-  run-keep j h k = keep (length s - j) j (omega arith) h k

@@ -1,11 +1,14 @@
 -- What begins with an operator sign, with an id start, or with neither.
-use Rattle.token.proofs.lexer.Words.{◌≡◌, refl, sym, ◌∙◌, ap, ap₂, ℕ, ◌+◌, ◌<◌, Bool, true, false, not, ◌&&◌, ◌||◌, List, [], ◌∷◌, length, drop, get_or, eqb, leb, ltb, ltb-true, eqb-true, not-true, String, codes, oneOf, isIdStart, isOpSign, opSigns, Text, from, headIs, arrowAt, afterRun, lowStart, every, clash, and-both, or-neither, code_laws, text-laws, isAny, opSign, freeSign, opensComment, Found, scan, scanIdent, scanOperator, classAt, wideClass, slashClass, otherClass, upToBlank, startsWord, isSign, pieceOf, refusalBy, Good, Refuses, Counts, Stand, sign-not, start-not, slash-no-start, Start, startOf, scanAs, or-false}
+use Rattle.token.proofs.lexer.Words.{◌≡◌, refl, sym, ◌∙◌, ap, ap₂, ℕ, ◌+◌, ◌<◌, ◌≤◌, Bool, true, false, not, ◌&&◌, ◌||◌, List, [], ◌∷◌, length, drop, get_or, eqb, leb, ltb, ltb-true, eqb-true, not-true, String, codes, oneOf, isIdStart, isOpSign, opSigns, Text, from, headIs, Some, afterRun, lowStart, every, clash, and-both, or-neither, code_laws, text-laws, isAny, opSign, freeSign, opensComment, Found, scan, scanIdent, scanOperator, classAt, wideClass, slashClass, otherClass, upToBlank, startsWord, isSign, pieceOf, refusalBy, Good, Refuses, Counts, Stand, sign-not, start-not, slash-no-start, Start, startOf, scanAs, or-false}
 use Rattle.chars.specs.paper.Quoted.{member}
+use Rattle.chars.specs.code.Text.{stepAt}
+use Rattle.chars.specs.declared.utf8.Decoded.{Decoded}
+use Rattle.token.proofs.cursor.Laws.{seen}
 use Rattle.token.specs.declared.refusal.Refusal.TheVariants as refusal
 use Rattle.token.proofs.cursor.Bytes.{any-byte}
 use Rattle.token.proofs.byte_class.Laws.{class-start, class-one, class-other, class-wide, others}
 use Rattle.token.proofs.ident.Laws.{head-inside}
-use Rattle.token.proofs.ident.Signs.{comment-class, sign-in, sign-low, sign-here, sign-stop, sign-text}
+use Rattle.token.proofs.ident.Signs.{comment-class, sign-in, sign-low, sign-here, sign-text, wide-sign, wide-start}
 use Rattle.token.proofs.lexer.Laws.{wordless, other-at, ascii-head, ascii-start}
 use Rattle.token.proofs.names.Bytes.{class-inside}
 use Rattle.token.proofs.theorems.Dispatch.{clear-head, Clear, clear, scan-by, starts-operator, starts-word}
@@ -95,13 +98,20 @@ module _ {s : List ℕ} {x : Stand} (g : Good s x) (k : eqb x.class.number wideC
   pub wide-clear : opensComment (from s x.at) ≡ false
   wide-clear = comment-class s x.at ∙ ap (λ z. eqb z slashClass && oneOf "*/" (get_or s (x.at + 1) 0)) (eqb-true (classAt s x.at) wideClass wide-here)
 
-  pub refuses-wide : arrowAt s x.at ≡ false → get_or s x.at 0 < 0x100 → headIs isIdStart (from s x.at) ≡ false → (c : Counts) (out : List ℕ)
-      → Refuses s x c out (record { what = refusal.NoPiece; place = x.at })
-  unfolding refusalBy
-  refuses-wide f l n c out =
-      let w : isAny wordless (from s x.at) ≡ false = any-byte wordless refl s x.at ∙ no-member (leb 0x80) (codes wordless) (get_or s x.at 0) refl (sym (class-wide (get_or s x.at 0)) ∙ wide-here) in
-      let z = sign-stop s x.at false (ap (λ b. isSign b && true) (eqb-true (classAt s x.at) wideClass wide-here)) f l in
-      refuses-here (class-inside s x.at (λ z. eqb z wideClass) refl wide-here) 3 (other-at (length s) (from s x.at) wide-clear w n z) c out
+  pub wide-in : x.at < length s
+  wide-in = class-inside s x.at (λ z. eqb z wideClass) refl wide-here
+
+  module _ (d : Decoded) (e : Some d ≡ stepAt s x.at) where
+    pub refuses-wide : d.classes.op_sign ≡ false → d.classes.id_start ≡ false → (c : Counts) (out : List ℕ)
+        → Refuses s x c out (record { what = refusal.NoPiece; place = x.at })
+    unfolding refusalBy
+    refuses-wide f n c out =
+        let w : isAny wordless (from s x.at) ≡ false = any-byte wordless refl s x.at ∙ no-member (leb 0x80) (codes wordless) (get_or s x.at 0) refl (sym (class-wide (get_or s x.at 0)) ∙ wide-here) in
+        refuses-here wide-in 3 (other-at (length s) (from s x.at) wide-clear w (wide-start s x.at d e ∙ n) (wide-sign s x.at d e ∙ f)) c out
+
+    -- past it
+    pub wide-past : (x.at + d.width ≤ length s) × (from s (x.at + d.width) ≡ drop 1 (from s x.at))
+    wide-past = let n = (seen s x.at d e).here in (n.within, sym (ap (drop 1) n.text))
 
 -- ---- what begins no token
 

@@ -7,7 +7,7 @@ use Rattle.chars.specs.paper.Text.{from}
 use Rattle.chars.specs.promises.Texts.{Suffix}
 use Rattle.token.specs.paper.Kinds.{wordOf, runOf}
 use Rattle.token.specs.computed.Answer.{codesTo, orPrefixed, scan, scanNumber}
-use Rattle.token.specs.code.ByteClass.{classAt, lfClass, crClass, digitClass, keywordClass, signKeywordClass, slashClass, upToBlank, startsWord, inWord, asksMore, inOperator, isSign, inRun, inLineEnd}
+use Rattle.token.specs.code.ByteClass.{classAt, lfClass, crClass, digitClass, keywordClass, quoteClass, signKeywordClass, slashClass, upToBlank, startsWord, inWord, asksMore, inOperator, isSign, inRun, inLineEnd}
 use Rattle.token.specs.code.Keyword.{numberOr}
 use Rattle.token.specs.declared.kinds.TokenKind.{TokenKind}
 use Rattle.token.specs.code.Form.{mostLength}
@@ -111,6 +111,14 @@ goesOn s i e = asksMore (classAt s e) && (not (isSign (classAt s e)) || lowBefor
 -- What stands behind a run of signs at e may make more of it: a character past ASCII, or a `/` with which no comment begins.
 abbrev pub runGoesOn : List ℕ → ℕ → Bool
 runGoesOn s e = inOperator (classAt s e) && not (classAt s e == slashClass && oneOf "*/" (slice_index s (e + 1)))
+
+-- What stands behind a word or a run with all its characters may make more of it: a quote, or a sign where a `_` came last; a `/` with which no comment
+-- begins.
+abbrev pub wholeGoesOn : List ℕ → ℕ → Here → Bool
+wholeGoesOn s i e = asksMore e.class.number && (e.class.number == quoteClass || lowBefore s i e.at)
+
+abbrev pub wholeRunGoesOn : List ℕ → Here → Bool
+wholeRunGoesOn s e = e.class.number == slashClass && not (oneOf "*/" (slice_index s (e.at + 1)))
 
 -- What the walk over words leaves: neither a blank, a single sign nor a line end, an LF or a CR with an LF behind it; a word or a run of signs only
 -- where more may be made of it, and a number only where it is refused.

@@ -1,0 +1,10 @@
+-- The loop keeps that the walk comes from its start to its place; each piece is a step more.
+use Rattle.token.proofs.lexer.Words.{◌-◌, length, Steps}
+use Rattle.token.proofs.walk.Whole.{Named, Signed}
+use Rattle.token.proofs.walk.wide_words.Given as goal
+
+abbrev pub invariant-loop-x : goal.invariant-loop-x
+invariant-loop-x l = Steps l.s l.initial.x l.fn.counts l.fn.out l.x l.counts l.out
+
+abbrev pub decreases-loop-x : goal.decreases-loop-x
+decreases-loop-x l = length l.s - l.x.at
