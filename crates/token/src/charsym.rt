@@ -1,11 +1,10 @@
 // Characters and symbols. RULES, "Character" and "Symbol".
-ghost use Rattle.std.specs.Prelude.{◌≡◌, ◌≢◌, IsTrue, IsFalse, not, ◌&&◌, ◌≤◌, ◌<◌, ◌==◌, length, slice_index};
-ghost use Rattle.chars.specs.paper.Classes.{isPrintable};
+ghost use Rattle.std.specs.Prelude.{◌≡◌, ◌≢◌, false, IsTrue, IsFalse, not, ◌&&◌, ◌≤◌, ◌<◌, ◌==◌, length, drop, slice_index};
 ghost use Rattle.chars.specs.paper.Quoted.{between};
 ghost use Rattle.chars.specs.paper.Text.{from};
 ghost use Rattle.token.specs.paper.Tests.{apostrophe, opSign};
 ghost use Rattle.token.specs.computed.Answer.{afterIdent, tickNext, scanCharSym};
-ghost use Rattle.token.specs.code.ByteClass.{upToBlank, startsWord, inWord};
+ghost use Rattle.token.specs.code.ByteClass.{classAt, wideClass, upToBlank, startsWord, inWord};
 ghost use Rattle.token.specs.code.Names.{hereOf, lowBefore};
 ghost use Rattle.token.specs.code.Piece.{pieceOf};
 ghost use Rattle.token.specs.code.Charsym.{escapedChar, plainOf, endOf, runSymbolEnd};

@@ -1,19 +1,24 @@
 -- Characters and symbols at a place of a script, by the character that is peeked.
 use Rattle.token.proofs.lexer.Laws.{drop-place}
-use Rattle.token.proofs.ident.Laws.{token-at}
-use Rattle.token.proofs.lexer.Words.{ℕ, ◌+◌, ◌≤◌, ◌<◌, ◌≡◌, refl, sym, ◌∙◌, ap, Bool, true, false, cond, not, ◌&&◌, ◌||◌, and-true, and_comm, or-false, ◌⊎◌, inl, inr, List, ◌∷◌, Some, None, Err, same_Some, none-some, length, drop, get_or, eqb, ltb, arith, ltb-true, leb-true, leb-false, lt-leb, le-leb, eqb-true, eq-eqb, ne_eqb, between, oneOf, isIdStart, isOpSign, isPrintable, Char, Text, from, place, headIs, afterRun, and-both, alike, code_laws, class-laws, text-laws, sign-no-semi, no-start, begins, backslash, apostrophe, isAny, opSign, freeSign, opensComment, plainChar, Found, Esc, unbroken, broken, afterSlash, afterIdent, tickNext, escapedOf, scanCharSym, classAt, upToBlank, startsWord, inWord, asksMore, inOperator, isSign, inRun, cursorAt, hereOf, runTo, lowBefore, pieceOf, tokenTo, refusedFor, refusedBy, refusalBy, escEnd, escapeOf, endAt, escapedChar, symbolOf, plainOf, endOf, runSymbolEnd, Cursor, Refused, zero-one, by-test}
+use Rattle.token.proofs.ident.Laws.{token-at, next-later}
+use Rattle.token.proofs.lexer.Words.{ℕ, ◌+◌, ◌≤◌, ◌<◌, ◌≡◌, refl, sym, ◌∙◌, ap, subst, Bool, true, false, cond, not, ◌&&◌, ◌||◌, and-true, and_comm, or-false, ◌⊎◌, inl, inr, List, ◌∷◌, Some, None, Err, same_Some, none-some, length, drop, get_or, eqb, ltb, arith, ltb-true, ltb-false, lt-ltb, leb-true, le-leb, eqb-true, eq-eqb, ne_eqb, between, oneOf, isIdStart, isOpSign, isPrintable, Char, Text, from, place, headIs, afterRun, and-both, alike, code_laws, class-laws, text-laws, sign-no-semi, no-start, begins, backslash, apostrophe, isAny, opSign, freeSign, opensComment, plainChar, Found, Esc, unbroken, broken, afterSlash, afterIdent, tickNext, escapedOf, scanCharSym, classAt, upToBlank, startsWord, inWord, wideClass, asksMore, inOperator, isSign, inRun, cursorAt, hereOf, runTo, lowBefore, pieceOf, tokenTo, refusedFor, refusedBy, refusalBy, escEnd, escapeOf, endAt, escapedChar, symbolOf, plainOf, endOf, runSymbolEnd, Cursor, Refused, zero-one, by-test}
 use Rattle.token.specs.declared.names.Here as names
 use Rattle.token.specs.declared.kinds.TokenKind.TheVariants as tk
 use Rattle.token.specs.declared.refusal.Refusal.TheVariants as refusal
-use Rattle.token.proofs.byte_class.Laws.{class-start, class-sign}
+use Rattle.chars.specs.declared.classes.Classes.{Classes}
+use Rattle.chars.specs.declared.utf8.Decoded.{Decoded}
+use Rattle.chars.specs.code.Classes.{answers}
+use Rattle.token.specs.code.Cursor.{peekAt}
+use Rattle.token.proofs.theorems.Runs.{after-next}
+use Rattle.token.proofs.byte_class.Laws.{class-start, class-sign, class-wide}
 use Rattle.token.proofs.cursor.Bytes.{any-byte, one-byte, inside, past}
-use Rattle.token.proofs.cursor.Laws.{Here}
+use Rattle.token.proofs.cursor.Laws.{Here, peeked}
 use Rattle.token.proofs.names.Bytes.{class-inside}
-use Rattle.token.proofs.names.Laws.{no-more, run-clear, run-rest, word-rest, word-bounds, word-done, word-kept, here-is}
-use Rattle.token.proofs.ident.Signs.{low-byte, sign-text}
+use Rattle.token.proofs.names.Laws.{no-more, run-clear, run-rest, word-bounds, word-done, word-kept, word-over, here-is}
+use Rattle.token.proofs.ident.Signs.{low-byte, wide-clear}
 open code_laws use {agree, carry-span, in-between}
 open class-laws use {sign-no-start}
-open text-laws use {text-drop, text-place, at-ascii, at-end, place-from}
+open text-laws use {text-drop, text-place, at-char, at-ascii, at-end, place-from, wide-code}
 
 -- ---- `'`
 
@@ -168,16 +173,34 @@ module _ (s : List ℕ) (i : ℕ) (n : get_or s i 0 ≡ 0x5C → ⊥) where
       let l : byte < 0x80 = omega (arith, k.1) in
       closed-ends s i byte (i + 1) (behind h l) n (sym (printed l) ∙ e)
 
--- the word behind an id start of ASCII
-pub word-ends : (s : List ℕ) (i : ℕ) → not (upToBlank (classAt s i)) && startsWord (classAt s i) ≡ true → (e : names.Here) → e ≡ hereOf s (runTo inWord s (i + 1))
-    → (i < e.at) × (e.at ≤ length s) × (inWord e.class.number ≡ false)
-word-ends s i u e q =
+-- an id start of ASCII, and the place behind it
+pub start-behind : (s : List ℕ) (i : ℕ) → not (upToBlank (classAt s i)) && startsWord (classAt s i) ≡ true
+    → (i < length s) × (i + 1 ≤ length s) × (from s (i + 1) ≡ drop 1 (from s i)) × (get_or s i 0 < 0x80) × (isIdStart (get_or s i 0) ≡ true)
+start-behind s i u =
     let h = class-inside s i (λ z. not (upToBlank z) && startsWord z) refl u in
     let b = and-both (ltb (get_or s i 0) 0x80) (isIdStart (get_or s i 0)) (sym (class-start (get_or s i 0)) ∙ u) in
-    let t : from s (i + 1) ≡ drop 1 (from s i) = sym (ap (drop 1) (at-ascii s i h (ltb-true (get_or s i 0) 0x80 b.0))) in
-    let w = word-bounds s i (i + 1) h (omega arith) (omega arith) t in
-    let p = (here-is s e _ q).0 in
-    (omega (arith, w.0, p), omega (arith, w.1, p), ap (λ (z : names.Here). inWord z.class.number) q ∙ word-done s (i + 1))
+    let l = ltb-true (get_or s i 0) 0x80 b.0 in
+    (h, omega arith, sym (ap (drop 1) (at-ascii s i h l)), l, b.1)
+
+-- The identifier from i on, whose first character ends at j, and whose ASCII id characters and underscores end at e.
+module _ (s : List ℕ) (i j : ℕ) (h : i < length s) (k : j ≤ length s) (r : from s j ≡ drop 1 (from s i)) (e : names.Here) (q : e ≡ hereOf s (runTo inWord s j)) where
+  pub name-word : (i < e.at) × (e.at ≤ length s) × (inWord e.class.number ≡ false)
+  name-word =
+      let l = next-later s i j h k r in
+      let w = word-bounds s i j h l k r in
+      let p = (here-is s e _ q).0 in
+      (omega (arith, l, w.0, p), omega (arith, w.1, p), ap (λ (z : names.Here). inWord z.class.number) q ∙ word-done s j)
+
+  -- it goes on there
+  pub name-more : (t : Text) → t ≡ afterIdent (lowBefore s i e.at) (from s e.at) → t ≡ afterIdent false (from s j)
+  name-more t p =
+      p ∙ ap (λ x. afterIdent (lowBefore s i x) (from s x)) (here-is s e _ q).0 ∙ word-kept s i j h (next-later s i j h k r) k r ∙ ap (afterIdent false) (sym r)
+
+  -- nothing makes more of it
+  pub name-over : asksMore e.class.number ≡ false → from s e.at ≡ afterIdent false (from s j)
+  name-over m =
+      let v = no-more e.class.number (lowBefore s i e.at) (ap (λ a. a && (not (isSign e.class.number) || lowBefore s i e.at)) m) in
+      name-more (from s e.at) (sym (word-over s e (q ∙ ap (hereOf s) (sym (here-is s e _ q).0)) name-word.2 (lowBefore s i e.at) v.0 v.1))
 
 -- a symbol that ends with its ASCII bytes
 module _ (s : List ℕ) (i : ℕ) (n : get_or s i 0 ≡ 0x5C → ⊥) (z : eqb (get_or s (i + 1) 0) 0x27 && between 0x20 0x7E (get_or s i 0) ≡ false) where
@@ -194,24 +217,10 @@ module _ (s : List ℕ) (i : ℕ) (n : get_or s i 0 ≡ 0x5C → ⊥) (z : eqb (
         let r = run-rest s i h k e q m in
         run-symbol s i (cursorAt e.at) (run-clear s i k) r.1 r.2 ∙ run-found s i _ (i + 1) (behind s i n h l) n (open-here l) b.1
 
-    pub ascii-word : asksMore e.class.number ≡ false → not (upToBlank (classAt s i)) && startsWord (classAt s i) ≡ true → e ≡ hereOf s (runTo inWord s (i + 1)) → Some (cursorAt e.at) ≡ endOf (length s) (plainOf (from s i))
-    ascii-word m u q =
-        let b = and-both (ltb (get_or s i 0) 0x80) (isIdStart (get_or s i 0)) (sym (class-start (get_or s i 0)) ∙ u) in
-        let l = ltb-true (get_or s i 0) 0x80 b.0 in
-        let h = class-inside s i (λ z. not (upToBlank z) && startsWord z) refl u in
-        let r = word-rest s i h l e q (ap (λ a. a && (not (isSign e.class.number) || lowBefore s i e.at)) m) in
-        word-found s i _ (i + 1) (behind s i n h l) n (open-here l) b.1 e.at r.0 r.1
-
-  -- an identifier that goes on behind its word
-  pub ascii-name : not (upToBlank (classAt s i)) && startsWord (classAt s i) ≡ true → (e : names.Here) → e ≡ hereOf s (runTo inWord s (i + 1)) → (r : ℕ) → r ≤ length s
-      → from s r ≡ afterIdent (lowBefore s i e.at) (from s e.at) → Some (cursorAt r) ≡ endOf (length s) (plainOf (from s i))
-  ascii-name u e q r k p =
-      let b = and-both (ltb (get_or s i 0) 0x80) (isIdStart (get_or s i 0)) (sym (class-start (get_or s i 0)) ∙ u) in
-      let l = ltb-true (get_or s i 0) 0x80 b.0 in
-      let h = class-inside s i (λ z. not (upToBlank z) && startsWord z) refl u in
-      let t : from s (i + 1) ≡ drop 1 (from s i) = sym (ap (drop 1) (at-ascii s i h l)) in
-      word-found s i _ (i + 1) (behind s i n h l) n (open-here l) b.1 r k
-      (p ∙ ap (λ j. afterIdent (lowBefore s i j) (from s j)) (ap (λ (z : names.Here). z.at) q) ∙ word-kept s i (i + 1) h (omega arith) (omega arith) t ∙ ap (afterIdent false) (sym t))
+  -- an identifier
+  pub ascii-word : not (upToBlank (classAt s i)) && startsWord (classAt s i) ≡ true → (e : ℕ) → e ≤ length s → from s e ≡ afterIdent false (from s (i + 1))
+      → Some (cursorAt e) ≡ endOf (length s) (plainOf (from s i))
+  ascii-word u e k q = let b = start-behind s i u in word-found s i _ (i + 1) (behind s i n b.0 b.3) n (open-here b.3) b.4 e k q
 
   -- an operator
   pub ascii-op : isSign (classAt s i) ≡ true → runSymbolEnd (length s) (from s i) ≡ endOf (length s) (plainOf (from s i))
@@ -220,17 +229,77 @@ module _ (s : List ℕ) (i : ℕ) (n : get_or s i 0 ≡ 0x5C → ⊥) (z : eqb (
       let l = ltb-true (get_or s i 0) 0x80 b.0 in
       run-found s i _ (i + 1) (behind s i n (class-inside s i isSign refl o) l) n (open-here l) b.1
 
-  -- a `;` that nothing makes an operator's of
-  pub ascii-semi : get_or s i 0 ≡ 0x3B → asksMore (classAt s (i + 1)) ≡ false → Some (cursorAt (i + 1)) ≡ endOf (length s) (plainOf (from s i))
+  -- a `;` that no sign follows
+  pub ascii-semi : get_or s i 0 ≡ 0x3B → opSign (from s (i + 1)) ≡ false → Some (cursorAt (i + 1)) ≡ endOf (length s) (plainOf (from s i))
   unfolding isOpSign
-  ascii-semi e m =
+  ascii-semi e o =
       let h = inside s i (omega (arith, e)) in
       let l : get_or s i 0 < 0x80 = omega (arith, e) in
-      let v = no-more (classAt s (i + 1)) false (ap (λ a. a && (not (isSign (classAt s (i + 1))) || false)) m) in
-      let w = low-byte (get_or s (i + 1) 0) v.0 in
-      let r = leb-false 128 (classAt s (i + 1)) m in
-      let o : opSign (from s (i + 1)) ≡ false = sign-text s (i + 1) w ∙ lt-leb 142 (classAt s (i + 1)) (omega arith) in
       semi-found s i _ (i + 1) (behind s i n h l) n (open-here l) (ap isOpSign e) (ap isIdStart e ∙ no-start ";" refl 0x3B refl) (rw (e, o) refl)
+
+  -- none of these, and nothing past ASCII
+  pub ascii-none : not (upToBlank (classAt s i)) && startsWord (classAt s i) ≡ false → isSign (classAt s i) ≡ false
+      → eqb (get_or s i 0) 0x3B && not (opSign (from s (i + 1))) ≡ false → eqb (classAt s i) wideClass ≡ false → None ≡ endOf (length s) (plainOf (from s i))
+  ascii-none u o e w =
+      by-test (ltb i (length s)) (λ y.
+      let h = ltb-true i (length s) y in
+      let l = low-byte (get_or s i 0) w in
+      let low : (p : ℕ → Bool) → ltb (get_or s i 0) 0x80 && p (get_or s i 0) ≡ false → p (get_or s i 0) ≡ false =
+      λ p z. sym (ap (λ x. x && p (get_or s i 0)) (lt-ltb (get_or s i 0) 0x80 l)) ∙ z in
+      none-found s i _ (i + 1) (behind s i n h l) n (open-here l) (low isOpSign (sym (class-sign (get_or s i 0)) ∙ o)) (low isIdStart (sym (class-start (get_or s i 0)) ∙ u)) e)
+      (λ y. none-at-end s i (ltb-false i (length s) y))
+
+-- ---- past ASCII, by one look
+
+module _ (s : List ℕ) (i : ℕ) (w : eqb (classAt s i) wideClass ≡ true) (d : Decoded) (c : Cursor) (p : Some (d, c) ≡ peekAt s i) where
+  high : 0x80 ≤ get_or s i 0
+  high = leb-true 0x80 (get_or s i 0) (sym (class-wide (get_or s i 0)) ∙ w)
+
+  no-slash : get_or s i 0 ≡ 0x5C → ⊥
+  no-slash e = let h = high in omega arith
+
+  pub wide-here : Here s i d.code c.at
+  wide-here = let k = peeked s i d c p in subst (Here s i d.code) (sym k.1) k.0.here
+
+  pub wide-behind : from s c.at ≡ drop 1 (from s i)
+  wide-behind = sym (ap (drop 1) wide-here.text)
+
+  -- what the four classes say
+  told : (f : Classes → Bool) → f d.classes ≡ f (answers d.code)
+  told f = ap f (peeked s i d c p).0.classes
+
+  printed-is : d.classes.printable && eqb (get_or s c.at 0) 0x27 ≡ isPrintable d.code && eqb (get_or s c.at 0) 0x27
+  printed-is = ap (λ z. z && eqb (get_or s c.at 0) 0x27) (told (λ z. z.printable))
+
+  pub wide-closed : d.classes.printable && eqb (get_or s c.at 0) 0x27 ≡ true → Some (cursorAt (c.at + 1)) ≡ endOf (length s) (plainOf (from s i))
+  wide-closed e = closed-ends s i d.code c.at wide-here no-slash (sym printed-is ∙ e)
+
+  module _ (z : d.classes.printable && eqb (get_or s c.at 0) 0x27 ≡ false) where
+    open-wide : isPrintable d.code && eqb (get_or s c.at 0) 0x27 ≡ false
+    open-wide = sym printed-is ∙ z
+
+    pub wide-name : d.classes.id_start ≡ true → (e : ℕ) → e ≤ length s → from s e ≡ afterIdent false (from s c.at) → Some (cursorAt e) ≡ endOf (length s) (plainOf (from s i))
+    wide-name f e k q = word-found s i d.code c.at wide-here no-slash open-wide (sym (told (λ z. z.id_start)) ∙ f) e k q
+
+    -- the first sign is free, since no comment begins past ASCII
+    pub wide-run : d.classes.op_sign ≡ true → (e : Cursor) → e.at ≤ length s → from s e.at ≡ afterRun freeSign (from s c.at) → Some e ≡ endOf (length s) (plainOf (from s i))
+    wide-run f e k q =
+        let o = sym (told (λ z. z.op_sign)) ∙ f in
+        let y = wide-clear s i w in
+        let x : freeSign (from s i) ≡ true = ap (λ b. opSign (from s i) && not b) y ∙ and-true (opSign (from s i)) ∙ ap opSign wide-here.text ∙ o in
+        let r : afterRun freeSign (from s i) ≡ afterRun freeSign (from s c.at) =
+        ap (afterRun freeSign) wide-here.text ∙ after-next freeSign _ (from s c.at) (ap freeSign (sym wide-here.text) ∙ x) in
+        run-symbol s i e y k (q ∙ sym r) ∙ run-found s i d.code c.at wide-here no-slash open-wide o
+
+    pub wide-none : d.classes.id_start ≡ false → d.classes.op_sign ≡ false → None ≡ endOf (length s) (plainOf (from s i))
+    wide-none f g =
+        let h = wide-here in
+        let m = high in
+        let a = wide-code s i m in
+        let t : eqb d.code 0x3B ≡ false =
+        sym (ap (headIs (λ b. eqb b 0x3B)) h.text) ∙ ap (headIs (λ b. eqb b 0x3B)) (at-char s i h.in-script) ∙ ne_eqb _ 0x3B (λ e. omega arith) in
+        none-found s i d.code c.at h no-slash open-wide (sym (told (λ z. z.op_sign)) ∙ g) (sym (told (λ z. z.id_start)) ∙ f)
+        (ap (λ b. b && not (opSign (from s c.at))) t)
 
 -- ---- from the `'` on; m is the text after it
 

@@ -63,6 +63,13 @@ three-in s i e = let b = three-each s i e in grind (arith, inside, at-ascii)
 
 pub ruleset three_here = (three-byte)
 
+-- behind a quote two more tell
+pub three-behind : (s : List ℕ) (i : ℕ) → quote (from s i) ≡ true → threeQuotes (from s i) ≡ eqb (get_or s (i + 1) 0) 0x22 && eqb (get_or s (i + 1 + 1) 0) 0x22
+three-behind s i e =
+    let z : i + 2 ≡ i + 1 + 1 = omega arith in
+    three-byte s i ∙ ap (λ x. x && (eqb (get_or s (i + 1) 0) 0x22 && eqb (get_or s (i + 2) 0) 0x22)) (eq-eqb (get_or s i 0) 0x22 (quote-in s i e).1)
+    ∙ ap (λ j. eqb (get_or s (i + 1) 0) 0x22 && eqb (get_or s j 0) 0x22) z
+
 -- a `$`
 pub dollar_in : (s : List ℕ) (i : ℕ) → get_or s i 0 ≡ 0x24 → isAny "$" (from s i) ≡ true
 dollar_in s i b = any-byte "$" refl s i ∙ ap (oneOf "$") b

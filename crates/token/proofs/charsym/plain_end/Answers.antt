@@ -1,8 +1,9 @@
 -- Where nothing asks for more, the symbol ends with its ASCII bytes.
 use Rattle.token.proofs.names.Bytes.{class-inside}
-use Rattle.token.proofs.lexer.Words.{◌≡◌, get_or, arith, sym, ap, ◌∙◌, classOf, asksMore, ℕ, Bool, List, true, not, ◌&&◌, classAt, upToBlank, startsWord, inRun, refl, isSign}
-use Rattle.token.proofs.charsym.Laws.{char-ends, word-ends, ascii-word, ascii-name, ascii-run, ascii-op, ascii-semi}
+use Rattle.token.proofs.lexer.Words.{◌≡◌, ◌+◌, get_or, arith, sym, ap, ◌∙◌, and-false, classOf, eqb, ne_eqb, ℕ, Bool, List, false, not, ◌&&◌, from, opSign, classAt, upToBlank, startsWord, inRun, refl, isSign, wideClass}
+use Rattle.token.proofs.charsym.Laws.{char-ends, start-behind, ascii-run, ascii-word, ascii-op, ascii-semi, ascii-none}
 use Rattle.token.proofs.charsym.plain_end.Goals as goal
+use Rattle.token.proofs.charsym.plain_end.Goals.{else-b-eq59-via-then-b-eq59+else-not-sign_at, else-b-eq59-via-else-b-eq59}
 
 pub returns-then-is_char : goal.returns-then-is_char
 returns-then-is_char c =
@@ -10,32 +11,8 @@ returns-then-is_char c =
     char-ends c.args.s.now c.args.c.at (λ e. p.no_escape (p.byte ∙ e)) (rw p.byte at (sym c.if-is_char.ensures))
 
 -- the class is that of the byte there
-same : (f : ℕ → Bool) (s : List ℕ) (i : ℕ) {b k : ℕ} → b ≡ get_or s i 0 → k ≡ classOf b → true ≡ f k → f (classAt s i) ≡ true
+same : (f : ℕ → Bool) (s : List ℕ) (i : ℕ) {b k : ℕ} {r : Bool} → b ≡ get_or s i 0 → k ≡ classOf b → r ≡ f k → f (classAt s i) ≡ r
 same f s i q r e = ap (λ z. f (classOf z)) (sym q) ∙ ap f (sym r) ∙ sym e
-
-pub word_end-end-requires : goal.word_end-end-requires
-word_end-end-requires c =
-    let h = class-inside c.args.s.now c.args.c.at (λ z. not (upToBlank z) && startsWord z) refl (same (λ z. not (upToBlank z) && startsWord z) c.args.s.now c.args.c.at c.requires.byte c.of-class.ensures c.if-begins_word.ensures) in omega arith
-
-pub more_name-requires-clause-some : goal.more_name-requires-clause-some
-more_name-requires-clause-some c = (word-ends c.args.s.now c.args.c.at (same (λ z. not (upToBlank z) && startsWord z) c.args.s.now c.args.c.at c.requires.byte c.of-class.ensures c.if-begins_word.ensures) _ c.word_end-end.ensures).0
-
-pub more_name-requires-clause-within : goal.more_name-requires-clause-within
-more_name-requires-clause-within c = (word-ends c.args.s.now c.args.c.at (same (λ z. not (upToBlank z) && startsWord z) c.args.s.now c.args.c.at c.requires.byte c.of-class.ensures c.if-begins_word.ensures) _ c.word_end-end.ensures).1
-
-pub more_name-requires-clause-stops : goal.more_name-requires-clause-stops
-more_name-requires-clause-stops c = (word-ends c.args.s.now c.args.c.at (same (λ z. not (upToBlank z) && startsWord z) c.args.s.now c.args.c.at c.requires.byte c.of-class.ensures c.if-begins_word.ensures) _ c.word_end-end.ensures).2
-
-pub returns-then-asks_more : goal.returns-then-asks_more
-returns-then-asks_more c =
-    let p = c.requires in
-    let r = c.more_name.ensures in
-    ascii-name c.args.s.now c.args.c.at (λ e. p.no_escape (p.byte ∙ e)) (rw p.byte at (sym c.if-is_char.ensures)) (same (λ z. not (upToBlank z) && startsWord z) c.args.s.now c.args.c.at c.requires.byte c.of-class.ensures c.if-begins_word.ensures) _ c.word_end-end.ensures c.more_name.result.at r.within r.rest
-
-pub returns-then-begins_word : goal.returns-then-begins_word
-returns-then-begins_word c =
-    let p = c.requires in
-    ascii-word c.args.s.now c.args.c.at (λ e. p.no_escape (p.byte ∙ e)) (rw p.byte at (sym c.if-is_char.ensures)) c.word_end-end.result (sym c.if-asks_more.ensures) (same (λ z. not (upToBlank z) && startsWord z) c.args.s.now c.args.c.at c.requires.byte c.of-class.ensures c.if-begins_word.ensures) c.word_end-end.ensures
 
 pub returns-then-is_op : goal.returns-then-is_op
 returns-then-is_op c =
@@ -52,8 +29,36 @@ returns-then-not-in_operator c =
     ascii-run c.args.s.now c.args.c.at (λ e. p.no_escape (p.byte ∙ e)) (rw p.byte at (sym c.if-is_char.ensures)) c.run_end-end.result (sym c.if-not-in_operator.ensures)
     (same inRun c.args.s.now c.args.c.at p.byte c.of-class.ensures c.if-in_run.ensures) c.run_end-end.ensures
 
-pub returns-then-not-asks_more : goal.returns-then-not-asks_more
-returns-then-not-asks_more c =
+pub name_symbol_end-requires-clause-start : goal.name_symbol_end-requires-clause-start
+name_symbol_end-requires-clause-start c = (start-behind c.args.s.now c.args.c.at (same (λ z. not (upToBlank z) && startsWord z) c.args.s.now c.args.c.at c.requires.byte c.of-class.ensures c.if-begins_word.ensures)).0
+
+pub name_symbol_end-requires-clause-within : goal.name_symbol_end-requires-clause-within
+name_symbol_end-requires-clause-within c = (start-behind c.args.s.now c.args.c.at (same (λ z. not (upToBlank z) && startsWord z) c.args.s.now c.args.c.at c.requires.byte c.of-class.ensures c.if-begins_word.ensures)).1
+
+pub name_symbol_end-requires-clause-next_same : goal.name_symbol_end-requires-clause-next_same
+name_symbol_end-requires-clause-next_same c = (start-behind c.args.s.now c.args.c.at (same (λ z. not (upToBlank z) && startsWord z) c.args.s.now c.args.c.at c.requires.byte c.of-class.ensures c.if-begins_word.ensures)).2
+
+pub returns-then-begins_word : goal.returns-then-begins_word
+returns-then-begins_word c =
     let p = c.requires in
-    ascii-semi c.args.s.now c.args.c.at (λ e. p.no_escape (p.byte ∙ e)) (rw p.byte at (sym c.if-is_char.ensures)) (sym p.byte ∙ c.if-b-eq59.true)
-    (sym (ap asksMore c.at.ensures) ∙ sym c.if-not-asks_more.ensures)
+    let r = c.name_symbol_end.ensures in
+    ascii-word c.args.s.now c.args.c.at (λ e. p.no_escape (p.byte ∙ e)) (rw p.byte at (sym c.if-is_char.ensures))
+    (same (λ z. not (upToBlank z) && startsWord z) c.args.s.now c.args.c.at p.byte c.of-class.ensures c.if-begins_word.ensures) c.name_symbol_end.result.at r.within r.rest
+
+pub returns-then-not-sign_at : goal.returns-then-not-sign_at
+returns-then-not-sign_at c =
+    let p = c.requires in
+    ascii-semi c.args.s.now c.args.c.at (λ e. p.no_escape (p.byte ∙ e)) (rw p.byte at (sym c.if-is_char.ensures)) (sym p.byte ∙ c.if-b-eq59.true) (sym c.if-not-sign_at.ensures)
+
+pub returns : goal.returns
+returns c =
+    let s = c.args.s.now in
+    let i = c.args.c.at in
+    let p = c.requires in
+    let k = c.of-class.ensures in
+    let m : eqb c.args.b 0x3B && not (opSign (from s (i + 1))) ≡ false = elim c.else-b-eq59.branch [
+      | else-b-eq59-via-then-b-eq59+else-not-sign_at w ↦ ap (λ o. eqb c.args.b 0x3B && not o) (sym w.if-not-sign_at.ensures) ∙ and-false (eqb c.args.b 0x3B)
+      | else-b-eq59-via-else-b-eq59 w ↦ ap (λ x. x && not (opSign (from s (i + 1)))) (ne_eqb c.args.b 0x3B w.if-b-eq59.false)
+    ] in
+    ascii-none s i (λ e. p.no_escape (p.byte ∙ e)) (rw p.byte at (sym c.if-is_char.ensures)) (same (λ z. not (upToBlank z) && startsWord z) s i p.byte k c.if-begins_word.ensures)
+    (same isSign s i p.byte k c.if-is_op.ensures) (rw p.byte at m) (same (λ z. eqb z wideClass) s i p.byte k c.if-eq.ensures)

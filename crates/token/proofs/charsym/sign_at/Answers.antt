@@ -1,12 +1,17 @@
--- By the class of a byte of ASCII, else by three bytes.
-use Rattle.token.proofs.lexer.Words.{◌<◌, get_or, sym, ap, ◌∙◌, arith, isSign}
-use Rattle.token.proofs.ident.Signs.{sign-here, arrow-decides}
+-- By the class of a byte of ASCII, else by one look.
+use Rattle.token.proofs.lexer.Words.{refl, sym, ap, ◌∙◌, eqb, wideClass, isSign}
+use Rattle.token.proofs.ident.Signs.{low-byte, sign-text, wide-sign}
+use Rattle.token.proofs.names.Bytes.{class-inside}
+use Rattle.token.proofs.names.Wide.{told}
 use Rattle.token.proofs.charsym.sign_at.Goals as goal
 
-pub returns-then-is_op : goal.returns-then-is_op
-returns-then-is_op c = ap (λ z. z) c.if-is_op.true ∙ sym (sign-here c.args.s.now c.args.c.at (ap isSign (sym c.at.ensures) ∙ sym c.if-is_op.ensures))
+pub look-requires : goal.look-requires
+look-requires c = class-inside c.args.s.now c.args.c.at (λ z. eqb z wideClass) refl (told (λ z. eqb z wideClass) c.at-class.ensures c.eq.ensures c.if-eq.true)
 
-pub returns-else-is_op : goal.returns-else-is_op
-returns-else-is_op c =
-    let l : get_or c.args.s.now c.args.c.at 0 < 0x100 = omega (arith, c.type_inv.s c.args.c.at) in
-    c.is_arrow_at.ensures ∙ arrow-decides c.args.s.now c.args.c.at (ap isSign (sym c.at.ensures) ∙ sym c.if-is_op.ensures) l
+pub returns-then-eq : goal.returns-then-eq
+returns-then-eq c = sym (wide-sign c.args.s.now c.args.c.at _ c.look.ensures)
+
+pub returns : goal.returns
+returns c =
+    let l = low-byte _ (told (λ z. eqb z wideClass) c.at-class.ensures c.eq.ensures c.if-eq.false) in
+    c.is_op.ensures ∙ ap isSign c.at-class.ensures ∙ sym (sign-text c.args.s.now c.args.c.at l)
