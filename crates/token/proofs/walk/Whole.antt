@@ -1,5 +1,5 @@
 -- Words and operators with all their characters, where a walk stands: the step past each.
-use Rattle.token.proofs.lexer.Words.{◌≡◌, refl, sym, ◌∙◌, ap, subst, ℕ, ◌+◌, ◌≤◌, ◌<◌, Bool, true, false, cond, not, ◌&&◌, ◌||◌, List, Option, none, some, length, drop, get_or, eqb, arith, clash, and-both, Text, from, headIs, isIdStart, isOpSign, place, afterRun, opSign, freeSign, opensComment, quote, kindNumber, wordOf, runOf, values, codesTo, afterIdent, wordOr, Found, scan, classAt, keywordClass, signKeywordClass, slashClass, cursorAt, plainForm, byForm, runBefore, numberOr, nameNumber, operatorNumber, hereOf, lowBefore, wordChar, runChar, pieceOf, tokenTo, storedIf, Counted, Counts, Good, headLength, tokenBehind, Steps, LeftTo, Here, Stand, Kw, slash-no-start, by-test}
+use Rattle.token.proofs.lexer.Words.{◌≡◌, refl, sym, ◌∙◌, ap, subst, ℕ, ◌+◌, ◌≤◌, ◌<◌, Bool, true, false, cond, not, ◌&&◌, ◌||◌, List, Option, none, some, length, drop, get_or, eqb, leb-true, le-leb, arith, clash, and-both, Text, from, headIs, isIdStart, isOpSign, place, afterRun, opSign, freeSign, opensComment, quote, kindNumber, wordOf, runOf, values, codesTo, afterIdent, wordOr, Found, scan, classAt, inRun, isSign, keywordClass, signKeywordClass, slashClass, cursorAt, plainForm, byForm, runBefore, numberOr, nameNumber, operatorNumber, hereOf, lowBefore, wordChar, runChar, pieceOf, tokenTo, storedIf, Counted, Counts, Good, headLength, tokenBehind, Steps, LeftTo, Here, Stand, Kw, slash-no-start, by-test}
 use Rattle.token.specs.declared.kinds.TokenKind.TheVariants as tk
 use Rattle.token.proofs.theorems.Dispatch.{clear-head}
 use Rattle.token.specs.code.Walk.{wholeGoesOn, wholeRunGoesOn}
@@ -9,7 +9,8 @@ use Rattle.token.proofs.lexer.Laws.{word-at, operator-at}
 use Rattle.token.proofs.names.Ascii.{kind-bare, kind-counts}
 use Rattle.token.proofs.names.Whole.{whole-bounds, whole-kept, whole-over, whole-no-quote, signs-bounds, signs-over, signs-no-slash}
 use Rattle.token.proofs.walk.Pieces.{by-class, step-bare}
-use Rattle.token.proofs.walk.Starts.{sign-next}
+use Rattle.token.proofs.names.Laws.{run-clear}
+use Rattle.token.proofs.walk.Starts.{sign-next, ascii-sign, ascii-sign-inside, behind-sign}
 use Rattle.token.proofs.walk.Words.{behind-here}
 
 -- ---- an identifier or a keyword, which ends at e
@@ -151,3 +152,13 @@ module _ {s : List ℕ} {x : Stand} (g : Good s x) (v : opSign (from s x.at) ≡
         left = signs-leave g v y e signs-bound.1 r w;
         steps = λ c out next f. behind-here e (place (length s) (afterRun runChar (from s at))) q (step-signs g v y e signs-bound.1 r w k c out next f);
       }
+
+-- one that begins with a sign of ASCII other than `/`
+pub run-starts : {s : List ℕ} {x : Stand} → Good s x → inRun x.class.number ≡ true
+    → (opSign (from s x.at) ≡ true) × (opensComment (from s x.at) ≡ false) × (x.at + 1 ≤ length s) × (from s (x.at + 1) ≡ drop 1 (from s x.at))
+run-starts {s} {x} g k =
+    let r = by-class g inRun k in
+    let l = leb-true 160 x.class.number k in
+    let z : isSign x.class.number ≡ true = le-leb slashClass x.class.number (omega arith) in
+    let h = ascii-sign-inside g z in
+    (ascii-sign g z, run-clear s x.at r, omega arith, behind-sign g z)

@@ -13,8 +13,8 @@ run_step-requires-clause-sign c = wide-sign c.args.s.now c.args.x.at c.look-here
 pub run_step-requires-clause-no_comment : goal.run_step-requires-clause-no_comment
 run_step-requires-clause-no_comment c = wide-clear c.requires.good c.requires.wide
 
-pub overflow_add-c : goal.overflow_add-c
-overflow_add-c c = let n = wide-past c.requires.good c.requires.wide c.look-here.result c.look-here.ensures in omega (arith, n.0)
+pub overflow_add-next : goal.overflow_add-next
+overflow_add-next c = let n = wide-past c.requires.good c.requires.wide c.look-here.result c.look-here.ensures in omega (arith, n.0)
 
 pub name_step-requires-clause-starts : goal.name_step-requires-clause-starts
 name_step-requires-clause-starts c = wide-start c.args.s.now c.args.x.at c.look-here.result c.look-here.ensures ∙ c.if-here-2.true
