@@ -7,7 +7,7 @@ ghost use Rattle.chars.specs.computed.Valid.{validPrefix};
 ghost use Rattle.chars.specs.code.Utf8.{decodeAt};
 ghost use Rattle.chars_host.specs.Packing.{bits, packed};
 
-use chars::classes::{is_id_char, is_id_start, is_op_char, is_printable_char};
+use chars::classes::classes_of;
 use chars::utf8::Decoded;
 
 // The length of the longest valid UTF-8 prefix.
@@ -24,7 +24,7 @@ pub extern "C" fn chars_decode(s: &[u8], at: usize) -> u64
     ensures { result ≡ packed (decodeAt s.now at) }
 {
     match chars::utf8::decode(s, at) {
-        Some(Decoded { code, width }) => (width as u64) << 32 | u64::from(code),
+        Some(Decoded { code, width, .. }) => (width as u64) << 32 | u64::from(code),
         None => 0,
     }
 }
@@ -34,8 +34,9 @@ pub extern "C" fn chars_decode(s: &[u8], at: usize) -> u64
 pub extern "C" fn chars_classes(c: u32) -> u32
     ensures { result ≡ bits c }
 {
-    u32::from(is_id_start(c))
-        | u32::from(is_id_char(c)) << 1
-        | u32::from(is_op_char(c)) << 2
-        | u32::from(is_printable_char(c)) << 3
+    let classes = classes_of(c);
+    u32::from(classes.id_start)
+        | u32::from(classes.id_char) << 1
+        | u32::from(classes.op_sign) << 2
+        | u32::from(classes.printable) << 3
 }

@@ -6,7 +6,7 @@ ghost use Rattle.std.specs.Prelude.{◌≡◌, ◌-◌, ◌<◌, ◌≤◌, leng
 ghost use Rattle.puts.specs.Puts.{Puts};
 ghost use Rattle.class_runs.specs.Lines.{nameOf, lastDigit, inClass, runText, runLine, runsFrom, classText};
 
-use chars::classes::{is_id_char, is_id_start, is_op_char, is_printable_char};
+use chars::classes::classes_of;
 use puts::hex_digit;
 use std::alloc::AllocError;
 use std::io;
@@ -38,11 +38,12 @@ impl Class {
     fn has(self, c: u32) -> bool
         ensures { result ≡ inClass self c }
     {
+        let classes = classes_of(c);
         match self {
-            Class::IdStart => is_id_start(c),
-            Class::IdChar => is_id_char(c),
-            Class::OpChar => is_op_char(c),
-            Class::Printable => is_printable_char(c),
+            Class::IdStart => classes.id_start,
+            Class::IdChar => classes.id_char,
+            Class::OpChar => classes.op_sign,
+            Class::Printable => classes.printable,
         }
     }
 }

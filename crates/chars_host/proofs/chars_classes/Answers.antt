@@ -12,5 +12,4 @@ four a b c d = grind arith
 pub returns : goal.returns
 unfolding bits
 returns c =
-    rw (c.from.ensures, c.from-2.ensures, c.from-3.ensures, c.from-4.ensures)
-    (rw (← c.is_id_start.ensures.value, ← c.is_id_char.ensures, ← c.is_op_char.ensures, ← c.is_printable_char.ensures.value) (four _ _ _ _))
+    rw (c.from.ensures, c.from-2.ensures, c.from-3.ensures, c.from-4.ensures, c.classes_of-classes.ensures.value) (four _ _ _ _)
