@@ -658,12 +658,7 @@ fn run_goes_on(s: &[u8], end: Here) -> bool
 
 // As far as blanks, signs, words, line ends, runs of operator signs and numbers of ASCII stand there of which no byte behind them makes more, as most
 // pieces are. Err, where a character past ASCII stands, or makes more of the word or the run that it follows.
-fn walk_words(
-    out: &mut [u8],
-    s: &[u8],
-    counts: &mut Counts,
-    start: Stand,
-) -> Result<Stand, Stand>
+fn walk_words(out: &mut [u8], s: &[u8], counts: &mut Counts, start: Stand) -> Result<Stand, Stand>
     requires short { length s.now ≤ mostBytes }
     requires good { Good s.now start }
     requires counted { Counted start counts.old }

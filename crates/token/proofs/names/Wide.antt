@@ -1,6 +1,6 @@
 -- Words and runs of operator signs with their characters past ASCII: a run of characters, of which the loops pass those of ASCII by their classes and the
 -- others by one look at each.
-use Rattle.token.proofs.lexer.Words.{◌≡◌, refl, sym, ◌∙◌, ap, ap₂, subst, ℕ, zero, suc, ◌+◌, ◌-◌, ◌≤◌, ◌<◌, Bool, true, false, not, ◌&&◌, ◌||◌, List, [], ◌∷◌, Some, length, drop, get_or, eqb, eqb-true, leb, leb-true, ltb, ltb-true, ltb-false, ne_eqb, le-leb, lt-ltb, arith, and-true, or-false, clash, and-both, or-neither, under-no-id, oneOf, isIdChar, isOpSign, Char, Text, from, place, idChar, charEnd, afterRun, text-laws, class-laws, isAny, opSign, classAt, otherClass, wideClass, inWord, inRun, hereOf, runTo, wordChar, runChar, sign-byte, nul-no-sign, Here, by-test}
+use Rattle.token.proofs.lexer.Words.{◌≡◌, refl, sym, ◌∙◌, ap, ap₂, subst, ℕ, ◌+◌, ◌≤◌, ◌<◌, Bool, true, false, not, ◌&&◌, ◌||◌, List, [], ◌∷◌, Some, length, get_or, eqb, leb-true, ne_eqb, lt-ltb, arith, and-true, or-false, clash, or-neither, under-no-id, isIdChar, isOpSign, Char, Text, from, place, idChar, afterRun, text-laws, class-laws, opSign, classAt, otherClass, wideClass, inWord, inRun, hereOf, runTo, wordChar, runChar, sign-byte, nul-no-sign, Here}
 use Rattle.chars.specs.code.Text.{stepAt}
 use Rattle.chars.specs.declared.classes.Classes.{Classes}
 use Rattle.chars.specs.declared.utf8.Decoded.{Decoded}

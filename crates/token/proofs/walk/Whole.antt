@@ -1,5 +1,5 @@
 -- Words and operators with all their characters, where a walk stands: the step past each.
-use Rattle.token.proofs.lexer.Words.{◌≡◌, refl, sym, ◌∙◌, ap, subst, ℕ, ◌+◌, ◌≤◌, ◌<◌, Bool, true, false, cond, not, ◌&&◌, ◌||◌, List, Option, none, some, length, drop, get_or, eqb, leb-true, le-leb, arith, clash, and-both, Text, from, headIs, isIdStart, isOpSign, place, afterRun, opSign, freeSign, opensComment, quote, kindNumber, wordOf, runOf, values, codesTo, afterIdent, wordOr, Found, scan, classAt, inRun, isSign, keywordClass, signKeywordClass, slashClass, cursorAt, plainForm, byForm, runBefore, numberOr, nameNumber, operatorNumber, hereOf, lowBefore, wordChar, runChar, pieceOf, tokenTo, storedIf, Counted, Counts, Good, headLength, tokenBehind, Steps, LeftTo, Here, Stand, Kw, slash-no-start, by-test}
+use Rattle.token.proofs.lexer.Words.{◌≡◌, refl, sym, ◌∙◌, ap, ℕ, ◌+◌, ◌≤◌, ◌<◌, Bool, true, false, cond, not, ◌||◌, List, Option, none, some, length, drop, eqb, leb-true, le-leb, arith, and-both, from, headIs, isIdStart, isOpSign, place, afterRun, opSign, freeSign, opensComment, quote, kindNumber, wordOf, runOf, values, codesTo, afterIdent, wordOr, Found, scan, classAt, inRun, isSign, keywordClass, signKeywordClass, slashClass, cursorAt, plainForm, byForm, runBefore, numberOr, nameNumber, operatorNumber, hereOf, lowBefore, wordChar, runChar, pieceOf, tokenTo, storedIf, Counted, Counts, Good, headLength, tokenBehind, Steps, LeftTo, Here, Stand, Kw, slash-no-start, by-test}
 use Rattle.token.specs.declared.kinds.TokenKind.TheVariants as tk
 use Rattle.token.proofs.theorems.Dispatch.{clear-head}
 use Rattle.token.specs.code.Walk.{wholeGoesOn, wholeRunGoesOn}

@@ -15,7 +15,6 @@ loop-i-2-preserved g c =
     let i = c.loop-i-2.invariant in
     (omega (arith, a.0), omega (arith, i.1), a.1 ∙ i.2)
 
-
 pub returns-then-ne-clause-rest : goal.returns-then-ne-clause-rest
 returns-then-ne-clause-rest g c =
     let s = c.args.s.now in

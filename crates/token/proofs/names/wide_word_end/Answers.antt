@@ -31,14 +31,14 @@ pub loop-here-smaller : goal.loop-here-smaller
 loop-here-smaller c =
     let g = c.loop-here.invariant in
     let n = kept-on word-kind c.args.s.now g (class-is word-kind c.args.s.now g c.eq.ensures c.loop-here-test.true) c.look-here.result c.look-here.ensures (not-false _ c.if-not-here.false)
-        c.word_end-end-in-loop-here.result c.word_end-end-in-loop-here.ensures in
+    c.word_end-end-in-loop-here.result c.word_end-end-in-loop-here.ensures in
     omega (arith, n.1, n.2)
 
 pub loop-here-preserved : goal.loop-here-preserved
 loop-here-preserved c =
     let g = c.loop-here.invariant in
     (kept-on word-kind c.args.s.now g (class-is word-kind c.args.s.now g c.eq.ensures c.loop-here-test.true) c.look-here.result c.look-here.ensures (not-false _ c.if-not-here.false)
-        c.word_end-end-in-loop-here.result c.word_end-end-in-loop-here.ensures).0
+    c.word_end-end-in-loop-here.result c.word_end-end-in-loop-here.ensures).0
 
 pub returns : goal.returns
 returns c =

@@ -1,11 +1,11 @@
 -- By the class of the byte that stands there.
-use Rattle.token.proofs.lexer.Words.{tests, rules, sym, ◌∙◌, length, arith, beginning, noneCounted, Good, Steps, Refuses, false, ◌≡◌}
+use Rattle.token.proofs.lexer.Words.{tests, rules, sym, ◌∙◌, ◌≤◌, ◌<◌, length, arith, beginning, noneCounted, Good, Steps, Refuses, false, ◌≡◌}
 use Rattle.token.proofs.byte_class.Laws.{others}
 use Rattle.chars.specs.paper.Quoted.{member}
 use Rattle.token.proofs.records.Ends.{end-measured, end-stored, end-counted}
-use Rattle.token.proofs.walk.Laws.{steps-trans}
+use Rattle.token.proofs.walk.Laws.{steps-trans, at-is}
 use Rattle.token.proofs.walk.Starts.{other-clear, other-left, refuses-other}
-use Rattle.token.proofs.walk.walk.Goals.{then-not-x, else-not-x}
+use Rattle.token.proofs.walk.walk.Goals.{then-not-x, else-not-x, in-SLASH+in_ok-y-in-SLASH, in-QUOTE+in_ok-y-in-QUOTE, in-WIDE+in_ok-y-in-WIDE, in-TICK+in_ok-y-in-TICK, in-BACKTICK+in_ok-y-in-BACKTICK, in-CR+in_ok-y-in-CR, in-DIGIT+in_ok-y-in-DIGIT, in-SIGN+in_ok-y-in-SIGN, in-START+in_ok-y-in-START, in-LF, in-BLANK, in_default}
 use Rattle.token.proofs.walk.walk.Goals as goal
 
 pub ascii_run_step-requires-clause-no_comment : goal.ascii_run_step-requires-clause-no_comment
@@ -65,11 +65,64 @@ returns-in_default-3 c =
       counts_after = end-counted i e;
     }
 
-pub loop-x-preserved-in-BLANK : goal.loop-x-preserved-in-BLANK
-loop-x-preserved-in-BLANK c =
-    let i : Steps c.args.s.now (beginning c.args.s.now) noneCounted c.args.out.now c.if-not-x.x c.if-not-x.counts c.if-not-x.out =
-    elim c.if-not-x.branch [
-      | then-not-x w ↦ rw (w.x-is, w.by_field-x.ensures, w.out-is, w.counts-is) (steps-trans c.loop-x.invariant w.walk_plain.ensures)
-      | else-not-x w ↦ rw (w.x-is, w.out-is, w.counts-is) c.loop-x.invariant
-    ] in
-    steps-trans i (c.blank_step-x.ensures.on _ _ i.counted)
+-- one step past what stands there
+step : (c : goal.After-by_field-x-in-loop-x) → Steps c.args.s.now (beginning c.args.s.now) noneCounted c.args.out.now c.if-not-x.x c.if-not-x.counts c.if-not-x.out → Steps c.args.s.now c.if-not-x.x c.if-not-x.counts c.if-not-x.out c.match-x.y c.match-x.counts c.match-x.out
+step c i = elim c.match-x.branch [
+  | in-SLASH+in_ok-y-in-SLASH w ↦ rw (w.y-is, w.out-is, w.counts-is) w.in_ok-y-in-SLASH.ensures.on
+  | in-QUOTE+in_ok-y-in-QUOTE w ↦ rw (w.y-is, w.out-is, w.counts-is) w.in_ok-y-in-QUOTE.ensures.on
+  | in-WIDE+in_ok-y-in-WIDE w ↦ rw (w.y-is, w.out-is, w.counts-is) w.in_ok-y-in-WIDE.ensures.on
+  | in-TICK+in_ok-y-in-TICK w ↦ rw (w.y-is, w.out-is, w.counts-is) w.in_ok-y-in-TICK.ensures.on
+  | in-BACKTICK+in_ok-y-in-BACKTICK w ↦ rw (w.y-is, w.out-is, w.counts-is) w.in_ok-y-in-BACKTICK.ensures.on
+  | in-CR+in_ok-y-in-CR w ↦ rw (w.y-is, w.out-is, w.counts-is) w.in_ok-y-in-CR.ensures.on
+  | in-DIGIT+in_ok-y-in-DIGIT w ↦ rw (w.y-is, w.out-is, w.counts-is) w.in_ok-y-in-DIGIT.ensures.on
+  | in-SIGN+in_ok-y-in-SIGN w ↦ rw (w.y-is, w.out-is, w.counts-is) w.in_ok-y-in-SIGN.ensures.on
+  | in-START+in_ok-y-in-START w ↦ rw (w.y-is, w.out-is, w.counts-is) w.in_ok-y-in-START.ensures.on
+  | in-LF w ↦ rw (w.y-is, w.out-is, w.counts-is) w.line_step-y.ensures.on
+  | in-BLANK w ↦ rw (w.y-is, w.out-is, w.counts-is) (w.blank_step-y.ensures.on _ _ i.counted)
+  | in_default w ↦ rw (w.y-is, w.out-is, w.counts-is) (w.sign_step-y.ensures.on _ i.counted)
+]
+
+-- where it came to before
+stands-there : (c : goal.After-by_field-x-in-loop-x) → Steps c.args.s.now (beginning c.args.s.now) noneCounted c.args.out.now c.if-not-x.x c.if-not-x.counts c.if-not-x.out
+stands-there c = elim c.if-not-x.branch [
+  | then-not-x w ↦ rw (w.x-is, w.by_field-x.ensures, w.out-is, w.counts-is) (steps-trans c.loop-x.invariant w.walk_plain.ensures)
+  | else-not-x w ↦ rw (w.x-is, w.out-is, w.counts-is) c.loop-x.invariant
+]
+
+pub loop-x-preserved : goal.loop-x-preserved
+loop-x-preserved c =
+    let i = stands-there c in
+    rw c.by_field-x-in-loop-x.ensures (steps-trans i (step c i))
+
+-- the walk of plain pieces goes on, or stays
+not-back : (c : goal.After-by_field-x-in-loop-x) → c.loop-x.x.at ≤ c.if-not-x.x.at
+not-back c = elim c.if-not-x.branch [
+  | then-not-x w ↦ rw (w.x-is, w.by_field-x.ensures) w.walk_plain.ensures.reaches.on
+  | else-not-x w ↦ rw w.x-is (omega arith)
+]
+
+-- and each step goes on
+further : (c : goal.After-by_field-x-in-loop-x) → c.if-not-x.x.at < c.match-x.y.at
+further c = elim c.match-x.branch [
+  | in-SLASH+in_ok-y-in-SLASH w ↦ rw w.y-is w.in_ok-y-in-SLASH.ensures.further
+  | in-QUOTE+in_ok-y-in-QUOTE w ↦ rw w.y-is w.in_ok-y-in-QUOTE.ensures.further
+  | in-WIDE+in_ok-y-in-WIDE w ↦ rw w.y-is w.in_ok-y-in-WIDE.ensures.further
+  | in-TICK+in_ok-y-in-TICK w ↦ rw w.y-is w.in_ok-y-in-TICK.ensures.further
+  | in-BACKTICK+in_ok-y-in-BACKTICK w ↦ rw w.y-is w.in_ok-y-in-BACKTICK.ensures.further
+  | in-CR+in_ok-y-in-CR w ↦ rw w.y-is w.in_ok-y-in-CR.ensures.further
+  | in-DIGIT+in_ok-y-in-DIGIT w ↦ rw w.y-is w.in_ok-y-in-DIGIT.ensures.further
+  | in-SIGN+in_ok-y-in-SIGN w ↦ rw w.y-is w.in_ok-y-in-SIGN.ensures.further
+  | in-START+in_ok-y-in-START w ↦ rw w.y-is w.in_ok-y-in-START.ensures.further
+  | in-LF w ↦ rw w.y-is (omega (arith, w.line_step-y.ensures.further))
+  | in-BLANK w ↦ rw w.y-is w.blank_step-y.ensures.further
+  | in_default w ↦ rw w.y-is (omega (arith, w.sign_step-y.ensures.further))
+]
+
+pub loop-x-smaller : goal.loop-x-smaller
+loop-x-smaller c =
+    let i = stands-there c in
+    let k = not-back c in
+    let f = further c in
+    let e = at-is c.by_field-x-in-loop-x.ensures in
+    let w = (step c i).good.within in
+    omega (arith, k, f, e, w)

@@ -1,5 +1,5 @@
 -- An operator sign, an id start, or neither, by one look.
-use Rattle.token.proofs.lexer.Words.{sym, ◌∙◌, arith}
+use Rattle.token.proofs.lexer.Words.{◌∙◌, arith}
 use Rattle.token.proofs.ident.Signs.{wide-sign, wide-start}
 use Rattle.token.proofs.walk.Starts.{wide-clear, wide-in, wide-past, refuses-wide}
 use Rattle.token.proofs.walk.wide_step.Goals as goal

@@ -1,5 +1,5 @@
 -- Each word and each operator that nothing behind it makes more of is a step more.
-use Rattle.token.proofs.lexer.Words.{◌≡◌, ◌+◌, ◌≤◌, ◌∙◌, length, sym, arith}
+use Rattle.token.proofs.lexer.Words.{◌+◌, ◌∙◌, sym, arith}
 use Rattle.token.proofs.ident.Signs.{wide-sign, wide-start}
 use Rattle.token.proofs.walk.Laws.{steps-trans, at-is}
 use Rattle.token.proofs.walk.Words.{word-inside, run-within}

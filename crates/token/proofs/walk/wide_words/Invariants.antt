@@ -1,6 +1,5 @@
 -- The loop keeps that the walk comes from its start to its place; each piece is a step more.
 use Rattle.token.proofs.lexer.Words.{◌-◌, length, Steps}
-use Rattle.token.proofs.walk.Whole.{Named, Signed}
 use Rattle.token.proofs.walk.wide_words.Given as goal
 
 abbrev pub invariant-loop-x : goal.invariant-loop-x
