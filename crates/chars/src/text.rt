@@ -8,7 +8,7 @@ ghost use Rattle.chars.specs.code.Text.{beginsThree, threeBytes, stepAt};
 ghost use Rattle.chars.specs.promises.Texts.{TextLaws};
 
 use crate::classes::{Classes, classes_at};
-use crate::utf8::{Decoded, code_at, width_at};
+use crate::utf8::{Decoded, code_at, is_plain_three, width_at};
 
 // Whether the byte lies from low to high.
 fn is_in(b: u8, low: u8, high: u8) -> bool
@@ -30,10 +30,7 @@ fn is_two(s: &[u8], at: usize) -> bool
     requires { at < length s.now }
     ensures { result ≡ width (drop at s.now) == 2 }
 {
-    if s.len() <= at + 1 {
-        return false;
-    }
-    is_in(s[at], 0xC2, 0xDF) && continues(s[at + 1])
+    is_in(s[at], 0xC2, 0xDF) && at + 1 < s.len() && continues(s[at + 1])
 }
 
 // Whether these are the first two bytes of a character of three: its block of 64 codes is none of the first 32, whose characters have fewer bytes, and
@@ -49,18 +46,13 @@ fn begins_three(a: u8, b: u8) -> bool
     half != 0 && half != 27
 }
 
-// Whether the three bytes are one.
+// Whether three bytes are one, of which the first is of E0 to EF: nearly always by the tables, which pass no direction mark.
 #[inline(always)]
 fn are_three(a: u8, b: u8, c: u8) -> bool
+    requires { IsTrue (between 0xE0 0xEF a) }
     ensures { result ≡ threeBytes a b c }
 {
-    if !is_in(a, 0xE0, 0xEF) {
-        return false;
-    }
-    if !continues(b) {
-        return false;
-    }
-    continues(c) && begins_three(a, b)
+    is_plain_three(a, b, c) || continues(b) && continues(c) && begins_three(a, b)
 }
 
 // Whether one stands there.
@@ -69,10 +61,7 @@ fn is_three(s: &[u8], at: usize) -> bool
     requires { at < length s.now }
     ensures { result ≡ width (drop at s.now) == 3 }
 {
-    if s.len() <= at + 2 {
-        return false;
-    }
-    are_three(s[at], s[at + 1], s[at + 2])
+    is_in(s[at], 0xE0, 0xEF) && at + 2 < s.len() && are_three(s[at], s[at + 1], s[at + 2])
 }
 
 // Whether one of four bytes does.

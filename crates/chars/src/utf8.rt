@@ -178,8 +178,9 @@ fn ascii_end(s: &[u8], at: usize) -> usize
     }
 }
 
-// Whether these three bytes are a well-formed character and no direction mark.
-fn is_plain_three(a: u8, b: u8, c: u8) -> bool
+/// Whether these three bytes are a well-formed character and no direction mark.
+#[inline(always)]
+pub fn is_plain_three(a: u8, b: u8, c: u8) -> bool
     ensures { result ≡ plainThree a b c }
 {
     SETS[b as usize * 8 + KINDS[a as usize] as usize] & THIRDS[c as usize] != 0

@@ -1,13 +1,13 @@
 -- One look at a character, by its width.
-use Rattle.std.proofs.Common.{ℕ, ◌+◌, ◌-◌, ◌*◌, ◌/◌, ◌%◌, ◌≤◌, ◌<◌, ◌≡◌, refl, sym, ◌∙◌, ap, ◌⊎◌, inl, inr, Bool, true, false, not, ◌&&◌, List, ◌∷◌, length, drop, get_or, eqb, ⊎_elim, arith, eq-eqb, ne_eqb, eqb-true, lt-ltb, max, Some}
+use Rattle.std.proofs.Common.{ℕ, ◌+◌, ◌-◌, ◌*◌, ◌/◌, ◌%◌, ◌≤◌, ◌<◌, ◌≡◌, refl, sym, ◌∙◌, ap, ◌⊎◌, inl, inr, Bool, true, false, not, ◌&&◌, List, ◌∷◌, length, drop, get_or, eqb, ⊎_elim, arith, eq-eqb, ne_eqb, eqb-true, lt-ltb, ltb, leb, ltb-false, leb-false, ◌||◌, max, Some}
 use Rattle.std.proofs.lemmas.Bool.{cases_eq, cases_lt}
 use Rattle.chars.specs.paper.Quoted.{between}
 use Rattle.chars.specs.paper.Utf8.{here, later, width, codeOf}
 use Rattle.std.specs.Option.{is_some}
 use Rattle.chars.specs.code.Classes.{answers}
-use Rattle.chars.specs.code.Utf8.{decoded, widthAt}
+use Rattle.chars.specs.code.Utf8.{decoded, widthAt, plainThree}
 use Rattle.chars.specs.code.Text.{beginsThree, threeBytes, stepAt}
-use Rattle.chars.proofs.Bools.{clash, and-both}
+use Rattle.chars.proofs.Bools.{clash, and-both, or-neither}
 use Rattle.chars.proofs.classes.Laws.{above-no-start, above-no-id, above-no-sign, above-no-print}
 use Rattle.chars.proofs.classes.Ranges.{between-in, in-between}
 use Rattle.chars.proofs.utf8.Codes.{code-one, code-two, code-three}
@@ -22,7 +22,15 @@ same true q f g = sym (f refl)
 same false true f g = g refl
 same false false f g = refl
 
+-- what a test takes, it lacks where that is not so
+pub lacks : (p q : Bool) → (q ≡ true → p ≡ true) → p ≡ false → false ≡ q
+lacks p true f e = sym e ∙ f refl
+lacks p false f e = refl
+
 -- ---- a width, by bytes
+
+byte0 : (s : List ℕ) (i : ℕ) → i < length s → get_or (drop i s) 0 0 ≡ get_or s i 0
+byte0 s i h = ap (λ t. get_or t 0 0) (rows.here s i h)
 
 -- the bytes from a place on, the first of them taken apart
 module _ (s : List ℕ) (i : ℕ) where
@@ -59,6 +67,11 @@ two-is s i h =
     same (between 0xC2 0xDF a && between 0x80 0xBF b) (eqb (width (a ∷ b ∷ u)) 2) (λ e. eq-eqb (width (a ∷ b ∷ u)) 2 (two-wide a b u e))
     (λ e. let q = eqb-true (width (a ∷ b ∷ u)) 2 e in ⊎_elim (λ z. absurd (omega arith)) (λ t. wide-two t q) (stood (a ∷ b ∷ u)))
     ∙ ap (λ t. eqb (width t) 2) (sym (two-apart s i h))
+
+pub first-of-two : (s : List ℕ) (i : ℕ) → i < length s → eqb (width (drop i s)) 2 ≡ true → between 0xC2 0xDF (get_or s i 0) ≡ true
+first-of-two s i h e =
+    let q = eqb-true (width (drop i s)) 2 e in
+    ap (between 0xC2 0xDF) (sym (byte0 s i h)) ∙ (and-both _ _ (⊎_elim (λ z. absurd (omega arith)) (λ t. wide-two t q) (stood (drop i s)))).0
 
 -- ---- three bytes
 
@@ -126,6 +139,31 @@ three-is s i h =
     (λ e. let q = eqb-true (width (a ∷ b ∷ c ∷ u)) 3 e in ⊎_elim (λ z. absurd (omega arith)) (λ t. wide-three t q) (stood (a ∷ b ∷ c ∷ u)))
     ∙ ap (λ t. eqb (width t) 3) (sym (three-apart s i h))
 
+pub first-of-three : (s : List ℕ) (i : ℕ) → i < length s → eqb (width (drop i s)) 3 ≡ true → between 0xE0 0xEF (get_or s i 0) ≡ true
+first-of-three s i h e =
+    let q = eqb-true (width (drop i s)) 3 e in
+    ap (between 0xE0 0xEF) (sym (byte0 s i h)) ∙ (and-both _ _ (⊎_elim (λ z. absurd (omega arith)) (λ t. wide-three t q) (stood (drop i s)))).0
+
+-- one that is no mark is one
+pub plain-three : (a b c : ℕ) → plainThree a b c ≡ true → threeBytes a b c ≡ true
+unfolding plainThree
+plain-three a b c e =
+    let p = and-both (between 0xE0 0xEF a) _ e in
+    let q = and-both (between 0x80 0xBF b) _ p.1 in
+    let r = and-both (between 0x80 0xBF c) _ q.1 in
+    let x = in-between 0xE0 0xEF a p.0 in
+    let y = in-between 0x80 0xBF b q.0 in
+    let n = or-neither (eqb a 0xE0 && ltb b 0xA0 || eqb a 0xED && leb 0xA0 b) _ (not-false _ r.1) in
+    let i = or-neither (eqb a 0xE0 && ltb b 0xA0) (eqb a 0xED && leb 0xA0 b) n.0 in
+    rw (p.0, q.0, r.0)
+    (first-three a b x.0 x.1 y.0 y.1
+    (⊎_elim (λ f. let g = rw f at i.0 in inr (ltb-false b 0xA0 g)) (λ f. inl (omega arith)) (cases_eq a 0xE0))
+    (λ f. let g = rw f at i.1 in let k = leb-false 0xA0 b g in omega arith))
+  where
+    not-false : (z : Bool) → not z ≡ true → z ≡ false
+    not-false true k = clash k
+    not-false false k = refl
+
 -- ---- four bytes
 
 wide-four : {w : ℕ} {t : List ℕ} → Stood w t → w ≡ 4 → 0xF0 ≤ get_or t 0 0
@@ -139,9 +177,6 @@ high-four (Stood.one p) q = absurd (omega arith)
 high-four (Stood.two p q n) r = absurd (omega arith)
 high-four (Stood.three p q m n k l) r = absurd (omega arith)
 high-four (Stood.four p q m n k l v) r = refl
-
-byte0 : (s : List ℕ) (i : ℕ) → i < length s → get_or (drop i s) 0 0 ≡ get_or s i 0
-byte0 s i h = ap (λ t. get_or t 0 0) (rows.here s i h)
 
 pub four-high : (s : List ℕ) (i : ℕ) → i < length s → 0xF0 ≤ get_or s i 0 → (width (drop i s) ≡ 0 → ⊥) → width (drop i s) ≡ 4
 four-high s i h k n = ⊎_elim (λ z. absurd (n z)) (λ t. high-four t (let b = byte0 s i h in omega arith)) (stood (drop i s))
