@@ -1,7 +1,6 @@
 // Identifiers, operators and backticks. RULES, "Identifier", "Operator" and "Backtick".
 ghost use Rattle.std.specs.Prelude.{◌≡◌, IsTrue, IsFalse, ◌≤◌, ◌<◌, length, drop};
-ghost use Rattle.chars.specs.paper.Classes.{isIdStart};
-ghost use Rattle.chars.specs.paper.Text.{from, headIs};
+ghost use Rattle.chars.specs.paper.Text.{from, idStart};
 ghost use Rattle.chars.specs.computed.Runs.{afterRun};
 ghost use Rattle.token.specs.paper.Kinds.{wordOf};
 ghost use Rattle.token.specs.paper.Tests.{isAny, opSign, freeSign, opensComment};
@@ -165,7 +164,7 @@ fn word_of(s: &[u8], class: Class, at: usize, end: usize) -> Option<Kw>
 #[inline(always)]
 pub fn lex_ident(s: &[u8], c: Cursor, class: Class, next: Cursor) -> Piece
     requires within { c.at < length s.now }
-    requires starts { IsTrue (headIs isIdStart (from s.now c.at)) }
+    requires starts { IsTrue (idStart (from s.now c.at)) }
     requires class_is { class.number ≡ classAt s.now c.at }
     requires next_within { next.at ≤ length s.now }
     requires next_same { from s.now next.at ≡ drop 1 (from s.now c.at) }

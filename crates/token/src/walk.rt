@@ -1,7 +1,6 @@
 // One walk over a script, to its end or to what is refused: each piece is read where it stands, and each token's record is stored where it fits.
 ghost use Rattle.std.specs.Prelude.{◌≡◌, IsTrue, IsFalse, not, ◌&&◌, ◌||◌, List, ℕ, ◌+◌, ◌≤◌, ◌<◌, ◌==◌, length, drop, slice_index, Ok, Err, IfOk, IfErr, IfSome, IfNone, IsErr};
-ghost use Rattle.chars.specs.paper.Classes.{isIdStart};
-ghost use Rattle.chars.specs.paper.Text.{from, headIs};
+ghost use Rattle.chars.specs.paper.Text.{from, idStart};
 ghost use Rattle.token.specs.paper.Tests.{isAny, opSign, opensBlock, opensComment};
 ghost use Rattle.token.specs.paper.Records.{mostBytes, headLength, lineLength, recordOf, valueNeed};
 ghost use Rattle.token.specs.computed.Answer.{scan, scanNumber};
@@ -504,7 +503,7 @@ fn name_step(
     requires short { length s.now ≤ mostBytes }
     requires good { Good s.now x }
     requires counted { Counted x counts.old }
-    requires starts { IsTrue (headIs isIdStart (from s.now x.at)) }
+    requires starts { IsTrue (idStart (from s.now x.at)) }
     requires next_within { next.at ≤ length s.now }
     requires next_same { from s.now next.at ≡ drop 1 (from s.now x.at) }
     ensures on { IfOk result (λ y. Steps s.now x counts.old out.old y counts.new out.new) }

@@ -33,5 +33,8 @@ abbrev pub headIs : (ℕ → Bool) → Text → Bool
 headIs p [] = false
 headIs p (c ∷ s) = p c.code
 
+abbrev pub idStart : Text → Bool
+idStart s = headIs (λ c. (classesOf c).idStart) s
+
 abbrev pub idChar : Text → Bool
 idChar s = headIs (λ c. (classesOf c).idChar) s

@@ -1,7 +1,7 @@
 -- Characters and symbols at a place of a script, by the character that is peeked.
 use Rattle.token.proofs.lexer.Laws.{drop-place}
 use Rattle.token.proofs.ident.Laws.{token-at, next-later}
-use Rattle.token.proofs.lexer.Words.{ℕ, ◌+◌, ◌≤◌, ◌<◌, ◌≡◌, refl, sym, ◌∙◌, ap, subst, Bool, true, false, cond, not, ◌&&◌, ◌||◌, and-true, and_comm, or-false, ◌⊎◌, inl, inr, List, ◌∷◌, Some, None, Err, same_Some, none-some, length, drop, get_or, eqb, ltb, arith, ltb-true, ltb-false, lt-ltb, leb-true, le-leb, eqb-true, eq-eqb, ne_eqb, between, oneOf, isIdStart, isOpSign, isPrintable, Char, Text, from, place, headIs, afterRun, and-both, alike, code_laws, class-laws, text-laws, sign-no-semi, no-start, begins, backslash, apostrophe, isAny, opSign, freeSign, opensComment, plainChar, Found, Esc, unbroken, broken, afterSlash, afterIdent, tickNext, escapedOf, scanCharSym, classAt, upToBlank, startsWord, inWord, wideClass, asksMore, inOperator, isSign, inRun, cursorAt, hereOf, runTo, lowBefore, pieceOf, tokenTo, refusedFor, refusedBy, refusalBy, escEnd, escapeOf, endAt, escapedChar, symbolOf, plainOf, endOf, runSymbolEnd, Cursor, Refused, zero-one, by-test}
+use Rattle.token.proofs.lexer.Words.{ℕ, ◌+◌, ◌≤◌, ◌<◌, ◌≡◌, refl, sym, ◌∙◌, ap, subst, Bool, true, false, cond, not, ◌&&◌, ◌||◌, and-true, and_comm, or-false, ◌⊎◌, inl, inr, List, ◌∷◌, Some, None, Err, same_Some, none-some, length, drop, get_or, eqb, ltb, arith, ltb-true, ltb-false, lt-ltb, leb-true, le-leb, eqb-true, eq-eqb, ne_eqb, between, oneOf, isIdStart, isOpSign, isPrintable, Char, Text, from, place, headIs, idStart, afterRun, and-both, alike, code_laws, class-laws, text-laws, sign-no-semi, no-start, begins, backslash, apostrophe, isAny, opSign, freeSign, opensComment, plainChar, Found, Esc, unbroken, broken, afterSlash, afterIdent, tickNext, escapedOf, scanCharSym, classAt, upToBlank, startsWord, inWord, wideClass, asksMore, inOperator, isSign, inRun, cursorAt, hereOf, runTo, lowBefore, pieceOf, tokenTo, refusedFor, refusedBy, refusalBy, escEnd, escapeOf, endAt, escapedChar, symbolOf, plainOf, endOf, runSymbolEnd, Cursor, Refused, zero-one, by-test}
 use Rattle.token.specs.declared.names.Here as names
 use Rattle.token.specs.declared.kinds.TokenKind.TheVariants as tk
 use Rattle.token.specs.declared.refusal.Refusal.TheVariants as refusal
@@ -314,7 +314,7 @@ answered m false w x h = h
 plain-answer : (m : Text) → Answered m (plainOf m)
 unfolding plainOf symbolOf
 plain-answer m =
-    answered m (plainChar m && apostrophe (drop 1 m)) _ _ (answered m (headIs isIdStart m) _ _ (answered m (freeSign m) _ _
+    answered m (plainChar m && apostrophe (drop 1 m)) _ _ (answered m (idStart m) _ _ (answered m (freeSign m) _ _
     (answered m (isAny ";" m && not (opSign (drop 1 m))) _ _ (inr refl))))
 
 pub plain-stands : (n : ℕ) (m : Text) (e : Cursor) → Some e ≡ endOf n (plainOf m) → tokenTo tk.CharSym e ≡ pieceOf n (plainOf m)

@@ -1,6 +1,6 @@
 -- How identifiers, operators and backticks are read place by place.
 use Rattle.token.proofs.lexer.Laws.{drop-place}
-use Rattle.token.proofs.lexer.Words.{ℕ, ◌+◌, ◌-◌, ◌≤◌, ◌<◌, ◌≡◌, refl, sym, ◌∙◌, ap, ap₂, Bool, true, false, cond, ◌&&◌, ◌||◌, or-false, and-false, List, [], ◌∷◌, Option, length, drop, get_or, get_or-eq_default, eqb, ltb, arith, ltb-true, ltb-false, ne_eqb, oneOf, Char, Text, from, place, headIs, idChar, charEnd, afterRun, isIdStart, isIdChar, clash, Suffix, text-laws, under-no-id, isAny, begins, quote, opSign, opensComment, notBacktick, wordOf, Found, afterIdent, orPrefixed, prefixedOf, closeString, codesTo, wordOr, scanIdent, cursorAt, pieceOf, tokenTo, Cursor, Kw, TokenKind, lowBefore, by-test, or-true, code-is}
+use Rattle.token.proofs.lexer.Words.{ℕ, ◌+◌, ◌-◌, ◌≤◌, ◌<◌, ◌≡◌, refl, sym, ◌∙◌, ap, ap₂, Bool, true, false, cond, ◌&&◌, ◌||◌, or-false, and-false, List, [], ◌∷◌, Option, length, drop, get_or, get_or-eq_default, eqb, ltb, arith, ltb-true, ltb-false, ne_eqb, oneOf, Char, Text, from, place, headIs, idStart, idChar, charEnd, afterRun, isIdChar, clash, Suffix, text-laws, under-no-id, isAny, begins, quote, opSign, opensComment, notBacktick, wordOf, Found, afterIdent, orPrefixed, prefixedOf, closeString, codesTo, wordOr, scanIdent, cursorAt, pieceOf, tokenTo, Cursor, Kw, TokenKind, lowBefore, by-test, or-true, code-is}
 use Rattle.token.proofs.cursor.Wide.{byte-by-byte}
 use Rattle.token.proofs.cursor.Bytes.{any-byte, inside, one-byte}
 use Rattle.token.proofs.theorems.Runs.{after-next, after-stop, run-after, run-suffix}
@@ -120,7 +120,7 @@ first_read s i j h k e =
 
 -- ---- what is left of a text
 
-pub ident-left : (t : Text) → headIs isIdStart t ≡ true → Suffix (afterIdent false (drop 1 t)) t
+pub ident-left : (t : Text) → idStart t ≡ true → Suffix (afterIdent false (drop 1 t)) t
 ident-left t e = suffix-trans (rest-suffix (drop 1 t) (afterIdent false (drop 1 t)) (start-rest t (afterIdent false (drop 1 t)) (ident-finds t e).0).1) (drop-suffix 1 t)
 
 -- what is found, by the text that is left and the keyword

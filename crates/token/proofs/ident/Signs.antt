@@ -1,5 +1,5 @@
 -- Operator signs, by the classes of their bytes, and past ASCII by one look.
-use Rattle.token.proofs.lexer.Words.{◌≡◌, refl, sym, ◌∙◌, ap, ap₂, ℕ, ◌+◌, ◌≤◌, ◌<◌, Bool, true, false, cond, not, ◌&&◌, List, ◌∷◌, length, get_or, eqb, leb-false, ne_eqb, eqb-true, ◌-◌, arith, and-true, or-false, lt-leb, Option, none, some, codes, oneOf, isIdStart, isOpSign, Some, Char, Text, headIs, from, afterRun, clash, and-both, text-laws, opSign, freeSign, opensComment, runOf, wordOf, symbolKeywords, wordKeywords, Found, codesTo, runOr, scanOperator, classOf, classAt, keywordClass, signKeywordClass, wideClass, slashClass, isSign, signIn, asciiSign, runBefore, LeftTo, Kw, TokenKind, nul-no-sign, sign-byte, by-test}
+use Rattle.token.proofs.lexer.Words.{◌≡◌, refl, sym, ◌∙◌, ap, ap₂, ℕ, ◌+◌, ◌≤◌, ◌<◌, Bool, true, false, cond, not, ◌&&◌, List, ◌∷◌, length, get_or, eqb, leb-false, ne_eqb, eqb-true, ◌-◌, arith, and-true, or-false, lt-leb, Option, none, some, codes, oneOf, isOpSign, Some, Char, Text, idStart, from, afterRun, clash, and-both, text-laws, opSign, freeSign, opensComment, runOf, wordOf, symbolKeywords, wordKeywords, Found, codesTo, runOr, scanOperator, classOf, classAt, keywordClass, signKeywordClass, wideClass, slashClass, isSign, signIn, asciiSign, runBefore, LeftTo, Kw, TokenKind, nul-no-sign, sign-byte, by-test}
 use Rattle.token.specs.declared.kinds.TokenKind.TheVariants as tk
 use Rattle.chars.specs.code.Text.{stepAt}
 use Rattle.chars.specs.declared.classes.Classes.{Classes}
@@ -107,8 +107,8 @@ module _ (s : List ℕ) (j : ℕ) where
   wide-sign d e = let n = seen s j d e in ap opSign n.here.text ∙ sym (ap (λ (z : Classes). z.op_sign) n.classes)
 
 -- an id start, by one look
-pub wide-start : (s : List ℕ) (j : ℕ) (d : Decoded) → Some d ≡ stepAt s j → headIs isIdStart (from s j) ≡ d.classes.id_start
-wide-start s j d e = let n = seen s j d e in ap (headIs isIdStart) n.here.text ∙ sym (ap (λ (z : Classes). z.id_start) n.classes)
+pub wide-start : (s : List ℕ) (j : ℕ) (d : Decoded) → Some d ≡ stepAt s j → idStart (from s j) ≡ d.classes.id_start
+wide-start s j d e = let n = seen s j d e in ap idStart n.here.text ∙ sym (ap (λ (z : Classes). z.id_start) n.classes)
 
 -- where neither a sign nor a character past ASCII stands, the run of free signs is at its end, and no comment opens
 pub run-over : (s : List ℕ) (j : ℕ) → classAt s j < wideClass → (from s j ≡ afterRun freeSign (from s j)) × (opensComment (from s j) ≡ false)

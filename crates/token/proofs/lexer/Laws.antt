@@ -1,7 +1,7 @@
 -- One token at a place of a script, by its first byte.
 use Rattle.token.proofs.cursor.Bytes.{past, any-byte}
 use Rattle.token.proofs.theorems.Families.{one-found, line-found, block-found}
-use Rattle.token.proofs.lexer.Words.{ℕ, zero, suc, ◌+◌, ◌-◌, ◌≤◌, ◌<◌, String, ◌≡◌, refl, sym, ◌∙◌, ap, Bool, true, false, not, ◌&&◌, List, [], ◌∷◌, length, drop, get_or, eqb, leb, ltb, arith, ltb-true, ltb-false, lt-leb, codes, oneOf, isIdStart, Char, Text, from, place, headIs, charEnd, afterRun, clash, and-both, every, code_laws, text-laws, isAny, begins, digit, isDigit, opSign, opensLine, opensBlock, opensComment, endOfLine, GapKind, Found, Start, startOf, scan, scanAs, scanReturn, scanLine, scanBlock, blockOr, close, cursorAt, pieceOf, PieceAnswer, tokenTo, TokenKind, ◌⊎◌, inl, inr, Cursor, zero-one, ok-parts, refusalBy, Refused, Err, by-test, and-false, Stands, HasShape, both, or-true}
+use Rattle.token.proofs.lexer.Words.{ℕ, zero, suc, ◌+◌, ◌-◌, ◌≤◌, ◌<◌, String, ◌≡◌, refl, sym, ◌∙◌, ap, Bool, true, false, not, ◌&&◌, List, [], ◌∷◌, length, drop, get_or, eqb, leb, ltb, arith, ltb-true, ltb-false, lt-leb, codes, oneOf, isIdStart, Char, Text, from, place, headIs, idStart, charEnd, afterRun, clash, and-both, every, code_laws, text-laws, isAny, begins, digit, isDigit, opSign, opensLine, opensBlock, opensComment, endOfLine, GapKind, Found, Start, startOf, scan, scanAs, scanReturn, scanLine, scanBlock, blockOr, close, cursorAt, pieceOf, PieceAnswer, tokenTo, TokenKind, ◌⊎◌, inl, inr, Cursor, zero-one, ok-parts, refusalBy, Refused, Err, by-test, and-false, Stands, HasShape, both, or-true}
 use Rattle.token.proofs.gap.Laws.{Pair, crlf-bytes}
 use Rattle.token.proofs.theorems.Dispatch.{Hit, Scanned, scan-stands, clear, clear-head, scan-by, digit-one, quote-any, starts-lf, starts-cr, starts-number, starts-word, starts-operator, starts-backtick, starts-line, starts-block}
 use Rattle.token.proofs.theorems.Shorter.{Strict}
@@ -34,7 +34,7 @@ module _ (s : List ℕ) (i : ℕ) (h : i < length s) where
   pub backtick-at : isAny "`" t ≡ true → scan n t ≡ scanAs n Start.backtick t
   backtick-at e = scan-by n t Start.backtick (starts-backtick t (clear-head (oneOf "`") refl t e) e)
 
-  pub word-at : opensComment t ≡ false → headIs isIdStart t ≡ true → scan n t ≡ scanAs n Start.word t
+  pub word-at : opensComment t ≡ false → idStart t ≡ true → scan n t ≡ scanAs n Start.word t
   word-at z e = scan-by n t Start.word (starts-word t (clear t z) e)
 
   pub operator-at : opensComment t ≡ false → opSign t ≡ true → scan n t ≡ scanAs n Start.operator t
@@ -48,11 +48,11 @@ module _ (s : List ℕ) (i : ℕ) (h : i < length s) where
 
   -- an identifier's first character, and the text behind it
   pub ascii-start : ltb (get_or s i 0) 0x80 && isIdStart (get_or s i 0) ≡ true
-      → (headIs isIdStart (from s i) ≡ true) × (i + 1 ≤ length s) × (from s (i + 1) ≡ drop 1 (from s i))
+      → (idStart (from s i) ≡ true) × (i + 1 ≤ length s) × (from s (i + 1) ≡ drop 1 (from s i))
   ascii-start e =
       let k = and-both (ltb (get_or s i 0) 0x80) (isIdStart (get_or s i 0)) e in
       let t = at-ascii s i h (ltb-true (get_or s i 0) 0x80 k.0) in
-      (ap (headIs isIdStart) t ∙ k.1, omega arith, sym (ap (drop 1) t))
+      (ap idStart t ∙ k.1, omega arith, sym (ap (drop 1) t))
 
 -- a sub-list of codes of which none stands there
 none-of : (a b : String) → every (oneOf a) (codes b) ≡ true → (s : Text) → isAny a s ≡ false → isAny b s ≡ false
@@ -64,7 +64,7 @@ no-digit [] e = refl
 no-digit (c ∷ s) e = by-test (isDigit c.code) (λ q. clash (sym e ∙ carry (oneOf wordless) (codes "0123456789") c.code refl (digit-one c.code q))) (λ q. q)
 
 -- nothing starts there
-pub other-at : (n : ℕ) (s : Text) → opensComment s ≡ false → isAny wordless s ≡ false → headIs isIdStart s ≡ false → opSign s ≡ false → scan n s ≡ Found.stuck 3 s
+pub other-at : (n : ℕ) (s : Text) → opensComment s ≡ false → isAny wordless s ≡ false → idStart s ≡ false → opSign s ≡ false → scan n s ≡ Found.stuck 3 s
 unfolding startOf
 other-at n s z e a b =
     let k = clear s z in

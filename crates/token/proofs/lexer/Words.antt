@@ -17,7 +17,7 @@ unfoldable pub use Rattle.chars.specs.computed.Runs.{afterRun}
 pub use Rattle.chars.specs.paper.Classes.{opSigns}
 unfoldable pub use Rattle.chars.specs.paper.Classes.{isIdChar, isIdStart, isOpSign, isPrintable}
 pub use Rattle.chars.specs.paper.Quoted.{between, codes, oneOf}
-pub use Rattle.chars.specs.paper.Text.{Char, Text, headIs, idChar, place}
+pub use Rattle.chars.specs.paper.Text.{Char, Text, headIs, idStart, idChar, place}
 unfoldable pub use Rattle.chars.specs.paper.Text.{from}
 pub use Rattle.chars.specs.promises.Classes.{lowStart}
 pub use Rattle.chars.specs.promises.Codes.{alike, every}

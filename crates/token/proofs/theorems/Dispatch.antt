@@ -1,7 +1,7 @@
 -- One piece: what the scanner finds stands, what stands is what it finds, and where nothing stands a refusal is met.
 use Rattle.std.proofs.Common.{ℕ, ◌≡◌, refl, sym, ◌∙◌, ap, Bool, true, false, cond, not, ◌||◌, inl, inr, [], ◌∷◌, drop, eqb, arith, eqb-true, List}
 use Prim.Native.String.{String}
-use Rattle.token.proofs.theorems.Words.{some, codes, oneOf, isIdStart, isOpSign, opSigns, Char, Text, headIs, clash, and-both, every, code_laws, class-laws, sign-not, start-not, isDigit, isAny, begins, startsWith, opensLine, opensBlock, opensComment, endsLine, quote, digit, opSign, freeSign, apostrophe, Kind, TokenType, withoutValues, One, both, TokenShape, HasShape, Stands, Valued, Met, GapKind, Found, Start, startOf, starts, signOf, scanAs, scan, scanReturn, scanString, plainOf, TokenKind, by-test, false_from_ne_true, or_parts, no-start, code-is, others, ◌then◌}
+use Rattle.token.proofs.theorems.Words.{some, codes, oneOf, isIdStart, isOpSign, opSigns, Char, Text, headIs, idStart, clash, and-both, every, code_laws, class-laws, sign-not, start-not, isDigit, isAny, begins, startsWith, opensLine, opensBlock, opensComment, endsLine, quote, digit, opSign, freeSign, apostrophe, Kind, TokenType, withoutValues, One, both, TokenShape, HasShape, Stands, Valued, Met, GapKind, Found, Start, startOf, starts, signOf, scanAs, scan, scanReturn, scanString, plainOf, TokenKind, by-test, false_from_ne_true, or_parts, no-start, code-is, others, ◌then◌}
 use Rattle.token.specs.declared.kinds.TokenKind.TheVariants as tk
 use Rattle.token.proofs.theorems.Families.{number-stands, stood, Fell, fell-at, Outcome, operator-stands, head-other, apart, apart', begins-any, one-drop, tick-stands, body-finds, word-stands, backtick-stands, content-is, pair-stands, line-stands, block-stands}
 use Rattle.token.proofs.theorems.Heads.{no-start-met, by-sign, slash}
@@ -23,7 +23,7 @@ pub data Fact (s : Text) : Start → Type 0 where
   cr : Clear s → isAny "\r" s ≡ true → Fact s Start.cr
   sign : Clear s → isAny "()[]{},;." s ≡ true → Fact s Start.sign
   number : Clear s → digit s ≡ true → Fact s Start.number
-  word : Clear s → headIs isIdStart s ≡ true → Fact s Start.word
+  word : Clear s → idStart s ≡ true → Fact s Start.word
   operator : Clear s → freeSign s ≡ true → Fact s Start.operator
   backtick : Clear s → isAny "`" s ≡ true → Fact s Start.backtick
   string : Clear s → quote s ≡ true → Fact s Start.string
@@ -39,7 +39,7 @@ unfolding startOf
 start-fact s =
     step (opensLine s) Fact.line (λ a. step (opensBlock s) Fact.block (λ b. let z : Clear s = record { line = a; block = b } in
     step (isAny " \t" s) (Fact.blank z) (λ c. step (isAny "\n" s) (Fact.lf z) (λ d. step (isAny "\r" s) (Fact.cr z) (λ e.
-    step (isAny "()[]{},;." s) (Fact.sign z) (λ f. step (digit s) (Fact.number z) (λ g. step (headIs isIdStart s) (Fact.word z) (λ h.
+    step (isAny "()[]{},;." s) (Fact.sign z) (λ f. step (digit s) (Fact.number z) (λ g. step (idStart s) (Fact.word z) (λ h.
     step (opSign s) (λ i. Fact.operator z (rw (i, a, b))) (λ i. step (isAny "`" s) (Fact.backtick z) (λ j. step (quote s) (Fact.string z) (λ k.
     step (apostrophe s) (Fact.charSym z) (λ l. Fact.other (rw (c, d, e, f, g, h, i, j, k, l))))))))))))))
 
@@ -72,7 +72,7 @@ abbrev quotes : Text → Start
 quotes s = cond (isAny "`" s) Start.backtick (cond (quote s) Start.string (cond (apostrophe s) Start.charSym Start.other))
 
 abbrev later : Text → Start
-later s = cond (digit s) Start.number (cond (headIs isIdStart s) Start.word (cond (opSign s) Start.operator (quotes s)))
+later s = cond (digit s) Start.number (cond (idStart s) Start.word (cond (opSign s) Start.operator (quotes s)))
 
 module _ (s : Text) (z : Clear s) where
   pub starts-blank : isAny " \t" s ≡ true → startOf s ≡ Start.blank
@@ -104,7 +104,7 @@ module _ (s : Text) (z : Clear s) where
   unfolding isDigit
   starts-number e = past-early isDigit refl e ∙ rw e
 
-  pub starts-word : headIs isIdStart s ≡ true → startOf s ≡ Start.word
+  pub starts-word : idStart s ≡ true → startOf s ≡ Start.word
   starts-word e = past-early isIdStart (start-not early refl) e ∙ rw (head-other isIdStart isDigit no-digit s e, e)
     where
       no-digit : (c : ℕ) → isIdStart c ≡ true → isDigit c ≡ false
@@ -139,7 +139,7 @@ pub starts-other : (s : Text) → starts s ≡ false → startOf s ≡ Start.oth
 unfolding startOf begins
 starts-other s e =
     rw (no-comment (codes "/"), no-comment (codes "*"))
-    (none (isAny " \t" s) (isAny "\n" s) (isAny "\r" s) (isAny "()[]{},;." s) (digit s) (headIs isIdStart s) (opSign s) (isAny "`" s)
+    (none (isAny " \t" s) (isAny "\n" s) (isAny "\r" s) (isAny "()[]{},;." s) (digit s) (idStart s) (opSign s) (isAny "`" s)
     (quote s) (apostrophe s) e)
   where
     no-comment : (t : List ℕ) → startsWith (47 ∷ t) s ≡ false

@@ -1,6 +1,6 @@
 -- Identifiers: the automaton finds the longest one.
 use Rattle.std.proofs.Common.{ℕ, ◌≤◌, ◌≡◌, refl, sym, ◌∙◌, ap, Bool, true, false, cond, ◌⊎◌, inl, inr, [], ◌∷◌, length, drop, arith}
-use Rattle.token.proofs.theorems.Words.{Option, none, some, oneOf, Char, Text, headIs, idChar, afterRun, isIdStart, isIdChar, clash, Suffix, text-laws, class-laws, under-no-id, sign-no-under, isAny, opSign, quote, TokenType, wordOf, One, Run, Run1, ◌then◌, both, Chunks, Tail, Ident, codesOf, TokenShape, Valued, Found, afterIdent, codesTo, orPrefixed, wordOr, scanIdent, Kw, no-some, by-test}
+use Rattle.token.proofs.theorems.Words.{Option, none, some, oneOf, Char, Text, idStart, idChar, afterRun, isIdChar, clash, Suffix, text-laws, class-laws, under-no-id, sign-no-under, isAny, opSign, quote, TokenType, wordOf, One, Run, Run1, ◌then◌, both, Chunks, Tail, Ident, codesOf, TokenShape, Valued, Found, afterIdent, codesTo, orPrefixed, wordOr, scanIdent, Kw, no-some, by-test}
 use Rattle.token.specs.declared.kinds.TokenKind.TheVariants as tk
 use Rattle.token.proofs.theorems.Runs.{run-after, run-suffix, after-least, run1-run}
 use Rattle.token.proofs.theorems.Operators.{Stood, stood}
@@ -104,14 +104,14 @@ rest-suffix s r (both k (inr (both w z))) =
     suffix-trans (suffix-trans (run-suffix opSign z) (run-suffix under (run1-run under w))) (chunks-suffix k)
 
 -- the shape of an identifier, taken apart
-pub start-rest : (s r : Text) → (One (headIs isIdStart) then Chunks then Tail) s r → (headIs isIdStart s ≡ true) × Rest (drop 1 s) r
+pub start-rest : (s r : Text) → (One idStart then Chunks then Tail) s r → (idStart s ≡ true) × Rest (drop 1 s) r
 start-rest s r (both (One.one e) w) = (e, w)
 
-pub ident-finds : (s : Text) → headIs isIdStart s ≡ true → Ident s (afterIdent false (drop 1 s))
+pub ident-finds : (s : Text) → idStart s ≡ true → Ident s (afterIdent false (drop 1 s))
 ident-finds [] e = clash e
 ident-finds (c ∷ s) e = (both (One.one e) (finds s).0, λ q h. rest-least s q (start-rest (c ∷ s) q h).1)
 
-pub ident-found : (s r : Text) → Ident s r → (headIs isIdStart s ≡ true) × (r ≡ afterIdent false (drop 1 s))
+pub ident-found : (s r : Text) → Ident s r → (idStart s ≡ true) × (r ≡ afterIdent false (drop 1 s))
 ident-found s r (both (One.one {s = t} e) w, l) =
     let f = (finds t).0 in
     let x = l (afterIdent false t) (both (One.one e) f) in
@@ -125,20 +125,20 @@ unfolding scanIdent codesTo
 scan-ident n s = refl
 
 -- what stands is what it finds
-pub plain-ident-found : (n : ℕ) (s r : Text) → TokenShape TokenType.ident s r → (headIs isIdStart s ≡ true) × (scanIdent n s ≡ Found.token tk.Ident r)
+pub plain-ident-found : (n : ℕ) (s r : Text) → TokenShape TokenType.ident s r → (idStart s ≡ true) × (scanIdent n s ≡ Found.token tk.Ident r)
 unfolding TokenShape orPrefixed
 plain-ident-found n s r h =
     let q = ident-found s r h.0.0 in
     (q.0, scan-ident n s ∙ rw (← q.1) (rw (h.0.1, h.1)))
 
 pub word-key-found : (n : ℕ) (s r : Text) (k : Kw) → Ident s r → wordOf (codesOf s r) ≡ some k
-    → (headIs isIdStart s ≡ true) × (scanIdent n s ≡ Found.token (tk.Kw k) r)
+    → (idStart s ≡ true) × (scanIdent n s ≡ Found.token (tk.Kw k) r)
 word-key-found n s r k h e =
     let q = ident-found s r h in
     (q.0, scan-ident n s ∙ rw (← q.1) (rw e))
 
 -- where no quote follows, what it finds stands
-pub ident-stands : (n : ℕ) (s : Text) → headIs isIdStart s ≡ true
+pub ident-stands : (n : ℕ) (s : Text) → idStart s ≡ true
     → (quote (afterIdent false (drop 1 s)) ≡ false) ⊎ ((k : Kw) × (wordOf (codesOf s (afterIdent false (drop 1 s))) ≡ some k))
     → Stood n s (scanIdent n s)
 unfolding TokenShape orPrefixed

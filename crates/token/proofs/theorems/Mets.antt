@@ -1,6 +1,6 @@
 -- Refusals: where some are met the scanner gives the first of them.
 use Rattle.std.proofs.Common.{ℕ, zero, suc, ◌<◌, ◌≡◌, refl, sym, ◌∙◌, ap, Bool, true, false, not, ◌||◌, ◌⊎◌, inl, inr, [], ◌∷◌, length, drop, eqb, ltb, arith, eqb-true, ltb-true, ltb-false, ◌&&◌}
-use Rattle.token.proofs.theorems.Words.{not-true, between, oneOf, isIdStart, Char, Text, headIs, afterRun, clash, and-both, Suffix, text-laws, slash-no-start, isDigit, isHexDigit, isAny, begins, quote, threeQuotes, backslash, dollarBrace, hexDigit, opSign, freeSign, notBacktick, apostrophe, One, Run, Times, both, Single, singleChar, tripleChar, Name, BadEscape, Opens, InSingle, InTriple, WithinSingle, Met, GivesWay, First, Found, Start, starts, scan, scanReturn, scanString, plainOf, scanCharSym, broken, exactHexes, afterSlash, wrong, closePlain, closePrefixed, closeTriple, closeString, by-test, Closing, false_from_ne_true, or_parts, code_laws}
+use Rattle.token.proofs.theorems.Words.{not-true, between, oneOf, isIdStart, Char, Text, headIs, idStart, afterRun, clash, and-both, Suffix, text-laws, slash-no-start, isDigit, isHexDigit, isAny, begins, quote, threeQuotes, backslash, dollarBrace, hexDigit, opSign, freeSign, notBacktick, apostrophe, One, Run, Times, both, Single, singleChar, tripleChar, Name, BadEscape, Opens, InSingle, InTriple, WithinSingle, Met, GivesWay, First, Found, Start, starts, scan, scanReturn, scanString, plainOf, scanCharSym, broken, exactHexes, afterSlash, wrong, closePlain, closePrefixed, closeTriple, closeString, by-test, Closing, false_from_ne_true, or_parts, code_laws}
 use Rattle.token.specs.declared.kinds.TokenKind.TheVariants as tk
 use Rattle.token.proofs.theorems.Families.{apart', begins-any, Fell, run1-finds, run-suffix, one-drop, text-found, six-found, ident-found, ident-finds, scan-ident, slash-found, slash-finds, u-other, simple, scan-tick, char-stands, charAhead, semiAhead, single-char, single-slash, triple-char, single-pass, single-empty, single-newline, single-dollar, triple-pass, triple-empty, triple-slash, triple-dollar, triple-barred, allowed-is, in-single, in-triple, plain-slash, times-three, backtick-found, or-string, scan-backtick, back, pass-run, block-stands}
 use Rattle.token.proofs.theorems.Shorter.{escape-suffix, bad-strict}
@@ -220,7 +220,7 @@ met-meets n s j q (Met.m16 (One.one {c = t} e) k nc ns) =
     exactly (tick-scan n s e ∙ scan-tick t q ∙ rw (
       false_from_ne_true (charAhead q) (λ x. nc _ (char-stands t q e x)),
       k,
-      false_from_ne_true (headIs isIdStart q) (λ x. symbol _ (inl (ident-finds q x))),
+      false_from_ne_true (idStart q) (λ x. symbol _ (inl (ident-finds q x))),
       false_from_ne_true (freeSign q) (λ x. symbol _ (inr (inl (run1-finds freeSign q x refl)))),
       false_from_ne_true (semiAhead q) semi,
     ))

@@ -1,6 +1,6 @@
 -- Identifiers and backticks with the strings that they prefix.
 use Rattle.std.proofs.Common.{ℕ, ◌≡◌, refl, sym, ◌∙◌, ap, Bool, true, false, cond, inl, inr, [], ◌∷◌, drop}
-use Rattle.token.proofs.theorems.Words.{Option, none, some, not-true, isIdStart, Char, Text, place, headIs, afterRun, clash, isAny, begins, quote, notBacktick, TokenType, wordOf, One, Run, Run1, Times, both, PlainIdent, Backtick, Body, Prefix, codesOf, TokenShape, Valued, Met, Found, afterIdent, closeString, prefixedOf, orPrefixed, wordOr, scanIdent, backtickOr, scanBacktick, Kw, TokenKind, by-test, not-false, start-not, oneOf}
+use Rattle.token.proofs.theorems.Words.{Option, none, some, not-true, isIdStart, Char, Text, place, idStart, afterRun, clash, isAny, begins, quote, notBacktick, TokenType, wordOf, One, Run, Run1, Times, both, PlainIdent, Backtick, Body, Prefix, codesOf, TokenShape, Valued, Met, Found, afterIdent, closeString, prefixedOf, orPrefixed, wordOr, scanIdent, backtickOr, scanBacktick, Kw, TokenKind, by-test, not-false, start-not, oneOf}
 use Rattle.token.specs.declared.kinds.TokenKind.TheVariants as tk
 use Rattle.token.proofs.theorems.Runs.{after-next, after-stop, run-after, run1-run, begins-any, apart, pass-run}
 use Rattle.token.proofs.theorems.Idents.{ident-finds, ident-found, ident-stands, scan-ident}
@@ -8,7 +8,7 @@ use Rattle.token.proofs.theorems.Strings.{body-found, body-finds}
 use Rattle.token.proofs.theorems.Operators.{stood, fell-at, Outcome}
 
 -- neither begins with a quote
-pub start-no-quote : (s : Text) → headIs isIdStart s ≡ true → quote s ≡ false
+pub start-no-quote : (s : Text) → idStart s ≡ true → quote s ≡ false
 unfolding begins
 start-no-quote s e = begins-any 34 s ∙ apart "\"" isIdStart (start-not "\"" refl) s e
 
@@ -38,7 +38,7 @@ prefixed-found n k s m r b = let h = body-found true m r b in or-string n k s m 
 
 -- ---- identifiers
 
-pub word-stands : (n : ℕ) (s : Text) → headIs isIdStart s ≡ true → Outcome n s (scanIdent n s)
+pub word-stands : (n : ℕ) (s : Text) → idStart s ≡ true → Outcome n s (scanIdent n s)
 word-stands n s e = go (wordOf (codesOf s r)) refl
   where
     r : Text
@@ -52,7 +52,7 @@ word-stands n s e = go (wordOf (codesOf s r)) refl
         (λ q. inl (ident-stands n s e (inl q)))
 
 pub ident-string-found : (n : ℕ) (s m r : Text) → PlainIdent s m → Body true m r
-    → (headIs isIdStart s ≡ true) × (scanIdent n s ≡ Found.token (tk.Str (place n s) (place n r)) r)
+    → (idStart s ≡ true) × (scanIdent n s ≡ Found.token (tk.Str (place n s) (place n r)) r)
 ident-string-found n s m r h b =
     let q = ident-found s m h.0 in
     (q.0, scan-ident n s ∙ rw (← q.1) (rw h.1 (prefixed-found n tk.Ident s m r b)))

@@ -1,6 +1,7 @@
 -- Characters and symbols: what the scanner finds stands, what stands is what it finds, and refusals 12 to 16.
 use Rattle.std.proofs.Common.{ℕ, ◌≡◌, refl, sym, ◌∙◌, Bool, true, false, cond, not, ◌&&◌, inl, inr, [], ◌∷◌, drop}
-use Rattle.token.proofs.theorems.Words.{not-true, oneOf, Char, Text, headIs, afterRun, isIdStart, isOpSign, isPrintable, clash, and-both, class-laws, no-start, no-sign, isAny, backslash, opSign, freeSign, apostrophe, plainChar, TokenType, One, ◌then◌, both, Character, Name, Symbol, TokenShape, Valued, Met, Found, afterIdent, afterSlash, escapedOf, scanCharSym, by-test, false_from_ne_true}
+use Rattle.chars.specs.paper.Classes.{classesOf}
+use Rattle.token.proofs.theorems.Words.{not-true, oneOf, Char, Text, headIs, idStart, afterRun, isIdStart, isOpSign, clash, and-both, class-laws, no-start, no-sign, isAny, backslash, opSign, freeSign, apostrophe, plainChar, TokenType, One, ◌then◌, both, Character, Name, Symbol, TokenShape, Valued, Met, Found, afterIdent, afterSlash, escapedOf, scanCharSym, by-test, false_from_ne_true}
 use Rattle.token.specs.declared.kinds.TokenKind.TheVariants as tk
 use Rattle.token.proofs.theorems.Runs.{run1-finds, run1-found, one-drop, one-found, head-other}
 use Rattle.token.proofs.theorems.Idents.{ident-finds, ident-found}
@@ -18,7 +19,7 @@ semiAhead m = isAny ";" m && not (opSign (drop 1 m))
 pub scan-tick : (t : Char) (m : Text) → scanCharSym (t ∷ m)
     ≡ cond (backslash m) (escapedOf (drop 1 m) (afterSlash (drop 1 m)))
     (cond (charAhead m) (Found.token tk.CharSym (drop 2 m))
-    (cond (headIs isIdStart m) (Found.token tk.CharSym (afterIdent false (drop 1 m)))
+    (cond (idStart m) (Found.token tk.CharSym (afterIdent false (drop 1 m)))
     (cond (freeSign m) (Found.token tk.CharSym (afterRun freeSign m))
     (cond (semiAhead m) (Found.token tk.CharSym (drop 1 m))
     (Found.stuck 16 m)))))
@@ -32,7 +33,7 @@ char-stands t (c ∷ m) e f =
     let h = and-both (plainChar (c ∷ m)) (apostrophe m) f in inr (both (One.one e) (both (One.one h.0) (one-drop apostrophe m h.1 refl)))
 
 plain-no-slash : (m : Text) → plainChar m ≡ true → backslash m ≡ false
-plain-no-slash m e = not-true (backslash m) (and-both (headIs isPrintable m) (not (backslash m)) e).1
+plain-no-slash m e = not-true (backslash m) (and-both (headIs (λ c. (classesOf c).printable) m) (not (backslash m)) e).1
 
 pub no-char : (t : Char) (m : Text) → backslash m ≡ false → charAhead m ≡ false → (r : Text) → Character (t ∷ m) r → ⊥
 no-char t m b f r (inl (both (One.one e) (both {m = q} w o))) = clash (sym b ∙ (slash-found m q w).0)
@@ -48,7 +49,7 @@ tick-stands n (t ∷ m) e =
       | inl g ↦ closes k g
       | inr b ↦ inr (fell-at b.number b.rest (scan-tick t m ∙ rw (k, b.found)) (Met.m12 (inr (One.one e), k) b.wrong))
     ]) (λ k. by-test (charAhead m) (λ f. found (drop 2 m) (scan-tick t m ∙ rw (f, k)) (inl (char-stands t m e f))) (λ f.
-    by-test (headIs isIdStart m) (λ x. found (afterIdent false (drop 1 m)) (scan-tick t m ∙ rw (f, k, x)) (symbol k f _ (inl (ident-finds m x)))) (λ x.
+    by-test (idStart m) (λ x. found (afterIdent false (drop 1 m)) (scan-tick t m ∙ rw (f, k, x)) (symbol k f _ (inl (ident-finds m x)))) (λ x.
     by-test (freeSign m) (λ y. found (afterRun freeSign m) (scan-tick t m ∙ rw (f, k, x, y)) (symbol k f _ (inr (inl (run1-finds freeSign m y refl))))) (λ y.
     by-test (semiAhead m) (λ z. found (drop 1 m) (scan-tick t m ∙ rw (f, k, x, y, z)) (symbol k f _ (inr (inr (semi z)))))
     (λ z. inr (fell-at 16 m (scan-tick t m ∙ rw (f, k, x, y, z)) (Met.m16 (One.one e) k (no-char t m k f) (λ r h. no-name x y z h.0))))))))
@@ -71,7 +72,7 @@ tick-stands n (t ∷ m) e =
     semi : semiAhead m ≡ true → One (isAny ";") m (drop 1 m) × (opSign (drop 1 m) ≡ false)
     semi z = let h = and-both (isAny ";" m) (not (opSign (drop 1 m))) z in (one-drop (isAny ";") m h.0 refl, not-true (opSign (drop 1 m)) h.1)
 
-    no-name : {r : Text} → headIs isIdStart m ≡ false → freeSign m ≡ false → semiAhead m ≡ false → (One apostrophe then Name) (t ∷ m) r → ⊥
+    no-name : {r : Text} → idStart m ≡ false → freeSign m ≡ false → semiAhead m ≡ false → (One apostrophe then Name) (t ∷ m) r → ⊥
     no-name {r} x y z (both (One.one u) (inl h)) = clash (sym x ∙ (ident-found m r h).0)
     no-name x y z (both (One.one u) (inr (inl h))) = clash (sym y ∙ (run1-found freeSign h).0)
     no-name {r} x y z (both (One.one u) (inr (inr (h, k)))) = let q = one-found (isAny ";") m r h in clash (sym z ∙ rw (q.0, ← q.1, k))

@@ -1,6 +1,6 @@
 -- Each refusal of a script has its number, so that what the code answers with tells the number that is met.
 use Rattle.std.proofs.Common.{ℕ, zero, suc, ◌≡◌, refl, subst, Bool, true, false, cond, not, ◌&&◌, List, [], ◌∷◌, drop, leb}
-use Rattle.token.proofs.theorems.Words.{Text, headIs, isIdStart, isDigit, isHexDigit, isAny, begins, opensComment, quote, threeQuotes, backslash, dollarBrace, hexAhead, letterL, opSign, freeSign, apostrophe, plainChar, wordOf, TokenKind, Found, codesTo, scanReturn, scanLine, close, blockOr, scanBlock, numeral, readDigits, numberOf, scanNumber, Esc, unbroken, broken, exactHexes, afterSlash, Closing, closed, wrong, closePlain, closePrefixed, closeTriple, closeString, plainOf, scanString, prefixedOf, orPrefixed, afterIdent, wordOr, scanIdent, runOr, scanOperator, backtickOr, scanBacktick, escapedOf, scanCharSym, Start, startOf, scanAs, scan, refused, answer, runOf, notBacktick, afterRun, Met, BadEscape, none, some}
+use Rattle.token.proofs.theorems.Words.{Text, idStart, isDigit, isHexDigit, isAny, begins, opensComment, quote, threeQuotes, backslash, dollarBrace, hexAhead, letterL, opSign, freeSign, apostrophe, plainChar, wordOf, TokenKind, Found, codesTo, scanReturn, scanLine, close, blockOr, scanBlock, numeral, readDigits, numberOf, scanNumber, Esc, unbroken, broken, exactHexes, afterSlash, Closing, closed, wrong, closePlain, closePrefixed, closeTriple, closeString, plainOf, scanString, prefixedOf, orPrefixed, afterIdent, wordOr, scanIdent, runOr, scanOperator, backtickOr, scanBacktick, escapedOf, scanCharSym, Start, startOf, scanAs, scan, refused, answer, runOf, notBacktick, afterRun, Met, BadEscape, none, some}
 use Rattle.token.specs.declared.kinds.TokenKind.TheVariants as tk
 use Rattle.token.specs.code.Refusal.{refusalBy, OfRefusal, Numbered}
 use Rattle.token.proofs.theorems.Theorems.{refusal}
@@ -119,7 +119,7 @@ symbol s =
       | broken j q ↦ λ h. h
     ]) (slash (drop 1 m)))
     (either Told (plainChar m && apostrophe (drop 1 m)) tt
-    (either Told (headIs isIdStart m) tt (either Told (freeSign m) tt (either Told (isAny ";" m && not (opSign (drop 1 m))) tt refl))))
+    (either Told (idStart m) tt (either Told (freeSign m) tt (either Told (isAny ";" m && not (opSign (drop 1 m))) tt refl))))
 
 piece : (n : ℕ) (s : Text) → Told (scan n s)
 unfolding scan scanLine scanReturn scanBlock refusalBy

@@ -7,7 +7,7 @@ pub use borrow.Author.Tests.{not-true, not-false, lt-leb}
 pub use Rattle.chars.specs.paper.Quoted.{member, oneOf, codes, between}
 pub use Rattle.chars.specs.paper.Classes.{opSigns}
 unfoldable pub use Rattle.chars.specs.paper.Classes.{isIdStart, isOpSign, isIdChar, isPrintable}
-pub use Rattle.chars.specs.paper.Text.{Char, Text, place, headIs, idChar}
+pub use Rattle.chars.specs.paper.Text.{Char, Text, place, headIs, idStart, idChar}
 unfoldable pub use Rattle.chars.specs.paper.Text.{from}
 unfoldable pub use Rattle.chars.specs.computed.Runs.{afterRun}
 pub use Rattle.chars.specs.promises.Codes.{every}

@@ -1,5 +1,5 @@
 -- What begins with an operator sign, with an id start, or with neither.
-use Rattle.token.proofs.lexer.Words.{◌≡◌, refl, sym, ◌∙◌, ap, ap₂, ℕ, ◌+◌, ◌<◌, ◌≤◌, Bool, true, false, not, ◌&&◌, ◌||◌, List, [], ◌∷◌, length, drop, get_or, eqb, leb, ltb, ltb-true, eqb-true, not-true, String, codes, oneOf, isIdStart, isOpSign, opSigns, Text, from, headIs, Some, afterRun, lowStart, every, clash, and-both, or-neither, code_laws, text-laws, isAny, opSign, freeSign, opensComment, Found, scan, scanIdent, scanOperator, classAt, wideClass, slashClass, otherClass, upToBlank, startsWord, isSign, pieceOf, refusalBy, Good, Refuses, Counts, Stand, sign-not, start-not, slash-no-start, Start, startOf, scanAs, or-false}
+use Rattle.token.proofs.lexer.Words.{◌≡◌, refl, sym, ◌∙◌, ap, ap₂, ℕ, ◌+◌, ◌<◌, ◌≤◌, Bool, true, false, not, ◌&&◌, ◌||◌, List, [], ◌∷◌, length, drop, get_or, eqb, leb, ltb, ltb-true, eqb-true, not-true, String, codes, oneOf, isIdStart, isOpSign, opSigns, Text, from, headIs, idStart, Some, afterRun, lowStart, every, clash, and-both, or-neither, code_laws, text-laws, isAny, opSign, freeSign, opensComment, Found, scan, scanIdent, scanOperator, classAt, wideClass, slashClass, otherClass, upToBlank, startsWord, isSign, pieceOf, refusalBy, Good, Refuses, Counts, Stand, sign-not, start-not, slash-no-start, Start, startOf, scanAs, or-false}
 use Rattle.chars.specs.paper.Quoted.{member}
 use Rattle.chars.specs.code.Text.{stepAt}
 use Rattle.chars.specs.declared.utf8.Decoded.{Decoded}
@@ -81,12 +81,12 @@ module _ {s : List ℕ} {x : Stand} (g : Good s x) where
 
 -- ---- an id start
 
-pub start-begun : (s : List ℕ) (i : ℕ) → headIs isIdStart (from s i) ≡ true → Begun s i (scanIdent (length s) (from s i))
+pub start-begun : (s : List ℕ) (i : ℕ) → idStart (from s i) ≡ true → Begun s i (scanIdent (length s) (from s i))
 start-begun s i e = begun s i isIdStart (start-not " \t\n\r" refl) e Start.word (λ z. starts-word (from s i) z e) slash-no-start
 
 -- of ASCII, by its class
 module _ {s : List ℕ} {x : Stand} (g : Good s x) (a : upToBlank x.class.number ≡ false) (b : startsWord x.class.number ≡ true) where
-  pub ascii-starts : (headIs isIdStart (from s x.at) ≡ true) × (from s (x.at + 1) ≡ drop 1 (from s x.at))
+  pub ascii-starts : (idStart (from s x.at) ≡ true) × (from s (x.at + 1) ≡ drop 1 (from s x.at))
   ascii-starts = let u = ascii-start s x.at (word-inside g a b) (start-byte g a b) in (u.0, u.2)
 
 -- ---- a character past ASCII

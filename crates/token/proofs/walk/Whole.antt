@@ -1,5 +1,5 @@
 -- Words and operators with all their characters, where a walk stands: the step past each.
-use Rattle.token.proofs.lexer.Words.{◌≡◌, refl, sym, ◌∙◌, ap, ℕ, ◌+◌, ◌≤◌, ◌<◌, Bool, true, false, cond, not, ◌||◌, List, Option, none, some, length, drop, eqb, leb-true, le-leb, arith, and-both, from, headIs, isIdStart, isOpSign, place, afterRun, opSign, freeSign, opensComment, quote, kindNumber, wordOf, runOf, values, codesTo, afterIdent, wordOr, Found, scan, classAt, inRun, isSign, keywordClass, signKeywordClass, slashClass, cursorAt, plainForm, byForm, runBefore, numberOr, nameNumber, operatorNumber, hereOf, lowBefore, wordChar, runChar, pieceOf, tokenTo, storedIf, Counted, Counts, Good, headLength, tokenBehind, Steps, LeftTo, Here, Stand, Kw, slash-no-start, by-test}
+use Rattle.token.proofs.lexer.Words.{◌≡◌, refl, sym, ◌∙◌, ap, ℕ, ◌+◌, ◌≤◌, ◌<◌, Bool, true, false, cond, not, ◌||◌, List, Option, none, some, length, drop, eqb, leb-true, le-leb, arith, and-both, from, idStart, isIdStart, isOpSign, place, afterRun, opSign, freeSign, opensComment, quote, kindNumber, wordOf, runOf, values, codesTo, afterIdent, wordOr, Found, scan, classAt, inRun, isSign, keywordClass, signKeywordClass, slashClass, cursorAt, plainForm, byForm, runBefore, numberOr, nameNumber, operatorNumber, hereOf, lowBefore, wordChar, runChar, pieceOf, tokenTo, storedIf, Counted, Counts, Good, headLength, tokenBehind, Steps, LeftTo, Here, Stand, Kw, slash-no-start, by-test}
 use Rattle.token.specs.declared.kinds.TokenKind.TheVariants as tk
 use Rattle.token.proofs.theorems.Dispatch.{clear-head}
 use Rattle.token.specs.code.Walk.{wholeGoesOn, wholeRunGoesOn}
@@ -15,7 +15,7 @@ use Rattle.token.proofs.walk.Words.{behind-here}
 
 -- ---- an identifier or a keyword, which ends at e
 
-module _ {s : List ℕ} {x : Stand} (g : Good s x) (a : headIs isIdStart (from s x.at) ≡ true) where
+module _ {s : List ℕ} {x : Stand} (g : Good s x) (a : idStart (from s x.at) ≡ true) where
   pub name-inside : x.at < length s
   name-inside = head-inside isIdStart s x.at a
 
@@ -90,7 +90,7 @@ pub record Named (s : List ℕ) (x : Stand) (e : Here) : Type 0 where
   pub steps : {c : Counts} → Counted x c → (out next : List ℕ)
       → next ≡ storedIf out x.bytes (byForm (plainForm (nameNumber s x.class.number x.at e.at)) x.at e.at x.cut) → Steps s x c out (tokenBehind x e headLength) c next
 
-module _ {s : List ℕ} {x : Stand} (g : Good s x) (a : headIs isIdStart (from s x.at) ≡ true) (at : ℕ) (l : at ≤ length s) (t : from s at ≡ drop 1 (from s x.at))
+module _ {s : List ℕ} {x : Stand} (g : Good s x) (a : idStart (from s x.at) ≡ true) (at : ℕ) (l : at ≤ length s) (t : from s at ≡ drop 1 (from s x.at))
     (e : Here) (q : e ≡ hereOf s (place (length s) (afterRun wordChar (from s at)))) where
   later : x.at < at
   later = next-later s x.at at (name-inside g a) l t

@@ -1,7 +1,6 @@
 -- What `charsym` answers: characters and symbols, by what follows the `'`.
 use Rattle.std.specs.Prelude.{ℕ, false, if◌then◌else◌, not, ◌&&◌, drop, Option, Some, None}
-use Rattle.chars.specs.paper.Classes.{isIdStart}
-use Rattle.chars.specs.paper.Text.{Text, place, headIs}
+use Rattle.chars.specs.paper.Text.{Text, place, idStart}
 use Rattle.chars.specs.computed.Runs.{afterRun}
 use Rattle.token.specs.paper.Tests.{isAny, apostrophe, plainChar, opSign, freeSign, opensComment}
 use Rattle.token.specs.computed.Answer.{Found, afterSlash, afterIdent, escapedOf}
@@ -18,7 +17,7 @@ unfoldable pub symbolOf : Text → Found
 symbolOf m =
     let word = Found.token tk.CharSym (afterIdent false (drop 1 m)) in
     let run = Found.token tk.CharSym (afterRun freeSign m) in
-    if headIs isIdStart m then word
+    if idStart m then word
     else if freeSign m then run
     else if isAny ";" m && not (opSign (drop 1 m)) then Found.token tk.CharSym (drop 1 m)
     else Found.stuck 16 m

@@ -4,9 +4,9 @@
 -- nothing. With the code it shares the enums `Kw` and `TokenKind`.
 use Rattle.std.specs.Prelude.{ℕ, zero, suc, ◌+◌, ◌*◌, ◌-◌, Bool, true, false, if◌then◌else◌, not, ◌&&◌, ◌||◌, List, [], ◌∷◌, map, reverse, length, take, drop, ◌==◌, nat_le}
 use Rattle.std.proofs.Math.Option.{Option, none, some}
-use Rattle.chars.specs.paper.Text.{Char, Text, from, place, headIs}
+use Rattle.chars.specs.paper.Text.{Char, Text, from, place, idStart}
 use Rattle.chars.specs.computed.Runs.{afterRun}
-use Rattle.chars.specs.paper.Classes.{isIdStart, isIdChar}
+use Rattle.chars.specs.paper.Classes.{isIdChar}
 use Rattle.token.specs.paper.Tests.{isDigit, isHexDigit, isAny, begins, opensLine, opensBlock, closesBlock, opensComment, endOfLine, quote, threeQuotes, backslash, dollarBrace, digit, digitValue, hexAhead, letterL, opSign, freeSign, notBacktick, apostrophe, plainChar}
 use Rattle.token.specs.computed.Flags.{Gap, GapKind, fresh, push, cutOf}
 use Rattle.token.specs.paper.Kinds.{wordOf, runOf, Token}
@@ -243,7 +243,7 @@ scanCharSym s =
     let run = Found.token tk.CharSym (afterRun freeSign m) in
     if backslash m then escaped
     else if plainChar m && apostrophe (drop 1 m) then Found.token tk.CharSym (drop 2 m)
-    else if headIs isIdStart m then word
+    else if idStart m then word
     else if freeSign m then run
     else if isAny ";" m && not (opSign (drop 1 m)) then Found.token tk.CharSym (drop 1 m)
     else Found.stuck 16 m
@@ -263,7 +263,7 @@ startOf s =
     else if isAny "\r" s then Start.cr
     else if isAny "()[]{},;." s then Start.sign
     else if digit s then Start.number
-    else if headIs isIdStart s then Start.word
+    else if idStart s then Start.word
     else if opSign s then Start.operator
     else if isAny "`" s then Start.backtick
     else if quote s then Start.string
@@ -273,7 +273,7 @@ startOf s =
 -- does the text begin with a character with which some shape starts? Else it is Start.other, and refusal 3.
 abbrev pub starts : Text → Bool
 starts s =
-    isAny " \t" s || isAny "\n" s || isAny "\r" s || isAny "()[]{},;." s || digit s || headIs isIdStart s || opSign s || isAny "`" s || quote s
+    isAny " \t" s || isAny "\n" s || isAny "\r" s || isAny "()[]{},;." s || digit s || idStart s || opSign s || isAny "`" s || quote s
     || apostrophe s
 
 unfoldable pub signOf : Text → TokenKind

@@ -3,8 +3,7 @@
 -- script." So it is a relation between two texts, s from where the piece starts and r that follows it.
 use Rattle.std.specs.Prelude.{ℕ, suc, ◌≤◌, ◌+◌, ◌*◌, ◌-◌, ◌^◌, ◌≡◌, Bool, true, IsTrue, false, IsFalse, not, ◌&&◌, ◌⊎◌, List, [], ◌∷◌, map, length, take, drop}
 use Rattle.std.proofs.Math.Option.{none, some}
-use Rattle.chars.specs.paper.Text.{Char, Text, headIs, idChar}
-use Rattle.chars.specs.paper.Classes.{isIdStart}
+use Rattle.chars.specs.paper.Text.{Char, Text, idStart, idChar}
 use Rattle.token.specs.paper.Tests.{isAny, opensBlock, closesBlock, opensComment, endOfLine, quote, threeQuotes, backslash, dollarBrace, digit, hexDigit, digitValue, hexAhead, letterL, opSign, freeSign, notBacktick, apostrophe, plainChar}
 use Rattle.token.specs.paper.Kinds.{Kind, TokenType, isComment, wordOf, runOf}
 
@@ -125,7 +124,7 @@ Tail s r = (s ≡ r) ⊎ (Run1 (isAny "_") then Run opSign) s r
 
 -- "An id start, then chunks, then perhaps a tail; longest."
 abbrev pub Ident : Shape
-Ident s r = Longest (One (headIs isIdStart) then Chunks then Tail) s r
+Ident s r = Longest (One idStart then Chunks then Tail) s r
 
 -- one that is no keyword
 abbrev pub PlainIdent : Shape

@@ -2,7 +2,7 @@
 use Rattle.std.specs.Prelude.{ℕ, ◌-◌, Bool, true, false, if◌then◌else◌, not, ◌&&◌, ◌||◌, List, [], ◌∷◌, drop, ◌==◌, nat_le}
 use Prim.Native.String.{String}
 use Rattle.chars.specs.paper.Quoted.{between, codes, oneOf}
-use Rattle.chars.specs.paper.Classes.{isOpSign, isPrintable}
+use Rattle.chars.specs.paper.Classes.{classesOf}
 use Rattle.chars.specs.paper.Text.{Text, headIs}
 
 -- digits from `0` to `9`; "Hexadecimal digits are `0` to `9`, `a` to `f` and `A` to `F`."
@@ -63,7 +63,7 @@ abbrev pub hexDigit : Text → Bool
 hexDigit s = headIs isHexDigit s
 
 abbrev pub opSign : Text → Bool
-opSign s = headIs isOpSign s
+opSign s = headIs (λ c. (classesOf c).opSign) s
 
 -- RULES, "Operator": an operator sign at which neither `//` nor `/*` begins
 abbrev pub freeSign : Text → Bool
@@ -94,7 +94,7 @@ apostrophe s = isAny "'" s
 
 -- RULES, "Character": a printable that is no backslash
 abbrev pub plainChar : Text → Bool
-plainChar s = headIs isPrintable s && not (backslash s)
+plainChar s = headIs (λ c. (classesOf c).printable) s && not (backslash s)
 
 -- two texts' codes are equal
 abbrev pub same : List ℕ → List ℕ → Bool

@@ -1,5 +1,5 @@
 -- By the keyword that was found, or none.
-use Rattle.token.proofs.lexer.Words.{◌≡◌, ◌<◌, ◌≤◌, ℕ, List, false, length, drop, refl, sym, ap, ◌∙◌, arith, some, none, from, afterIdent, inWord, hereOf, runTo, lowBefore, pieceOf, Here, headIs, isIdStart, true, LeftTo}
+use Rattle.token.proofs.lexer.Words.{◌≡◌, ◌<◌, ◌≤◌, ℕ, List, false, length, drop, refl, sym, ap, ◌∙◌, arith, some, none, from, afterIdent, inWord, hereOf, runTo, lowBefore, pieceOf, Here, idStart, true, LeftTo}
 use Rattle.token.specs.declared.kinds.TokenKind.TheVariants as tk
 use Rattle.token.proofs.keyword.Laws.{key-is, key-not}
 use Rattle.token.proofs.ident.Laws.{left-to, ident-left, next-later, scan-word, token-at}
@@ -21,7 +21,7 @@ name_end-end-requires c =
     }
 
 -- what is left behind the identifier
-left-word : (s : List ℕ) (i j : ℕ) (e : Here) (end : ℕ) → i < length s → headIs isIdStart (from s i) ≡ true → j ≤ length s → from s j ≡ drop 1 (from s i)
+left-word : (s : List ℕ) (i j : ℕ) (e : Here) (end : ℕ) → i < length s → idStart (from s i) ≡ true → j ≤ length s → from s j ≡ drop 1 (from s i)
     → e ≡ hereOf s (runTo inWord s j) → end ≤ length s → from s end ≡ afterIdent (lowBefore s i e.at) (from s e.at)
     → LeftTo s i end × (from s end ≡ afterIdent false (drop 1 (from s i)))
 left-word s i j e end h b k r w l p =
