@@ -9,7 +9,7 @@ ghost use Rattle.token.specs.code.Form.{byForm, plainForm};
 ghost use Rattle.token.specs.code.ByteClass.{classAt, blankClass, digitClass, lfClass, crClass, tickClass, backtickClass, quoteClass, keywordClass, signKeywordClass, slashClass, wideClass, upToBlank, startsWord, asksMore, isSign, inWord};
 ghost use Rattle.token.specs.code.Names.{hereOf, lowBefore};
 ghost use Rattle.token.specs.code.Piece.{pieceOf};
-ghost use Rattle.token.specs.code.Walk.{beginning, movedTo, tokenBehind, needAt, lineBehind, commentBehind, blockBehind, runGoesOn, wholeGoesOn, wholeRunGoesOn, nameNumber, operatorNumber, Good, Counted, Left, LeftTo, Prefixes, Refuses, Steps};
+ghost use Rattle.token.specs.code.Walk.{beginning, movedTo, tokenBehind, needAt, lineBehind, commentBehind, blockBehind, runGoesOn, wholeGoesOn, wholeRunGoesOn, nameNumber, operatorNumber, Good, Counted, Left, LeftWhole, LeftPlain, LeftTo, Prefixes, pastAscii, Refuses, Steps};
 
 use crate::byte_class::Class;
 use crate::charsym::lex_char_sym;
@@ -663,7 +663,9 @@ fn walk_words(out: &mut [u8], s: &[u8], counts: &mut Counts, start: Stand) -> Re
     requires counted { Counted start counts.old }
     ensures on { IfOk result (λ x. Steps s.now start counts.old out.old x counts.new out.new) }
     ensures left { IfOk result (λ x. Left s.now x) }
+    ensures ascii { IfOk result (λ x. IsFalse (pastAscii s.now x)) }
     ensures on_to_wide { IfErr result (λ x. Steps s.now start counts.old out.old x counts.new out.new) }
+    ensures wide { IfErr result (λ x. IsTrue (pastAscii s.now x)) }
 {
     let mut x = start;
     // A step is a piece, and what it makes of the state.
@@ -734,7 +736,8 @@ fn wide_words(out: &mut [u8], s: &[u8], counts: &mut Counts, start: Stand) -> St
     requires short { length s.now ≤ mostBytes }
     requires good { Good s.now start }
     requires counted { Counted start counts.old }
-    ensures { Steps s.now start counts.old out.old result counts.new out.new }
+    ensures on { Steps s.now start counts.old out.old result counts.new out.new }
+    ensures left { LeftWhole s.now result }
 {
     let mut x = start;
     // A step is a piece, and what it makes of the state.
@@ -790,7 +793,8 @@ fn walk_plain(out: &mut [u8], s: &[u8], counts: &mut Counts, start: Stand) -> St
     requires short { length s.now ≤ mostBytes }
     requires good { Good s.now start }
     requires counted { Counted start counts.old }
-    ensures { Steps s.now start counts.old out.old result counts.new out.new }
+    ensures on { Steps s.now start counts.old out.old result counts.new out.new }
+    ensures left { LeftPlain s.now result }
 {
     match walk_words(out, s, counts, start) {
         Ok(x) => x,

@@ -1,18 +1,20 @@
 -- Where a walk over a script stands, and what a step of it is.
-use Rattle.std.specs.Prelude.{ℕ, ◌+◌, ◌-◌, ◌*◌, ◌/◌, ◌≤◌, ◌<◌, ◌≡◌, Bool, false, IsFalse, if◌then◌else◌, not, ◌&&◌, ◌||◌, List, Err, IsErr, IsTrue, length, slice_index, ◌==◌}
+use Rattle.std.specs.Prelude.{ℕ, ◌+◌, ◌-◌, ◌*◌, ◌/◌, ◌≤◌, ◌<◌, ◌≡◌, ◌⊎◌, Bool, false, IsFalse, if◌then◌else◌, not, ◌&&◌, ◌||◌, List, Err, IsErr, IsTrue, length, drop, slice_index, ◌==◌}
 use Rattle.token.specs.computed.Flags.{Gap}
 use Rattle.token.specs.paper.Records.{headLength, lineLength, valueNeed, exactNeed}
 use Rattle.chars.specs.paper.Quoted.{oneOf}
-use Rattle.chars.specs.paper.Text.{from}
+use Rattle.chars.specs.paper.Text.{from, place, idStart}
+use Rattle.chars.specs.computed.Runs.{afterRun}
 use Rattle.chars.specs.promises.Texts.{Suffix}
+use Rattle.token.specs.paper.Tests.{opSign}
 use Rattle.token.specs.paper.Kinds.{wordOf, runOf}
 use Rattle.token.specs.computed.Answer.{codesTo, orPrefixed, scan, scanNumber}
-use Rattle.token.specs.code.ByteClass.{classAt, lfClass, crClass, digitClass, keywordClass, quoteClass, signKeywordClass, slashClass, upToBlank, startsWord, inWord, asksMore, inOperator, isSign, inRun, inLineEnd}
+use Rattle.token.specs.code.ByteClass.{classAt, lfClass, crClass, digitClass, keywordClass, quoteClass, wideClass, signKeywordClass, slashClass, upToBlank, startsWord, inWord, asksMore, inOperator, isSign, inRun, inLineEnd}
 use Rattle.token.specs.code.Keyword.{numberOr}
 use Rattle.token.specs.declared.kinds.TokenKind.{TokenKind}
 use Rattle.token.specs.code.Form.{mostLength}
 use Rattle.token.specs.code.Records.{State, Reaches, measuredFrom, storedFrom, countedFrom}
-use Rattle.token.specs.code.Names.{runTo, lowBefore}
+use Rattle.token.specs.code.Names.{hereOf, runTo, lowBefore, wordChar, runChar}
 use Rattle.token.specs.code.Piece.{pieceOf}
 use Rattle.token.specs.declared.counts.Counts.{Counts}
 use Rattle.token.specs.declared.counts.Need.{Need}
@@ -129,6 +131,26 @@ pub record Left (s : List ℕ) (y : Stand) : Type 0 where
   pub word : IsTrue (startsWord y.class.number) → IsTrue (goesOn s y.at (runTo inWord s (y.at + 1)))
   pub run : IsTrue (inRun y.class.number) → IsTrue (runGoesOn s (runTo inRun s (y.at + 1)))
   pub number : IsTrue (y.class.number == digitClass) → IsErr (pieceOf (length s) (scanNumber (from s y.at)))
+
+-- What it leaves to the walk over all characters: one past ASCII stands there, or behind the word or the run of signs that does.
+abbrev pub pastAscii : List ℕ → Stand → Bool
+pastAscii s y =
+    let word = classAt s (runTo inWord s (y.at + 1)) == wideClass in
+    let run = classAt s (runTo inRun s (y.at + 1)) == wideClass in
+    y.class.number == wideClass || (startsWord y.class.number && word || inRun y.class.number && run)
+
+-- What the walk over all characters leaves: neither a blank, a single sign nor an LF; a name or a run of signs, also one of characters past ASCII, only
+-- where more may be made of it.
+pub record LeftWhole (s : List ℕ) (y : Stand) : Type 0 where
+  pub no-sign : IsFalse (upToBlank y.class.number)
+  pub no-line : IsFalse (y.class.number == lfClass)
+  pub name : IsTrue (idStart (from s y.at)) → IsTrue (wholeGoesOn s y.at (hereOf s (place (length s) (afterRun wordChar (drop 1 (from s y.at))))))
+  pub run : IsTrue (opSign (from s y.at)) → IsFalse (y.class.number == slashClass)
+      → IsTrue (wholeRunGoesOn s (hereOf s (place (length s) (afterRun runChar (drop 1 (from s y.at))))))
+
+-- and what both together do
+abbrev pub LeftPlain : List ℕ → Stand → Type 0
+LeftPlain s y = (Left s y × IsFalse (pastAscii s y)) ⊎ LeftWhole s y
 
 -- from the place e on stands what is left of the text from i on
 abbrev pub LeftTo : List ℕ → ℕ → ℕ → Type 0

@@ -11,7 +11,7 @@ use Rattle.token.proofs.walk.walk.Goals as goal
 pub ascii_run_step-requires-clause-no_comment : goal.ascii_run_step-requires-clause-no_comment
 ascii_run_step-requires-clause-no_comment c =
     let g : Good c.args.s.now c.if-not-x.x = elim c.if-not-x.branch [
-      | then-not-x w ↦ rw (w.x-is, w.by_field-x.ensures) w.walk_plain.ensures.good
+      | then-not-x w ↦ rw (w.x-is, w.by_field-x.ensures) w.walk_plain.ensures.on.good
       | else-not-x w ↦ rw w.x-is c.loop-x.invariant.good
     ] in
     other-clear g (search (tests, rules))
@@ -28,7 +28,7 @@ ascii_run_step-requires-clause-sign c = search (tests, rules)
 -- the walk to where nothing begins a token, and its refusal
 stands : (c : goal.After-at) → Steps c.args.s.now (beginning c.args.s.now) noneCounted c.args.out.now c.if-not-x.x c.if-not-x.counts c.if-not-x.out
 stands c = elim c.if-not-x.branch [
-  | then-not-x w ↦ rw (w.x-is, w.by_field-x.ensures, w.out-is, w.counts-is) (steps-trans c.loop-x.invariant w.walk_plain.ensures)
+  | then-not-x w ↦ rw (w.x-is, w.by_field-x.ensures, w.out-is, w.counts-is) (steps-trans c.loop-x.invariant w.walk_plain.ensures.on)
   | else-not-x w ↦ rw (w.x-is, w.out-is, w.counts-is) c.loop-x.invariant
 ]
 
@@ -53,7 +53,7 @@ pub returns-in_default-3 : goal.returns-in_default-3
 returns-in_default-3 c =
     let i : Steps c.args.s.now (beginning c.args.s.now) noneCounted c.args.out.now c.if-not-x.x c.if-not-x.counts c.if-not-x.out =
     elim c.if-not-x.branch [
-      | then-not-x w ↦ rw (w.x-is, w.by_field-x.ensures, w.out-is, w.counts-is) (steps-trans c.loop-x.invariant w.walk_plain.ensures)
+      | then-not-x w ↦ rw (w.x-is, w.by_field-x.ensures, w.out-is, w.counts-is) (steps-trans c.loop-x.invariant w.walk_plain.ensures.on)
       | else-not-x w ↦ rw (w.x-is, w.out-is, w.counts-is) c.loop-x.invariant
     ] in
     let g = i.good.within in
@@ -85,7 +85,7 @@ step c i = elim c.match-x.branch [
 -- where it came to before
 stands-there : (c : goal.After-by_field-x-in-loop-x) → Steps c.args.s.now (beginning c.args.s.now) noneCounted c.args.out.now c.if-not-x.x c.if-not-x.counts c.if-not-x.out
 stands-there c = elim c.if-not-x.branch [
-  | then-not-x w ↦ rw (w.x-is, w.by_field-x.ensures, w.out-is, w.counts-is) (steps-trans c.loop-x.invariant w.walk_plain.ensures)
+  | then-not-x w ↦ rw (w.x-is, w.by_field-x.ensures, w.out-is, w.counts-is) (steps-trans c.loop-x.invariant w.walk_plain.ensures.on)
   | else-not-x w ↦ rw (w.x-is, w.out-is, w.counts-is) c.loop-x.invariant
 ]
 
@@ -97,7 +97,7 @@ loop-x-preserved c =
 -- the walk of plain pieces goes on, or stays
 not-back : (c : goal.After-by_field-x-in-loop-x) → c.loop-x.x.at ≤ c.if-not-x.x.at
 not-back c = elim c.if-not-x.branch [
-  | then-not-x w ↦ rw (w.x-is, w.by_field-x.ensures) w.walk_plain.ensures.reaches.on
+  | then-not-x w ↦ rw (w.x-is, w.by_field-x.ensures) w.walk_plain.ensures.on.reaches.on
   | else-not-x w ↦ rw w.x-is (omega arith)
 ]
 

@@ -1,9 +1,11 @@
 -- Each word and each operator that nothing behind it makes more of is a step more.
-use Rattle.token.proofs.lexer.Words.{◌+◌, ◌∙◌, sym, arith}
+use Rattle.token.proofs.lexer.Words.{◌+◌, ◌∙◌, sym, arith, eqb, lfClass, wideClass, startsWord, inRun, refl}
 use Rattle.token.proofs.ident.Signs.{wide-sign, wide-start}
 use Rattle.token.proofs.walk.Laws.{steps-trans, at-is}
 use Rattle.token.proofs.walk.Words.{word-inside, run-within}
 use Rattle.token.proofs.walk.Starts.{ascii-starts, wide-clear, wide-in, wide-past}
+use Rattle.token.proofs.walk.Left.{unlike}
+use Rattle.token.proofs.walk.Leaves.{leaves-name, leaves-signs, leaves-wide, leaves-other}
 use Rattle.token.proofs.walk.Whole.{name-bound, name-named, signs-bound, signs-signed, run-starts}
 use Rattle.token.proofs.walk.wide_words.Goals as goal
 
@@ -142,3 +144,47 @@ loop-x-preserved c =
     let t = run-starts i.good (sym c.if-in_run.ensures) in
     let n = signs-signed i.good t.0 t.1 _ t.2 t.3 _ c.wide_run_end-end-then-in_run.ensures (sym c.if-whole_run_goes_on-2.ensures) in
     rw c.behind-x-then-in_run.ensures (steps-trans i (n.steps i.counted _ _ c.put_run_if-then-in_run.ensures))
+
+-- ---- what is left
+
+pub returns-then-whole_goes_on-clause-left : goal.returns-then-whole_goes_on-clause-left
+returns-then-whole_goes_on-clause-left c =
+    let g = c.loop-x.invariant.good in
+    let b = sym c.if-starts_word.ensures in
+    let t = ascii-starts g (sym c.if-is_sign.ensures) b in
+    leaves-name g (sym c.if-is_sign.ensures) (unlike startsWord _ lfClass refl b) (c.loop-x.x.at + 1) t.1 _ t.0 c.wide_word_end-end.ensures (sym c.if-whole_goes_on.ensures)
+
+pub returns-then-whole_goes_on-2-clause-left : goal.returns-then-whole_goes_on-2-clause-left
+returns-then-whole_goes_on-2-clause-left c =
+    let g = c.loop-x.invariant.good in
+    let k = sym c.if-eq-2.ensures in
+    let p = wide-past g k c.look-here.result c.look-here.ensures in
+    leaves-name g (sym c.if-is_sign.ensures) (unlike (λ z. eqb z wideClass) _ lfClass refl k) _ p.1 _
+    (wide-start c.args.s.now c.loop-x.x.at c.look-here.result c.look-here.ensures ∙ c.if-here.true) c.wide_word_end-end-then-here.ensures (sym c.if-whole_goes_on-2.ensures)
+
+pub returns-then-whole_run_goes_on-clause-left : goal.returns-then-whole_run_goes_on-clause-left
+returns-then-whole_run_goes_on-clause-left c =
+    let g = c.loop-x.invariant.good in
+    let k = sym c.if-eq-2.ensures in
+    let p = wide-past g k c.look-here.result c.look-here.ensures in
+    leaves-signs g (sym c.if-is_sign.ensures) (unlike (λ z. eqb z wideClass) _ lfClass refl k) _ p.1 _
+    (wide-sign c.args.s.now c.loop-x.x.at c.look-here.result c.look-here.ensures ∙ c.if-here-2.true) c.wide_run_end-end.ensures (sym c.if-whole_run_goes_on.ensures)
+
+pub returns-else-here-2-clause-left : goal.returns-else-here-2-clause-left
+returns-else-here-2-clause-left c =
+    let g = c.loop-x.invariant.good in
+    let k = sym c.if-eq-2.ensures in
+    leaves-wide g (sym c.if-is_sign.ensures) (unlike (λ z. eqb z wideClass) _ lfClass refl k)
+    (wide-start c.args.s.now c.loop-x.x.at c.look-here.result c.look-here.ensures ∙ c.if-here.false)
+    (wide-sign c.args.s.now c.loop-x.x.at c.look-here.result c.look-here.ensures ∙ c.if-here-2.false)
+
+pub returns-then-whole_run_goes_on-2-clause-left : goal.returns-then-whole_run_goes_on-2-clause-left
+returns-then-whole_run_goes_on-2-clause-left c =
+    let g = c.loop-x.invariant.good in
+    let k = sym c.if-in_run.ensures in
+    let t = run-starts g k in
+    leaves-signs g (sym c.if-is_sign.ensures) (unlike inRun _ lfClass refl k) (c.loop-x.x.at + 1) t.3 _ t.0 c.wide_run_end-end-then-in_run.ensures (sym c.if-whole_run_goes_on-2.ensures)
+
+pub returns-else-in_run-clause-left : goal.returns-else-in_run-clause-left
+returns-else-in_run-clause-left c =
+    leaves-other c.loop-x.invariant.good (sym c.if-is_sign.ensures) (sym c.if-eq-3.ensures) (sym c.if-starts_word.ensures) (sym c.if-eq-2.ensures) (sym c.if-in_run.ensures)
