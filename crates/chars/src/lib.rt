@@ -2,7 +2,7 @@
 #![tactic(auto)]
 
 pub mod tables; // range tables of Unicode 16.0
-pub mod masks; // the classes that are made of them, by blocks of 64 codes
+pub mod masks; // the four classes, by blocks of 64 codes
 pub mod marks; // direction marks
 pub mod thirds; // tables of the characters of three bytes that are none
 pub mod utf8; // one character at a byte offset; the longest valid prefix

@@ -27,8 +27,8 @@ pub fn here_at(s: &[u8], at: usize) -> Here
     }
 }
 
-// This loop and that of `run_end` go by two tests, and by bytes, for most end within four. With the test as a parameter, a trait and two impls of it
-// would stand here for one line.
+// This loop and that of `run_end` go by two tests, and by bytes, for most end within four; those of all characters go by two answers of a look. With the
+// test as a parameter, a trait and two impls of it would stand here for one line.
 
 /// Where the ASCII id characters and underscores end that stand there.
 pub fn word_end(s: &[u8], at: usize) -> Here

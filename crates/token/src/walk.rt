@@ -821,7 +821,7 @@ fn finish(out: &mut [u8], counts: Counts, x: Stand) -> Need
 }
 
 /// From the script's start to its end, or to what is refused: what the records need. While no cut is set, as nearly always, words and all that is as
-/// short go in a loop of their own. The counts are lent, and begin at none: in memory, one that does not change costs nothing.
+/// short go in two loops of their own. The counts are lent, and begin at none: in memory, one that does not change costs nothing.
 pub fn walk(out: &mut [u8], s: &[u8], counts: &mut Counts) -> Result<Need, Refused>
     requires short { length s.now ≤ mostBytes }
     requires begins { counts.old ≡ noneCounted }

@@ -1,5 +1,5 @@
 -- The character classes: what excludes what, each computed at the few characters that the rules name.
-use Rattle.std.proofs.Common.{ℕ, ◌^◌, ◌≤◌, ◌<◌, ◌≡◌, refl, sym, ap, ◌∙◌, Bool, true, false, cond, not, ◌&&◌, ◌||◌, ⊎_elim, arith, eqb-true, le-leb, lt-ltb, le-ltb, ne_eqb, eqb, ltb}
+use Rattle.std.proofs.Common.{ℕ, ◌≤◌, ◌<◌, ◌≡◌, refl, sym, ap, ◌∙◌, Bool, true, false, cond, not, ◌&&◌, ◌||◌, ⊎_elim, arith, eqb-true, le-leb, lt-ltb, le-ltb, ne_eqb, eqb, ltb}
 use Rattle.std.proofs.lemmas.Bool.{cases_lt, false_from_ne_true, not-true, lt-leb}
 use Prim.Native.String.{String}
 use Rattle.std.proofs.Math.Bool.{and-true, and-false, or-false}
@@ -9,8 +9,7 @@ use Rattle.chars.specs.paper.Classes.{isIdStart, isIdChar, opSigns, isOpSign, is
 use Rattle.chars.proofs.classes.Ranges.{between-out, clear-out, covered-in, only-first}
 use Rattle.chars.specs.promises.Codes.{every}
 use Rattle.chars.specs.promises.Classes.{lowStart, lowId}
-use Rattle.chars.proofs.Carry.{carry, each-same}
-use Rattle.std.specs.Char.{is_ascii_alphanumeric}
+use Rattle.chars.proofs.Carry.{carry}
 
 -- ---- operator signs
 
@@ -64,10 +63,6 @@ byte-start b = below isIdStart lowStart low-start b
 
 pub byte-id : (b : ℕ) → ltb b 0x80 && isIdChar b ≡ ltb b 0x80 && lowId b
 byte-id b = below isIdChar lowId low-id b
-
--- by std's test
-pub id-byte : (b : ℕ) → b < 2 ^ 8 → ltb b 0x80 && isIdChar b ≡ is_ascii_alphanumeric b || eqb b 0x24
-id-byte b h = byte-id b ∙ each-same (λ x. ltb x 0x80 && lowId x) (λ x. is_ascii_alphanumeric x || eqb x 0x24) 0 256 b refl (omega arith) (omega arith)
 
 -- quoted characters of which none is in a class: ASCII by q, and the double arrow
 quoted-not : (p q : ℕ → Bool) → ((c : ℕ) → c < 0x80 → p c ≡ q c) → p 0x21D2 ≡ false → (t : String)
@@ -141,15 +136,6 @@ module _ (c : ℕ) (h : 0x80 ≤ c) where
 
   pub wide-none : (c ≡ 0x21D2 → ⊥) → isOpSign c ≡ false
   wide-none n = false_from_ne_true (isOpSign c) (λ e. n (wide-sign e))
-
-  -- no `$` or `_` is left, so up to U+FFFF the tables decide
-  pub wide-start : c ≤ 0xFFFF → (0x24B6 ≤ c → 0x24E9 < c) → isIdStart c ≡ lowercase c || uppercase c
-  unfolding isIdStart
-  wide-start l out = grind arith
-
-  pub wide-id : c ≤ 0xFFFF → isIdChar c ≡ alphabetic c && not (alphaNotLetter c) || nd c
-  unfolding isIdChar
-  wide-id l = grind arith
 
 -- ---- above U+FFFF no class has a code
 

@@ -1,4 +1,4 @@
--- Laws of a table of ranges in ascending order: what the order test says, and what a binary search finds.
+-- Laws of a table of ranges in ascending order: what one test over its ranges says of many codes, and what the order test says.
 use Rattle.std.proofs.Common.{ℕ, zero, suc, ◌≤◌, ◌<◌, ◌≡◌, refl, ap, Bool, true, false, ◌&&◌, ◌||◌, ⊎_elim, List, [], ◌∷◌, not-suc-le-zero, le_of_suc-le-suc, arith, ltb-true, leb-true, leb-false, le-leb, leb, ltb, length, take, drop}
 use Rattle.std.proofs.lemmas.Bool.{or_cases}
 use Rattle.std.proofs.Math.Bool.{or-true}

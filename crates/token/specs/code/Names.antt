@@ -1,4 +1,4 @@
--- What `names` answers: where words and runs of operator signs end, by the classes of their bytes.
+-- What `names` answers: where words and runs of operator signs end, of ASCII by the classes of their bytes, and of all characters.
 use Rattle.std.specs.Prelude.{ℕ, ◌+◌, ◌-◌, Bool, not, ◌&&◌, ◌||◌, List, length, slice_index, ◌==◌, nat_lt}
 use Rattle.chars.specs.paper.Text.{Text, idChar}
 use Rattle.token.specs.paper.Tests.{isAny, opSign}
