@@ -93,6 +93,9 @@ fn plain_end(s: &[u8], c: Cursor, b: u8) -> Option<Cursor>
     if begins_word(class) {
         return Some(name_symbol_end(s, c.at, next.at));
     }
+    if class == Class::WIDE {
+        return wide_end(s, c);
+    }
     if class.in_run() {
         let end = run_end(s, next.at);
         if !end.class.in_operator() {
@@ -104,9 +107,6 @@ fn plain_end(s: &[u8], c: Cursor, b: u8) -> Option<Cursor>
     }
     if b == b';' && !sign_at(s, next) {
         return Some(next);
-    }
-    if class == Class::WIDE {
-        return wide_end(s, c);
     }
     None
 }

@@ -539,7 +539,6 @@ fn ascii_name_step(
 }
 
 // What begins with a character past ASCII: an operator, an identifier, or nothing.
-#[inline(always)]
 fn wide_step(out: &mut [u8], s: &[u8], counts: &mut Counts, x: Stand) -> Result<Stand, Refused>
     requires short { length s.now ≤ mostBytes }
     requires good { Good s.now x }
@@ -744,15 +743,6 @@ fn wide_words(out: &mut [u8], s: &[u8], counts: &mut Counts, start: Stand) -> St
     loop {
         if x.class == Class::BLANK {
             x = blank_step(s, x);
-        } else if x.class.is_sign() {
-            x = sign_step(out, s, x);
-        } else if x.class.starts_word() {
-            let end = wide_word_end(s, x.at + 1);
-            if whole_goes_on(s, x.at, end) {
-                return x;
-            }
-            put_word_if(out, s, x, end.at);
-            x = behind(x, end, HEAD);
         } else if x.class == Class::WIDE {
             let here = look(s, x.at);
             let next = x.at + here.width;
@@ -773,6 +763,15 @@ fn wide_words(out: &mut [u8], s: &[u8], counts: &mut Counts, start: Stand) -> St
             } else {
                 return x;
             }
+        } else if x.class.is_sign() {
+            x = sign_step(out, s, x);
+        } else if x.class.starts_word() {
+            let end = wide_word_end(s, x.at + 1);
+            if whole_goes_on(s, x.at, end) {
+                return x;
+            }
+            put_word_if(out, s, x, end.at);
+            x = behind(x, end, HEAD);
         } else if x.class == Class::LF {
             x = line_step(out, s, counts, x);
         } else if x.class.in_run() {
