@@ -9,7 +9,7 @@ ghost use Rattle.token.specs.code.Form.{byForm, plainForm};
 ghost use Rattle.token.specs.code.ByteClass.{classAt, blankClass, digitClass, lfClass, crClass, tickClass, backtickClass, quoteClass, keywordClass, signKeywordClass, slashClass, wideClass, upToBlank, startsWord, asksMore, isSign, inWord};
 ghost use Rattle.token.specs.code.Names.{hereOf, lowBefore};
 ghost use Rattle.token.specs.code.Piece.{pieceOf};
-ghost use Rattle.token.specs.code.Walk.{beginning, movedTo, tokenBehind, needAt, lineBehind, commentBehind, blockBehind, runGoesOn, wholeGoesOn, wholeRunGoesOn, nameNumber, operatorNumber, Good, Counted, Left, LeftWhole, LeftPlain, LeftTo, Prefixes, pastAscii, Refuses, Steps};
+ghost use Rattle.token.specs.code.Walk.{beginning, movedTo, tokenBehind, needAt, lineBehind, commentBehind, blockBehind, runGoesOn, wholeGoesOn, wholeRunGoesOn, nameNumber, operatorNumber, Good, Counted, Left, LeftWhole, LeftTo, Prefixes, pastAscii, Refuses, Steps};
 
 use crate::byte_class::Class;
 use crate::charsym::lex_char_sym;
@@ -655,7 +655,7 @@ fn run_goes_on(s: &[u8], end: Here) -> bool
 }
 
 // As far as blanks, signs, words, line ends, runs of operator signs and numbers of ASCII stand there of which no byte behind them makes more, as most
-// pieces are. Err, where a character past ASCII stands, or makes more of the word or the run that it follows.
+// pieces are. Err, where a character past ASCII follows the word or the run that stands there, and may make more of it.
 fn walk_words(out: &mut [u8], s: &[u8], counts: &mut Counts, start: Stand) -> Result<Stand, Stand>
     requires short { length s.now ≤ mostBytes }
     requires good { Good s.now start }
@@ -705,8 +705,6 @@ fn walk_words(out: &mut [u8], s: &[u8], counts: &mut Counts, start: Stand) -> Re
                 return Ok(x);
             };
             x = y;
-        } else if x.class.in_operator() && !x.class.is_op() {
-            return Err(x); // past ASCII; asked so, the compiler keeps the order of the tests before
         } else {
             return Ok(x);
         }
@@ -787,18 +785,52 @@ fn wide_words(out: &mut [u8], s: &[u8], counts: &mut Counts, start: Stand) -> St
     }
 }
 
-// Both: what is past ASCII, most scripts do not have, and the first loop keeps its registers to itself.
-fn walk_plain(out: &mut [u8], s: &[u8], counts: &mut Counts, start: Stand) -> Stand
+// What begins there, where that or what it goes on with is past ASCII, by its first byte.
+fn whole_step(out: &mut [u8], s: &[u8], counts: &mut Counts, x: Stand) -> Result<Stand, Refused>
     requires short { length s.now ≤ mostBytes }
-    requires good { Good s.now start }
-    requires counted { Counted start counts.old }
-    ensures on { Steps s.now start counts.old out.old result counts.new out.new }
-    ensures left { LeftPlain s.now result }
+    requires good { Good s.now x }
+    requires counted { Counted x counts.old }
+    requires begins { IsTrue (x.class.number == wideClass || pastAscii s.now x) }
+    ensures on { IfOk result (λ y. Steps s.now x counts.old out.old y counts.new out.new) }
+    ensures further { IfOk result (λ y. x.at < y.at) }
+    ensures refused { IfErr result (λ e. Refuses s.now x counts.old out.old e) }
+    ensures kept { IfErr result (λ e. out.new ≡ out.old) }
+    ensures uncounted { IfErr result (λ e. counts.new ≡ counts.old) }
 {
-    match walk_words(out, s, counts, start) {
-        Ok(x) => x,
-        Err(x) => wide_words(out, s, counts, x),
+    if x.class == Class::WIDE {
+        return wide_step(out, s, counts, x);
     }
+    if x.class.starts_word() {
+        return ascii_name_step(out, s, counts, x);
+    }
+    ascii_run_step(out, s, counts, x)
+}
+
+// The same, with all pieces of the kinds of `wide_words` that stand there, while no cut is set.
+#[inline(always)]
+fn past_ascii_step(
+    out: &mut [u8],
+    s: &[u8],
+    counts: &mut Counts,
+    x: Stand,
+) -> Result<Stand, Refused>
+    requires short { length s.now ≤ mostBytes }
+    requires good { Good s.now x }
+    requires counted { Counted x counts.old }
+    requires begins { IsTrue (x.class.number == wideClass || pastAscii s.now x) }
+    ensures on { IfOk result (λ y. Steps s.now x counts.old out.old y counts.new out.new) }
+    ensures further { IfOk result (λ y. x.at < y.at) }
+    ensures refused { IfErr result (λ e. Refuses s.now x counts.old out.old e) }
+    ensures kept { IfErr result (λ e. out.new ≡ out.old) }
+    ensures uncounted { IfErr result (λ e. counts.new ≡ counts.old) }
+{
+    if !x.cut {
+        let y = wide_words(out, s, counts, x);
+        if y.at != x.at {
+            return Ok(y);
+        }
+    }
+    whole_step(out, s, counts, x)
 }
 
 // The end of script: its record is stored where it fits. Tokens were not counted: every record has one head, so they are the bytes that are no values,
@@ -833,13 +865,24 @@ pub fn walk(out: &mut [u8], s: &[u8], counts: &mut Counts) -> Result<Need, Refus
     let mut x = Stand::start(s);
     // The same steps, of every piece, by the class of its first byte.
     loop {
+        // Past ASCII is also what goes on so.
+        let mut kind = x.class;
         if !x.cut {
-            x = by_field(walk_plain(out, s, counts, x));
+            match walk_words(out, s, counts, x) {
+                Ok(y) => {
+                    x = by_field(y);
+                    kind = x.class;
+                }
+                Err(y) => {
+                    x = by_field(y);
+                    kind = Class::WIDE;
+                }
+            }
         }
-        let y = match x.class {
+        let y = match kind {
             Class::SLASH => slash_step(out, s, counts, x)?,
             Class::QUOTE => string_step(out, s, counts, x)?,
-            Class::WIDE => wide_step(out, s, counts, x)?,
+            Class::WIDE => past_ascii_step(out, s, counts, x)?,
             Class::TICK => char_sym_step(out, s, counts, x)?,
             Class::BACKTICK => backtick_step(out, s, counts, x)?,
             Class::CR => return_step(out, s, counts, x)?,

@@ -5,7 +5,7 @@ use Rattle.chars.specs.paper.Classes.{isIdStart, isIdChar, isOpSign, opSigns}
 use Rattle.chars.specs.promises.Classes.{lowId, lowStart}
 use Rattle.token.proofs.Classes.{byte-sign}
 use Rattle.chars.specs.paper.Quoted.{member}
-use Rattle.token.specs.code.ByteClass.{inOperator, otherClass, startClass, dollarClass, signClass, backslashClass, signKeywordClass, isOrdinary}
+use Rattle.token.specs.code.ByteClass.{otherClass, startClass, dollarClass, signClass, backslashClass, signKeywordClass, isOrdinary}
 open code_laws use {agree, carry, carry-span, no-member, every-sub}
 open class-laws use {byte-id, byte-start}
 
@@ -80,11 +80,6 @@ module _ (b : ℕ) where
   pub class-wide : eqb (classOf b) wideClass ≡ leb 0x80 b
   unfolding classOf signNumber signOf
   class-wide = says (λ e. eqb e wideClass) (leb 0x80) refl (λ b h. sym (le-leb 0x80 b h)) b
-
-  -- what may make more of a run, and is no sign
-  pub class-past : inOperator (classOf b) && not (isSign (classOf b)) ≡ eqb (classOf b) wideClass
-  unfolding classOf signNumber signOf
-  class-past = says (λ e. inOperator e && not (isSign e)) (leb 0x80) refl (λ b h. sym (le-leb 0x80 b h)) b ∙ sym class-wide
 
   pub class-ordinary : isOrdinary (classOf b) ≡ not (oneOf "\n\"$\\" b)
   unfolding classOf signNumber signOf

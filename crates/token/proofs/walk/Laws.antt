@@ -12,7 +12,16 @@ pub at-is : {y z : Stand} → y ≡ z → y.at ≡ z.at
 at-is e = ap (λ (w : Stand). w.at) e
 
 pub steps-trans : {s : List ℕ} {x y z : Stand} {c d e : Counts} {out mid next : List ℕ} → Steps s x c out y d mid → Steps s y d mid z e next → Steps s x c out z e next
-steps-trans a b = record { good = b.good; counted = b.counted; reaches = reach-trans a.reaches b.reaches }
+steps-trans a b =
+    let k = a.reaches.on in
+    let l = b.reaches.on in
+    record {
+      good = b.good;
+      counted = b.counted;
+      reaches = reach-trans a.reaches b.reaches;
+      kept = λ e. b.kept (omega (arith, k, l, e)) ∙ a.kept (omega (arith, k, l, e));
+      uncounted = λ e. b.uncounted (omega (arith, k, l, e)) ∙ a.uncounted (omega (arith, k, l, e));
+    }
 
 -- ---- the numbers of a state
 
@@ -38,13 +47,15 @@ stands-at g u = record { within = g.within; count = u.tokens; size = g.size }
 -- where the walk reaches a state, and the code's numbers make it
 module _ {s : List ℕ} {x : Stand} {c : Counts} {out next : List ℕ} {z : State} (r : Reaches s (stateAt x c) out z next) where
   pub steps-to : (y : Stand) (d : Counts) → stateAt y d ≡ z → y.class.number ≡ classAt s y.at → y.bytes ≡ exactNeed (needAt y.bytes d).tokens d → y.line ≤ y.bytes + 1 → y.mark ≤ y.bytes + 1
-      → Steps s x c out y d next
-  steps-to y d e k w l m =
+      → (y.at ≡ x.at → next ≡ out) → (y.at ≡ x.at → d ≡ c) → Steps s x c out y d next
+  steps-to y d e k w l m p q =
       let h = subst (λ v. Reaches s (stateAt x c) out v next) (sym e) r in
       record {
         good = record { within = h.stands.within; size = h.stands.size; class = k; line = l; mark = m };
         counted = record { whole = w; tokens = h.stands.count };
         reaches = h;
+        kept = p;
+        uncounted = q;
       }
 
 -- ---- a token
@@ -61,12 +72,14 @@ module _ {s : List ℕ} {x : Stand} (g : Good s x) {c : Counts} (u : Counted x c
       → next ≡ storedIf out x.bytes (recordOf t) → Steps s x c out (tokenBehind x (hereOf s e) l) (counting c t.kind) next
   step-token {t} {e} w l p out next q =
       let k = record-least t.kind in
+      let o = w.on in
       let r = reach-turn (reach-start (stands-at g u)) w fresh refl next q in
       let a = no-longer x.line x.bytes (recordLength t.kind) k g.line in
       let b = no-longer x.mark x.bytes (recordLength t.kind) k g.mark in
       let h = g.line in
       let m = g.mark in
-      rw p (steps-to r (tokenBehind x (hereOf s e) (recordLength t.kind)) (counting c t.kind) (made-is e false a b (need-more t)) refl (whole-more t) (omega arith) (omega arith))
+      rw p (steps-to r (tokenBehind x (hereOf s e) (recordLength t.kind)) (counting c t.kind) (made-is e false a b (need-more t)) refl (whole-more t) (omega arith) (omega arith)
+      (λ z. absurd (omega (arith, o, z))) (λ z. absurd (omega (arith, o, z))))
 
   -- a line end, alone or behind a comment
   pub step-line : {a e : ℕ} {mark : Bool} → Turn s x.at (gapAt x) (lineEndAt a e mark) e (gapOf true false x.cut) → (out next : List ℕ)
@@ -74,6 +87,7 @@ module _ {s : List ℕ} {x : Stand} (g : Good s x) {c : Counts} (u : Counted x c
   step-line {a} {e} {mark} w out next q =
       let t = lineEndAt a e mark in
       let p = newline-length mark in
+      let o = w.on in
       let r = reach-turn (reach-start (stands-at g u)) w (gapOf true false x.cut) refl next q in
       let f = eq-eqb (x.bytes + lineLength) (x.bytes + lineLength) refl in
       let b = no-longer x.mark x.bytes lineLength (omega arith) g.mark in
@@ -82,19 +96,20 @@ module _ {s : List ℕ} {x : Stand} (g : Good s x) {c : Counts} (u : Counted x c
       ap (λ l. needAt (x.bytes + l) (counting c (tk.Newline mark))) (sym p) ∙ need-more t in
       let v : x.bytes + lineLength ≡ exactNeed (needAt (x.bytes + lineLength) (counting c (tk.Newline mark))).tokens (counting c (tk.Newline mark)) = rw p at (whole-more t) in
       steps-to r (lineBehind s x e) (counting c (tk.Newline mark)) (made-is e x.cut f b n) refl v (omega arith) (omega arith)
+      (λ z. absurd (omega (arith, o, z))) (λ z. absurd (omega (arith, o, z)))
 
   -- on to another place, in the same gap: blanks
   pub step-same : (k : ℕ) → x.at ≤ k → k ≤ length s → trail (length s) 0 (gapAt x) (from s k) ≡ trailFrom s (stateAt x c) → (out : List ℕ)
       → Steps s x c out (movedTo x (hereOf s k)) c out
   step-same k l w e out =
-      steps-to (reach-same (reach-start (stands-at g u)) k (gapAt x) l w e) _ c refl refl u.whole g.line g.mark
+      steps-to (reach-same (reach-start (stands-at g u)) k (gapAt x) l w e) _ c refl refl u.whole g.line g.mark (λ z. refl) (λ z. refl)
 
   -- a comment, with the cut that it makes
   pub step-comment : (k : ℕ) (d : Bool) → x.at ≤ k → k ≤ length s → trail (length s) 0 (gapOf (eqb x.line x.bytes) true d) (from s k) ≡ trailFrom s (stateAt x c) → (out : List ℕ)
       → Steps s x c out (record { at = k; class = record { number = classAt s k }; bytes = x.bytes; line = x.line; mark = x.bytes; cut = d }) c out
   step-comment k d l w e out =
       steps-to (reach-same (reach-start (stands-at g u)) k (gapOf (eqb x.line x.bytes) true d) l w e) _ c
-      (made-is k d refl (eq-eqb x.bytes x.bytes refl) refl) refl u.whole g.line (omega arith)
+      (made-is k d refl (eq-eqb x.bytes x.bytes refl) refl) refl u.whole g.line (omega arith) (λ z. refl) (λ z. refl)
 
 -- ---- what is refused
 

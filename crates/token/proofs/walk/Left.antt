@@ -1,12 +1,12 @@
 -- What the walk over words leaves, by the test that ended it.
-use Rattle.token.proofs.lexer.Words.{◌≡◌, refl, sym, ◌∙◌, ap, ap₂, cond, drop, ℕ, ◌+◌, Bool, true, false, not, ◌&&◌, ◌||◌, List, eqb, ne_eqb, Err, Text, clash, Found, scanNumber, isDigit, lfClass, crClass, digitClass, upToBlank, startsWord, inWord, asksMore, isSign, inRun, inOperator, wideClass, classAt, hereOf, runTo, lowBefore, PieceAnswer, pieceOf, tokenTo, Good, Cursor, TokenKind, Here, Stand, zero-one}
+use Rattle.token.proofs.lexer.Words.{◌≡◌, refl, sym, ◌∙◌, ap, ap₂, cond, drop, ℕ, ◌+◌, Bool, true, false, not, ◌&&◌, ◌||◌, List, eqb, ne_eqb, Err, Text, clash, Found, scanNumber, isDigit, lfClass, crClass, digitClass, upToBlank, startsWord, inWord, asksMore, isSign, inRun, wideClass, classAt, hereOf, runTo, lowBefore, PieceAnswer, pieceOf, tokenTo, Good, Cursor, TokenKind, Here, Stand, zero-one}
 use Rattle.std.proofs.lemmas.Bool.{false_from_ne_true}
 use Rattle.std.specs.Prelude.{Ok}
 use Rattle.token.specs.computed.Answer.{Numeral, numeral, numberOf, readDigits}
 use Rattle.token.specs.paper.Tests.{isHexDigit, hexAhead, letterL}
 use Rattle.token.specs.code.Walk.{Left, pastAscii}
 use Rattle.token.specs.declared.kinds.TokenKind.TheVariants as tk
-use Rattle.token.proofs.byte_class.Laws.{class-apart, class-past}
+use Rattle.token.proofs.byte_class.Laws.{class-apart}
 use Rattle.token.proofs.walk.Pieces.{by-class}
 
 -- a class of which a test holds is none of those of which it does not
@@ -29,16 +29,9 @@ module _ {s : List ℕ} {x : Stand} (g : Good s x) (a : upToBlank x.class.number
   -- one that no character past ASCII follows
   pub word-ascii : startsWord x.class.number ≡ true → (e : Here) → e ≡ hereOf s (runTo inWord s (x.at + 1)) → eqb e.class.number wideClass ≡ false → pastAscii s x ≡ false
   word-ascii b e q m =
-      let k = unlike startsWord x.class.number wideClass refl b in
       let w : eqb (classAt s (runTo inWord s (x.at + 1))) wideClass ≡ false = ap (λ (z : Here). eqb z.class.number wideClass) (sym q) ∙ m in
       let r : inRun x.class.number ≡ false = false_from_ne_true (inRun x.class.number) (λ r. clash (sym (class-apart _) ∙ ap₂ (λ u v. u && v) (by-class g inRun r) (by-class g startsWord b))) in
-      rw (k, w, b, r)
-
--- a character past ASCII, by its class
-pub past-wide : {s : List ℕ} {x : Stand} → Good s x → inOperator x.class.number ≡ true → isSign x.class.number ≡ false → pastAscii s x ≡ true
-past-wide {s} {x} g e f =
-    let w : eqb x.class.number wideClass ≡ true = ap (λ z. eqb z wideClass) g.class ∙ sym (class-past _) ∙ sym (ap (λ z. inOperator z && not (isSign z)) g.class) ∙ ap₂ (λ u v. u && not v) e f in
-    rw w
+      rw (a, b, w, r)
 
 abbrev kindOf : PieceAnswer → TokenKind
 kindOf (Ok t) = t.0

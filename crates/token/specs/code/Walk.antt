@@ -1,5 +1,5 @@
 -- Where a walk over a script stands, and what a step of it is.
-use Rattle.std.specs.Prelude.{ℕ, ◌+◌, ◌-◌, ◌*◌, ◌/◌, ◌≤◌, ◌<◌, ◌≡◌, ◌⊎◌, Bool, false, IsFalse, if◌then◌else◌, not, ◌&&◌, ◌||◌, List, Err, IsErr, IsTrue, length, drop, slice_index, ◌==◌}
+use Rattle.std.specs.Prelude.{ℕ, ◌+◌, ◌-◌, ◌*◌, ◌/◌, ◌≤◌, ◌<◌, ◌≡◌, Bool, false, IsFalse, if◌then◌else◌, not, ◌&&◌, ◌||◌, List, Err, IsErr, IsTrue, length, drop, slice_index, ◌==◌}
 use Rattle.token.specs.computed.Flags.{Gap}
 use Rattle.token.specs.paper.Records.{headLength, lineLength, valueNeed, exactNeed}
 use Rattle.chars.specs.paper.Quoted.{oneOf}
@@ -97,6 +97,9 @@ pub record Steps (s : List ℕ) (x : Stand) (c : Counts) (out : List ℕ) (y : S
   pub good : Good s y
   pub counted : Counted y d
   pub reaches : Reaches s (stateAt x c) out (stateAt y d) next
+  -- at the place where it was nothing is stored or counted
+  pub kept : y.at ≡ x.at → next ≡ out
+  pub uncounted : y.at ≡ x.at → d ≡ c
 
 -- the script is refused for what stands there, and no token more is stored or counted
 pub record Refuses (s : List ℕ) (x : Stand) (c : Counts) (out : List ℕ) (e : Refused) : Type 0 where
@@ -132,12 +135,12 @@ pub record Left (s : List ℕ) (y : Stand) : Type 0 where
   pub run : IsTrue (inRun y.class.number) → IsTrue (runGoesOn s (runTo inRun s (y.at + 1)))
   pub number : IsTrue (y.class.number == digitClass) → IsErr (pieceOf (length s) (scanNumber (from s y.at)))
 
--- What it leaves to the walk over all characters: one past ASCII stands there, or behind the word or the run of signs that does.
+-- What it leaves to the walk over all characters: a word or a run of signs that a character past ASCII follows.
 abbrev pub pastAscii : List ℕ → Stand → Bool
 pastAscii s y =
     let word = classAt s (runTo inWord s (y.at + 1)) == wideClass in
     let run = classAt s (runTo inRun s (y.at + 1)) == wideClass in
-    y.class.number == wideClass || (startsWord y.class.number && word || inRun y.class.number && run)
+    not (upToBlank y.class.number) && startsWord y.class.number && word || inRun y.class.number && run
 
 -- What the walk over all characters leaves: neither a blank, a single sign nor an LF; a name or a run of signs, also one of characters past ASCII, only
 -- where more may be made of it.
@@ -147,10 +150,6 @@ pub record LeftWhole (s : List ℕ) (y : Stand) : Type 0 where
   pub name : IsTrue (idStart (from s y.at)) → IsTrue (wholeGoesOn s y.at (hereOf s (place (length s) (afterRun wordChar (drop 1 (from s y.at))))))
   pub run : IsTrue (opSign (from s y.at)) → IsFalse (y.class.number == slashClass)
       → IsTrue (wholeRunGoesOn s (hereOf s (place (length s) (afterRun runChar (drop 1 (from s y.at))))))
-
--- and what both together do
-abbrev pub LeftPlain : List ℕ → Stand → Type 0
-LeftPlain s y = (Left s y × IsFalse (pastAscii s y)) ⊎ LeftWhole s y
 
 -- from the place e on stands what is left of the text from i on
 abbrev pub LeftTo : List ℕ → ℕ → ℕ → Type 0

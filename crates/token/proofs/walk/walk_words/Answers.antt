@@ -3,7 +3,7 @@ use Rattle.token.proofs.lexer.Words.{sym, arith}
 use Rattle.token.proofs.walk.Laws.{steps-trans, at-is}
 use Rattle.token.proofs.walk.Words.{word-inside, word-bound, plain-leaves, step-word, run-within}
 use Rattle.token.proofs.walk.Runs.{run-here, run-bound, run-on, run-left-to, step-run}
-use Rattle.token.proofs.walk.Left.{left-word, word-ascii, past-wide}
+use Rattle.token.proofs.walk.Left.{left-word, word-ascii}
 use Rattle.token.proofs.walk.walk_words.Goals as goal
 
 pub word_end-end-requires : goal.word_end-end-requires
@@ -68,5 +68,5 @@ pub returns-then-goes_on-clause-ascii : goal.returns-then-goes_on-clause-ascii
 returns-then-goes_on-clause-ascii c =
     word-ascii c.loop-x.invariant.good (sym c.if-is_sign.ensures) (sym c.if-starts_word.ensures) _ c.word_end-end.ensures (sym c.if-eq-2.ensures)
 
-pub returns-then-not-is_op-clause-wide : goal.returns-then-not-is_op-clause-wide
-returns-then-not-is_op-clause-wide c = past-wide c.loop-x.invariant.good (sym c.if-in_operator.ensures) (sym c.if-not-is_op.ensures)
+pub loop-x-preserved-then-eq : goal.loop-x-preserved-then-eq
+loop-x-preserved-then-eq c = steps-trans c.loop-x.invariant (c.blank_step-x.ensures.on _ _ c.loop-x.invariant.counted)

@@ -188,3 +188,8 @@ returns-then-whole_run_goes_on-2-clause-left c =
 pub returns-else-in_run-clause-left : goal.returns-else-in_run-clause-left
 returns-else-in_run-clause-left c =
     leaves-other c.loop-x.invariant.good (sym c.if-is_sign.ensures) (sym c.if-eq-3.ensures) (sym c.if-starts_word.ensures) (sym c.if-eq-2.ensures) (sym c.if-in_run.ensures)
+
+-- ---- a blank
+
+pub loop-x-preserved-then-eq : goal.loop-x-preserved-then-eq
+loop-x-preserved-then-eq c = steps-trans c.loop-x.invariant (c.blank_step-x.ensures.on _ _ c.loop-x.invariant.counted)
