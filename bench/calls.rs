@@ -5,17 +5,17 @@ use std::hint::black_box;
 
 #[link(name = "ergo", kind = "static")]
 extern "C" {
-    fn ergo_tokenize(script: *const u8, n: usize, records: *mut u8, m: usize, answer: *mut u8, k: usize) -> u32;
-    fn ergo_measure(script: *const u8, n: usize, answer: *mut u8, k: usize) -> u32;
+    fn ergo_tokenize(script: *const u8, n: u64, records: *mut u8, m: u64, answer: *mut u8, k: u64) -> u32;
+    fn ergo_measure(script: *const u8, n: u64, answer: *mut u8, k: u64) -> u32;
 }
 
 #[cfg(peer)]
 #[link(name = "peer", kind = "static")]
 extern "C" {
-    fn peer_tokenize(script: *const u8, n: usize, records: *mut u8, m: usize, answer: *mut u8, k: usize) -> u32;
+    fn peer_tokenize(script: *const u8, n: u64, records: *mut u8, m: u64, answer: *mut u8, k: u64) -> u32;
 }
 
-type Entry = unsafe extern "C" fn(*const u8, usize, *mut u8, usize, *mut u8, usize) -> u32;
+type Entry = unsafe extern "C" fn(*const u8, u64, *mut u8, u64, *mut u8, u64) -> u32;
 
 #[derive(Clone, Copy, PartialEq)]
 pub enum Who {
@@ -53,14 +53,14 @@ fn begins(answer: &[u8]) -> Block {
 fn entry(f: Entry, script: &str, records: &mut [u8]) -> Block {
     let mut answer = [0u8; 16];
     let (r, a) = (records.as_mut_ptr(), answer.as_mut_ptr());
-    unsafe { f(script.as_ptr(), script.len(), r, records.len(), a, answer.len()) };
+    unsafe { f(script.as_ptr(), script.len() as u64, r, records.len() as u64, a, 16) };
     begins(&answer)
 }
 
 // One call of ergo_measure. The counts of kinds, behind these four numbers, are left out.
 pub fn measure(script: &str) -> Block {
     let mut answer = [0u8; 32];
-    unsafe { ergo_measure(script.as_ptr(), script.len(), answer.as_mut_ptr(), answer.len()) };
+    unsafe { ergo_measure(script.as_ptr(), script.len() as u64, answer.as_mut_ptr(), 32) };
     begins(&answer)
 }
 

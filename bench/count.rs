@@ -10,13 +10,13 @@ use texts::{chosen, CONTRACT, MIB};
 
 #[link(name = "ergo", kind = "static")]
 extern "C" {
-    fn ergo_index_lines(script: *const u8, n: usize, index: *mut u32, m: usize, answer: *mut u8, k: usize) -> u32;
-    fn ergo_line_column(script: *const u8, n: usize, index: *const u32, m: usize, place: u32, answer: *mut u8, k: usize) -> u32;
+    fn ergo_index_lines(script: *const u8, n: u64, index: *mut u32, m: u64, answer: *mut u8, k: u64) -> u32;
+    fn ergo_line_column(script: *const u8, n: u64, index: *const u32, m: u64, place: u32, answer: *mut u8, k: u64) -> u32;
 }
 
 #[link(name = "chars_host", kind = "static")]
 extern "C" {
-    fn chars_valid_prefix(s: *const u8, n: usize) -> usize;
+    fn chars_valid_prefix(s: *const u8, n: u64) -> u64;
 }
 
 // callgrind writes down and clears its counts wherever this is called.
@@ -97,9 +97,10 @@ fn count_lines() {
     let mut index = vec![0u32; n + 1];
     let mut answer = [0u8; 16];
     let (i, a) = (index.as_mut_ptr(), answer.as_mut_ptr());
-    count_function("", "index", n, || assert_eq!(unsafe { ergo_index_lines(black_box(s), n, i, n + 1, a, 16) }, 0));
-    count_function("", "query", n, || assert_eq!(unsafe { ergo_line_column(black_box(s), n, i, n + 1, n as u32, a, 16) }, 0));
-    count_function("", "check", n, || assert_eq!(unsafe { chars_valid_prefix(black_box(s), n) }, n));
+    let length = n as u64;
+    count_function("", "index", n, || assert_eq!(unsafe { ergo_index_lines(black_box(s), length, i, length + 1, a, 16) }, 0));
+    count_function("", "query", n, || assert_eq!(unsafe { ergo_line_column(black_box(s), length, i, length + 1, n as u32, a, 16) }, 0));
+    count_function("", "check", n, || assert_eq!(unsafe { chars_valid_prefix(black_box(s), length) }, length));
 }
 
 fn main() {

@@ -3,7 +3,7 @@ use std::io::Read;
 
 #[link(name = "ergo", kind = "static")]
 extern "C" {
-    fn ergo_tokenize(script: *const u8, n: usize, records: *mut u8, m: usize, answer: *mut u8, k: usize) -> u32;
+    fn ergo_tokenize(script: *const u8, n: u64, records: *mut u8, m: u64, answer: *mut u8, k: u64) -> u32;
 }
 
 fn main() {
@@ -11,7 +11,8 @@ fn main() {
     std::io::stdin().read_to_end(&mut script).expect("a script");
     let mut records = vec![0u8; 17 * script.len() + 13];
     let mut answer = [0u8; 16];
-    let number = unsafe { ergo_tokenize(script.as_ptr(), script.len(), records.as_mut_ptr(), records.len(), answer.as_mut_ptr(), 16) };
+    let (n, m) = (script.len() as u64, records.len() as u64);
+    let number = unsafe { ergo_tokenize(script.as_ptr(), n, records.as_mut_ptr(), m, answer.as_mut_ptr(), 16) };
     let four = |bytes: &[u8], at: usize| u32::from_le_bytes(bytes[at..at + 4].try_into().unwrap());
     if number != 0 {
         println!("refused {number} at {}", four(&answer, 4));

@@ -5,31 +5,31 @@ use std::time::Instant;
 
 #[link(name = "ergo", kind = "static")]
 extern "C" {
-    fn ergo_index_lines(script: *const u8, n: usize, index: *mut u32, m: usize, answer: *mut u8, k: usize) -> u32;
-    fn ergo_line_column(script: *const u8, n: usize, index: *const u32, m: usize, place: u32, answer: *mut u8, k: usize) -> u32;
+    fn ergo_index_lines(script: *const u8, n: u64, index: *mut u32, m: u64, answer: *mut u8, k: u64) -> u32;
+    fn ergo_line_column(script: *const u8, n: u64, index: *const u32, m: u64, place: u32, answer: *mut u8, k: u64) -> u32;
 }
 
 #[link(name = "chars_host", kind = "static")]
 extern "C" {
-    fn chars_valid_prefix(s: *const u8, n: usize) -> usize;
+    fn chars_valid_prefix(s: *const u8, n: u64) -> u64;
 }
 
-fn check(script: &str) -> usize {
-    unsafe { chars_valid_prefix(script.as_ptr(), script.len()) }
+fn check(script: &str) -> u64 {
+    unsafe { chars_valid_prefix(script.as_ptr(), script.len() as u64) }
 }
 
 // The number handed back and the last two numbers of the block.
 fn build(script: &str, index: &mut [u32]) -> (u32, u32, u32) {
     let mut answer = [0u8; 16];
     let (i, a) = (index.as_mut_ptr(), answer.as_mut_ptr());
-    let number = unsafe { ergo_index_lines(script.as_ptr(), script.len(), i, index.len(), a, answer.len()) };
+    let number = unsafe { ergo_index_lines(script.as_ptr(), script.len() as u64, i, index.len() as u64, a, 16) };
     (number, word(&answer, 8), word(&answer, 12))
 }
 
 fn query(script: &str, index: &[u32], place: u32) -> (u32, u32, u32) {
     let mut answer = [0u8; 16];
     let (i, a) = (index.as_ptr(), answer.as_mut_ptr());
-    let number = unsafe { ergo_line_column(script.as_ptr(), script.len(), i, index.len(), place, a, answer.len()) };
+    let number = unsafe { ergo_line_column(script.as_ptr(), script.len() as u64, i, index.len() as u64, place, a, 16) };
     (number, word(&answer, 8), word(&answer, 12))
 }
 
@@ -49,7 +49,7 @@ fn measure(script: &str, index: &mut [u32], rounds: usize) -> Times {
     // Before timing: the answers are those of Rust's own counting. This also warms up memory and code.
     let (lines, end) = (1 + script.matches('\n').count() as u32, script.len() as u32);
     let column = 1 + script.rsplit('\n').next().unwrap_or_default().chars().count() as u32;
-    assert_eq!(check(script), script.len());
+    assert_eq!(check(script), script.len() as u64);
     assert_eq!(build(script, index), (0, lines, 0));
     assert_eq!(query(script, index, end), (0, lines, column));
     // A round takes building about a fiftieth of a second, and the other two less.

@@ -553,7 +553,7 @@ static uint32_t by_heap(const byte *script, size_t n, byte *records, size_t m, b
     return number;
 }
 
-uint32_t peer_tokenize(const uint8_t *script, size_t n, uint8_t *records, size_t m, uint8_t *answer, size_t k)
+uint32_t peer_tokenize(const uint8_t *script, uint64_t n, uint8_t *records, uint64_t m, uint8_t *answer, uint64_t k)
 {
     if (k != BLOCK) return 20;
     if (n > SCRIPT_LIMIT) return tell((Answer){17, 0, 0, 0}, NULL, NULL, 0, answer);
@@ -572,18 +572,18 @@ typedef struct {
 
 _Static_assert(sizeof(Answer) == BLOCK && sizeof(Need) == NEED_BLOCK, "the blocks are copied from these");
 
-static int inside(const uint8_t *script, size_t n, uint32_t at)
+static int inside(const uint8_t *script, uint64_t n, uint32_t at)
 {
     return at < n && (script[at] & 0xC0) == 0x80;
 }
 
-uint32_t ergo_tokenize(const uint8_t *script, size_t n, uint8_t *records, size_t m, uint8_t *answer, size_t k)
+uint32_t ergo_tokenize(const uint8_t *script, uint64_t n, uint8_t *records, uint64_t m, uint8_t *answer, uint64_t k)
 {
     return peer_tokenize(script, n, records, m, answer, k);
 }
 
 // The library has limits as an argument; this one measures first, since no contact is timed.
-uint32_t ergo_tokenize_contact(const uint8_t *script, size_t n, uint8_t *records, size_t m, uint8_t *answer, size_t k)
+uint32_t ergo_tokenize_contact(const uint8_t *script, uint64_t n, uint8_t *records, uint64_t m, uint8_t *answer, uint64_t k)
 {
     Answer need;
     if (k != BLOCK) return 20;
@@ -614,7 +614,7 @@ static Need need_of(Answer answer, const byte *records)
 }
 
 // Makes the records and walks over them, since measuring is not timed either.
-uint32_t ergo_measure(const uint8_t *script, size_t n, uint8_t *answer, size_t k)
+uint32_t ergo_measure(const uint8_t *script, uint64_t n, uint8_t *answer, uint64_t k)
 {
     Need need = {{17, 0, 0, 0}, 0, 0, 0, 0};
     if (k != NEED_BLOCK) return 20;
@@ -629,7 +629,7 @@ uint32_t ergo_measure(const uint8_t *script, size_t n, uint8_t *answer, size_t k
     return need.answer.number;
 }
 
-uint32_t ergo_token_text(const uint8_t *script, size_t n, uint32_t start, uint32_t end)
+uint32_t ergo_token_text(const uint8_t *script, uint64_t n, uint32_t start, uint32_t end)
 {
     return start <= end && end <= n && !inside(script, n, start) && !inside(script, n, end) ? 0 : 21;
 }

@@ -2,8 +2,8 @@
 // callgrind.
 #[link(name = "ergo", kind = "static")]
 extern "C" {
-    fn ergo_tokenize(script: *const u8, n: usize, records: *mut u8, m: usize, answer: *mut u8, k: usize) -> u32;
-    fn ergo_measure(script: *const u8, n: usize, answer: *mut u8, k: usize) -> u32;
+    fn ergo_tokenize(script: *const u8, n: u64, records: *mut u8, m: u64, answer: *mut u8, k: u64) -> u32;
+    fn ergo_measure(script: *const u8, n: u64, answer: *mut u8, k: u64) -> u32;
 }
 
 fn main() {
@@ -11,9 +11,10 @@ fn main() {
         let script = std::fs::read(&name).expect("a file");
         let mut records = vec![0u8; 17 * script.len() + 13];
         let mut answer = [0u8; 16];
-        let number = unsafe { ergo_tokenize(script.as_ptr(), script.len(), records.as_mut_ptr(), records.len(), answer.as_mut_ptr(), 16) };
+        let (n, m) = (script.len() as u64, records.len() as u64);
+        let number = unsafe { ergo_tokenize(script.as_ptr(), n, records.as_mut_ptr(), m, answer.as_mut_ptr(), 16) };
         let mut need = [0u8; 32];
-        let told = unsafe { ergo_measure(script.as_ptr(), script.len(), need.as_mut_ptr(), 32) };
+        let told = unsafe { ergo_measure(script.as_ptr(), n, need.as_mut_ptr(), 32) };
         assert_eq!((told, &need[4..16]), (number, &answer[4..16]), "{name}: measuring answers otherwise");
         let file = name.rsplit('/').next().unwrap_or("");
         if number == 0 {

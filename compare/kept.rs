@@ -5,11 +5,11 @@ use published::token::{tokenize, Token};
 
 #[link(name = "ergo", kind = "static")]
 extern "C" {
-    fn ergo_read_roll(roll: *const u8, n: usize, answer: *mut u8, k: usize) -> u32;
-    fn ergo_read_record(roll: *const u8, n: usize, at: u32, previous: u32, answer: *mut u8, k: usize) -> u32;
-    fn ergo_index_lines(script: *const u8, n: usize, index: *mut u32, m: usize, answer: *mut u8, k: usize) -> u32;
-    fn ergo_line_column(script: *const u8, n: usize, index: *const u32, m: usize, place: u32, answer: *mut u8, k: usize) -> u32;
-    fn ergo_token_text(script: *const u8, n: usize, start: u32, end: u32) -> u32;
+    fn ergo_read_roll(roll: *const u8, n: u64, answer: *mut u8, k: u64) -> u32;
+    fn ergo_read_record(roll: *const u8, n: u64, at: u32, previous: u32, answer: *mut u8, k: u64) -> u32;
+    fn ergo_index_lines(script: *const u8, n: u64, index: *mut u32, m: u64, answer: *mut u8, k: u64) -> u32;
+    fn ergo_line_column(script: *const u8, n: u64, index: *const u32, m: u64, place: u32, answer: *mut u8, k: u64) -> u32;
+    fn ergo_token_text(script: *const u8, n: u64, start: u32, end: u32) -> u32;
 }
 
 fn block(words: &[u32]) -> Vec<u8> {
@@ -39,7 +39,7 @@ impl Kept {
         values.resize(8, 0);
         let words = [0, 0, kind as u32, token.start, token.end, token.bc_before as u32, 0, next as u32];
         let mut answer = [0xA5; 40];
-        let number = unsafe { ergo_read_record(roll.as_ptr(), roll.len(), at as u32, previous, answer.as_mut_ptr(), answer.len()) };
+        let number = unsafe { ergo_read_record(roll.as_ptr(), roll.len() as u64, at as u32, previous, answer.as_mut_ptr(), 40) };
         self.same("a record", script, (number, &answer), &[block(&words), values].concat());
         next
     }
@@ -47,7 +47,7 @@ impl Kept {
     fn roll(&mut self, script: &str, tokens: &[Token]) {
         let roll = records(script, tokens);
         let mut answer = [0xA5; 16];
-        let number = unsafe { ergo_read_roll(roll.as_ptr(), roll.len(), answer.as_mut_ptr(), answer.len()) };
+        let number = unsafe { ergo_read_roll(roll.as_ptr(), roll.len() as u64, answer.as_mut_ptr(), 16) };
         self.same("the roll", script, (number, &answer), &block(&[0, 0, tokens.len() as u32, roll.len() as u32]));
         let (mut at, mut previous) = (0, 0);
         for token in tokens {
@@ -61,16 +61,16 @@ impl Kept {
         let before = &script[..place];
         let line = 1 + before.matches('\n').count();
         let column = 1 + before.rsplit('\n').next().unwrap_or_default().chars().count();
-        let (s, n, mut answer) = (script.as_ptr(), script.len(), [0xA5; 16]);
-        let number = unsafe { ergo_line_column(s, n, index.as_ptr(), index.len(), place as u32, answer.as_mut_ptr(), answer.len()) };
+        let (s, n, m, mut answer) = (script.as_ptr(), script.len() as u64, index.len() as u64, [0xA5; 16]);
+        let number = unsafe { ergo_line_column(s, n, index.as_ptr(), m, place as u32, answer.as_mut_ptr(), 16) };
         self.same("line and column", script, (number, &answer), &block(&[0, 0, line as u32, column as u32]));
     }
 
     fn lines(&mut self, script: &str, marks: &[usize]) {
         let starts: Vec<u32> = [0].into_iter().chain(script.match_indices('\n').map(|(at, _)| at as u32 + 1)).collect();
-        let (s, n, mut answer) = (script.as_ptr(), script.len(), [0xA5; 16]);
+        let (s, n, mut answer) = (script.as_ptr(), script.len() as u64, [0xA5; 16]);
         let mut index = vec![0xA5A5_A5A5; starts.len()];
-        let number = unsafe { ergo_index_lines(s, n, index.as_mut_ptr(), index.len(), answer.as_mut_ptr(), answer.len()) };
+        let number = unsafe { ergo_index_lines(s, n, index.as_mut_ptr(), index.len() as u64, answer.as_mut_ptr(), 16) };
         let told = [&answer[..], &block(&index)].concat();
         self.same("the index", script, (number, &told), &block(&[&[0, 0, starts.len() as u32, 0], &starts[..]].concat()));
         for &at in marks {

@@ -9,7 +9,7 @@ use super::{compare, shown, LIMIT};
 #[cfg(linked)]
 #[link(name = "ergo", kind = "static")]
 extern "C" {
-    fn ergo_measure(script: *const u8, n: usize, answer: *mut u8, k: usize) -> u32;
+    fn ergo_measure(script: *const u8, n: u64, answer: *mut u8, k: u64) -> u32;
 }
 
 pub const BLOCK: usize = 32;
@@ -66,7 +66,7 @@ pub fn fault(script: &[u8], want: &Told, length: usize, mask: u8) -> Option<Stri
     let mut wanted = Vec::new();
     compare::fill(&mut wanted, length, mask);
     let mut lent = wanted.clone();
-    let got = unsafe { ergo_measure(script.as_ptr(), script.len(), lent.as_mut_ptr(), length) };
+    let got = unsafe { ergo_measure(script.as_ptr(), script.len() as u64, lent.as_mut_ptr(), length as u64) };
     let number = number(want, length);
     if number != 20 {
         wanted[..BLOCK].copy_from_slice(&block(want));
@@ -82,7 +82,7 @@ pub fn fault(script: &[u8], want: &Told, length: usize, mask: u8) -> Option<Stri
 #[cfg(linked)]
 pub fn null_fault() -> Option<String> {
     let (null, mut lent) = (std::ptr::null_mut(), [9u8; BLOCK]);
-    let numbers = unsafe { [ergo_measure(null, 0, lent.as_mut_ptr(), BLOCK), ergo_measure(null, 0, null, 0)] };
+    let numbers = unsafe { [ergo_measure(null, 0, lent.as_mut_ptr(), BLOCK as u64), ergo_measure(null, 0, null, 0)] };
     let good = numbers == [0, 20] && lent[..] == block(&[0, 0, 1, HEAD as u32, 0, 0, 0, 0]);
     (!good).then(|| format!("measured at null: {numbers:?}, {lent:?}"))
 }

@@ -27,9 +27,9 @@ use std::io::Write;
 #[cfg(linked)]
 #[link(name = "ergo", kind = "static")]
 extern "C" {
-    fn ergo_tokenize(script: *const u8, n: usize, records: *mut u8, m: usize, answer: *mut u8, k: usize) -> u32;
-    fn ergo_tokenize_contact(script: *const u8, n: usize, records: *mut u8, m: usize, answer: *mut u8, k: usize) -> u32;
-    fn ergo_token_text(script: *const u8, n: usize, start: u32, end: u32) -> u32;
+    fn ergo_tokenize(script: *const u8, n: u64, records: *mut u8, m: u64, answer: *mut u8, k: u64) -> u32;
+    fn ergo_tokenize_contact(script: *const u8, n: u64, records: *mut u8, m: u64, answer: *mut u8, k: u64) -> u32;
+    fn ergo_token_text(script: *const u8, n: u64, start: u32, end: u32) -> u32;
 }
 
 const LIMIT: usize = 16_777_216;
@@ -331,7 +331,7 @@ mod compare {
                 Entry::Compiler => ergo_tokenize,
                 Entry::Contact => ergo_tokenize_contact,
             };
-            let got = unsafe { tokenize(script.as_ptr(), script.len(), r, lent, a, block) };
+            let got = unsafe { tokenize(script.as_ptr(), script.len() as u64, r, lent as u64, a, block as u64) };
             let number = want.number_at(entry, lent, block);
             self.numbers[number as usize] += 1;
             if number == 0 {
@@ -427,7 +427,7 @@ mod compare {
                 assert_eq!(good, text.get(start as usize..end as usize).is_some(), "the rule for token text is not that of str::get");
             }
             self.numbers[number as usize] += 1;
-            let got = unsafe { ergo_token_text(script.as_ptr(), n, start, end) };
+            let got = unsafe { ergo_token_text(script.as_ptr(), n as u64, start, end) };
             if got != number {
                 self.note(format!("token text of {} from {start} to {end}: {got}, wanted {number}", shown(script)));
             }

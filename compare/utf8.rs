@@ -8,8 +8,8 @@ use std::str::from_utf8;
 #[cfg(linked)]
 #[link(name = "chars_host", kind = "static")]
 extern "C" {
-    fn chars_valid_prefix(s: *const u8, n: usize) -> usize;
-    fn chars_decode(s: *const u8, n: usize, at: usize) -> u64;
+    fn chars_valid_prefix(s: *const u8, n: u64) -> u64;
+    fn chars_decode(s: *const u8, n: u64, at: u64) -> u64;
     #[cfg(published)]
     fn chars_classes(c: u32) -> u32;
 }
@@ -59,9 +59,9 @@ impl Tally {
 
     // Both functions at one sequence: the prefix, and the character at the offset.
     fn sequence(&mut self, s: &[u8], at: usize) {
-        let n = unsafe { chars_valid_prefix(s.as_ptr(), s.len()) };
-        let d = unsafe { chars_decode(s.as_ptr(), s.len(), at) };
-        let (m, e) = (std_prefix(s), std_decode(s, at));
+        let n = unsafe { chars_valid_prefix(s.as_ptr(), s.len() as u64) };
+        let d = unsafe { chars_decode(s.as_ptr(), s.len() as u64, at as u64) };
+        let (m, e) = (std_prefix(s) as u64, std_decode(s, at));
         self.note(n == m && d == e, || format!("{s:02X?} at {at}: prefix {n}, {m} by std; character {d:X}, {e:X} by std"));
     }
 }
@@ -147,7 +147,7 @@ fn scalar_values(tally: &mut Tally) {
         let text = format!("é{c}z");
         let s = text.as_bytes();
         for (at, d) in text.char_indices() {
-            let packed = unsafe { chars_decode(s.as_ptr(), s.len(), at) };
+            let packed = unsafe { chars_decode(s.as_ptr(), s.len() as u64, at as u64) };
             let wanted = ((d.len_utf8() as u64) << 32) | d as u64;
             tally.note(packed == wanted, || format!("U+{:04X} at {at} of {text:?}: {packed:X}", d as u32));
         }

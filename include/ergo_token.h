@@ -1,8 +1,12 @@
 /* ErgoScript tokens as records: the eight functions of crates/ergo, for C and C++. `rt lib`, in that folder, makes the library,
- * crates/ergo/out/libergo.a, for Linux on x86-64 processors of level v2 (SSE4.2). Tokenizing takes at most some 9 kB of stack, measuring
- * some 350 bytes, reading stored records some 200, lines and columns less. The library allocates nothing, and calls nothing but memmove and memset,
- * which the compiler puts in; a host without a C library must have these two. It keeps nothing between calls: calls from several threads at once
- * are fine as long as no two of them lend the same bytes for writing.
+ * crates/ergo/out/libergo.a, for Linux on x86-64 processors of level v2 (SSE4.2). `device/build TARGET` makes it for other processors; docs/DEVICE.md
+ * says for which. Tokenizing takes at most some 9 kB of stack, measuring some 350 bytes, reading stored records some 200, lines and columns less. The
+ * library allocates nothing, and calls nothing but memmove and memset, which the compiler puts in; a host without a C library must have these two. It
+ * keeps nothing between calls: calls from several threads at once are fine as long as no two of them lend the same bytes for writing.
+ *
+ * All lengths are uint64_t on every processor, since the functions that are proved take 64 bits for a length wherever they run. So they do where
+ * size_t has 32 bits, and there no linker tells that a host passes too few: a host that declares the functions itself must have uint64_t too. Where
+ * addresses have 32 bits, each part of memory that is lent has less than 2^31 bytes.
  *
  * All places are byte offsets from 0: those of tokens and of refusals 1 to 18 and 29 into the script, those of refusals 22 to 24 into the roll.
  * All numbers in records and answer blocks are unsigned and little-endian. Those of an index of line starts are uint32_t, in the machine's own
@@ -10,7 +14,6 @@
 #ifndef ERGO_TOKEN_H
 #define ERGO_TOKEN_H
 
-#include <stddef.h>
 #include <stdint.h>
 
 #ifdef __cplusplus
@@ -40,7 +43,7 @@ extern "C" {
  * Length 0 with any pointer, NULL included, is passed as an empty slice. That was run from C; no exported contract speaks of pointers. The
  * three parts of memory must be readable, the last two also writable, for their lengths, and must not overlap: the proof takes that from
  * the caller. */
-uint32_t ergo_tokenize(const uint8_t *script, size_t n, uint8_t *records, size_t m, uint8_t *answer, size_t k);
+uint32_t ergo_tokenize(const uint8_t *script, uint64_t n, uint8_t *records, uint64_t m, uint8_t *answer, uint64_t k);
 
 /* Tokenizes a contact: a script that an entry of the address book holds. What ergo_tokenize says holds here too; only the limits are smaller, and
  * both are themselves allowed. A script of more than ERGO_CONTACT_BYTES bytes is refused by ERGO_OVER_LIMIT (27), one of more than ERGO_SCRIPT_LIMIT
@@ -51,7 +54,7 @@ uint32_t ergo_tokenize(const uint8_t *script, size_t n, uint8_t *records, size_t
  * open string behind 600 tokens by 7, and that with a direction mark in it by 29. 28 also comes where no buffer is lent.
  *
  * The buffer: ERGO_CONTACT_RECORDS bytes are enough for every contact, so that one call does, and 19 never comes. */
-uint32_t ergo_tokenize_contact(const uint8_t *script, size_t n, uint8_t *records, size_t m, uint8_t *answer, size_t k);
+uint32_t ergo_tokenize_contact(const uint8_t *script, uint64_t n, uint8_t *records, uint64_t m, uint8_t *answer, uint64_t k);
 
 /* Measures the n bytes at script: how many bytes the records need, and how many tokens are of the kinds that have values. No buffer is lent for
  * records, and none is made. The answer is 0 where ergo_tokenize accepts the script if enough bytes are lent, else the refusal that ergo_tokenize
@@ -73,13 +76,13 @@ uint32_t ergo_tokenize_contact(const uint8_t *script, size_t n, uint8_t *records
  *
  * What ergo_tokenize asks of pointers and lengths is asked here too: script and block must be readable, the block also writable, for their lengths,
  * and must not overlap. An empty script may have any pointer, NULL included. */
-uint32_t ergo_measure(const uint8_t *script, size_t n, uint8_t *answer, size_t k);
+uint32_t ergo_measure(const uint8_t *script, uint64_t n, uint8_t *answer, uint64_t k);
 
 /* Whether the bytes of the script from start to end (end not included) are a text: 0 if so, else ERGO_TOKEN_TEXT (21). A token's text is then
  * script + start, of end - start bytes. It is 21 where start is past end, end is past n, or either lies inside a character: on a byte 0x80 to
  * 0xBF. The start and end of every record are answered 0. Nothing else is judged: a text of a script that is refused may hold direction marks, so
  * show these by their numbers. */
-uint32_t ergo_token_text(const uint8_t *script, size_t n, uint32_t start, uint32_t end);
+uint32_t ergo_token_text(const uint8_t *script, uint64_t n, uint32_t start, uint32_t end);
 
 /* Reads a stored roll, without its script: the n bytes at roll are to be the records of one script, as ergo_tokenize or ergo_tokenize_contact writes
  * them. The answer is 0 where every record can be read and the roll ends with its only Eof; else it is 22, 23 or 24, whichever is met first from the
@@ -93,7 +96,7 @@ uint32_t ergo_token_text(const uint8_t *script, size_t n, uint32_t start, uint32
  *
  * and 0 where nothing is to be said. With any other k the answer is 20 and the block keeps its values. A roll may be longer than numbers of
  * 4 bytes can say: the block then has place, count and bytes modulo 2^32. */
-uint32_t ergo_read_roll(const uint8_t *roll, size_t n, uint8_t *answer, size_t k);
+uint32_t ergo_read_roll(const uint8_t *roll, uint64_t n, uint8_t *answer, uint64_t k);
 
 /* Reads one record of a roll: the one at the offset `at`, where the token before it ends at `previous`. The k bytes at answer are the answer
  * block; k must be ERGO_STEP_BYTES. It gets eight numbers of 4 bytes each and 8 bytes of values:
@@ -121,7 +124,7 @@ uint32_t ergo_read_roll(const uint8_t *roll, size_t n, uint8_t *answer, size_t k
  *
  * What ergo_tokenize asks of pointers and lengths, both readers ask: roll and block must be readable, the block also writable, for their
  * lengths, and must not overlap. An empty roll may have any pointer, NULL included. */
-uint32_t ergo_read_record(const uint8_t *roll, size_t n, uint32_t at, uint32_t previous, uint8_t *answer, size_t k);
+uint32_t ergo_read_record(const uint8_t *roll, uint64_t n, uint32_t at, uint32_t previous, uint8_t *answer, uint64_t k);
 
 /* Builds the index of line starts of the n bytes at script: the place where each line starts, in order, the first of them 0. LF and CR LF end a
  * line everywhere, also inside strings, comments and backticks; a CR alone ends none. So a script has one line more than it has line ends, and at
@@ -143,7 +146,7 @@ uint32_t ergo_read_record(const uint8_t *roll, size_t n, uint32_t at, uint32_t p
  *
  * m counts numbers, not bytes. The m numbers must be readable and writable, and aligned as uint32_t is; m = 0 may come with any pointer, NULL
  * included. Of the other pointers the same is asked as by ergo_tokenize, and none of the three parts of memory may overlap. */
-uint32_t ergo_index_lines(const uint8_t *script, size_t n, uint32_t *index, size_t m, uint8_t *answer, size_t k);
+uint32_t ergo_index_lines(const uint8_t *script, uint64_t n, uint32_t *index, uint64_t m, uint8_t *answer, uint64_t k);
 
 /* The line and the column of a place in the script, both counted from 1, the column in characters, by the index that ergo_index_lines built from
  * the same n bytes: what counting from the script's first byte gives. Both bytes of CR LF belong to the line that they end: the LF stands one
@@ -169,7 +172,7 @@ uint32_t ergo_index_lines(const uint8_t *script, size_t n, uint32_t *index, size
  *
  * The m numbers must be readable, and aligned as uint32_t is; m = 0 may come with any pointer, NULL included. Of the other pointers the same is
  * asked as by ergo_tokenize, and the block may overlap neither script nor index. */
-uint32_t ergo_line_column(const uint8_t *script, size_t n, const uint32_t *index, size_t m, uint32_t place, uint8_t *answer, size_t k);
+uint32_t ergo_line_column(const uint8_t *script, uint64_t n, const uint32_t *index, uint64_t m, uint32_t place, uint8_t *answer, uint64_t k);
 
 #define ERGO_SCRIPT_LIMIT 16777216u /* bytes: a longer script is refused by 17 */
 
@@ -235,19 +238,20 @@ uint32_t ergo_line_column(const uint8_t *script, size_t n, const uint32_t *index
 /* Bytes that the records of so many tokens take, line ends and Eof included, of which so many are IntLits, LongLits, Strs and Newlines: a head for
  * each token, and the values. */
 #define ERGO_NEED(tokens, int_lits, long_lits, strs, newlines) \
-    (ERGO_RECORD_HEAD * (size_t)(tokens) + (ERGO_INT_LIT_LENGTH - ERGO_RECORD_HEAD) * (size_t)(int_lits) \
-     + (ERGO_LONG_LIT_LENGTH - ERGO_RECORD_HEAD) * (size_t)(long_lits) + (ERGO_STR_LENGTH - ERGO_RECORD_HEAD) * (size_t)(strs) \
-     + (ERGO_NEWLINE_LENGTH - ERGO_RECORD_HEAD) * (size_t)(newlines))
+    (ERGO_RECORD_HEAD * (uint64_t)(tokens) + (ERGO_INT_LIT_LENGTH - ERGO_RECORD_HEAD) * (uint64_t)(int_lits) \
+     + (ERGO_LONG_LIT_LENGTH - ERGO_RECORD_HEAD) * (uint64_t)(long_lits) + (ERGO_STR_LENGTH - ERGO_RECORD_HEAD) * (uint64_t)(strs) \
+     + (ERGO_NEWLINE_LENGTH - ERGO_RECORD_HEAD) * (uint64_t)(newlines))
 
-/* Bytes enough for the records of every script of n bytes: one byte of script costs at most an IntLit's record, and Eof costs a head. */
+/* Bytes enough for the records of every script of n bytes: one byte of script costs at most an IntLit's record, and Eof costs a head. As a uint64_t:
+ * where size_t has 32 bits, it fits that for every script of at most ERGO_SCRIPT_LIMIT bytes, and for longer ones it may not. */
 #define ERGO_RECORD_PER_BYTE ERGO_INT_LIT_LENGTH
-#define ERGO_RECORD_BOUND(n) (ERGO_RECORD_PER_BYTE * (size_t)(n) + ERGO_RECORD_HEAD)
+#define ERGO_RECORD_BOUND(n) (ERGO_RECORD_PER_BYTE * (uint64_t)(n) + ERGO_RECORD_HEAD)
 
 /* Bytes enough for the records of every contact: each token costs at most a LongLit's record, and Eof costs a head. 511 times 0L needs all of it. */
 #define ERGO_CONTACT_RECORDS ((ERGO_CONTACT_TOKENS - 1u) * ERGO_LONG_LIT_LENGTH + ERGO_RECORD_HEAD)
 
-/* Numbers enough for the line starts of every script of n bytes: each byte could be an LF. */
-#define ERGO_INDEX_BOUND(n) ((size_t)(n) + 1)
+/* Numbers enough for the line starts of every script of n bytes, as a uint64_t: each byte could be an LF. */
+#define ERGO_INDEX_BOUND(n) ((uint64_t)(n) + 1u)
 
 enum ergo_kind {
     ERGO_IDENT = 1,

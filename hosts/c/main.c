@@ -3,14 +3,15 @@
  * are printed without the script. With --place it prints the line and the column of a place in the script. hosts/build builds it. */
 #include "ergo_token.h"
 
-#include <inttypes.h>
 #include <stdio.h>
 #include <stdlib.h>
 #include <string.h>
 
-static uint64_t number(const uint8_t *at, unsigned bytes)
+typedef unsigned long long wide; /* has all numbers of 8 bytes, and a format of printf in every C library */
+
+static wide number(const uint8_t *at, unsigned bytes)
 {
-    uint64_t value = 0;
+    wide value = 0;
     while (bytes-- > 0)
         value = value << 8 | at[bytes];
     return value;
@@ -51,15 +52,15 @@ static uint8_t *read_file(const char *path, size_t most, size_t *n)
     return bytes;
 }
 
-static void print_token(uint64_t kind, uint64_t start, uint64_t end, uint64_t cut, const uint8_t *values)
+static void print_token(wide kind, wide start, wide end, wide cut, const uint8_t *values)
 {
-    printf("%" PRIu64 " %" PRIu64 " %" PRIu64 " %" PRIu64, kind, start, end, cut);
+    printf("%llu %llu %llu %llu", kind, start, end, cut);
     if (kind == ERGO_INT_LIT)
-        printf(" %" PRIu64, number(values, 4));
+        printf(" %llu", number(values, 4));
     if (kind == ERGO_LONG_LIT)
-        printf(" %" PRIu64, number(values, 8));
+        printf(" %llu", number(values, 8));
     if (kind == ERGO_STR)
-        printf(" %" PRIu64 " %" PRIu64, number(values, 4), number(values + 4, 4));
+        printf(" %llu %llu", number(values, 4), number(values + 4, 4));
     if (kind == ERGO_NEWLINE)
         printf(" %u", values[0]);
     putchar('\n');
@@ -67,7 +68,7 @@ static void print_token(uint64_t kind, uint64_t start, uint64_t end, uint64_t cu
 
 static int refused(FILE *out, const uint8_t *answer)
 {
-    fprintf(out, "refused %" PRIu64 " at %" PRIu64 "\n", number(answer + ERGO_ANSWER_AT_NUMBER, 4), number(answer + ERGO_ANSWER_AT_PLACE, 4));
+    fprintf(out, "refused %llu at %llu\n", number(answer + ERGO_ANSWER_AT_NUMBER, 4), number(answer + ERGO_ANSWER_AT_PLACE, 4));
     return 1;
 }
 
@@ -77,7 +78,7 @@ static int print_tokens(const uint8_t *script, size_t n, const uint8_t *records,
     size_t at;
     for (at = 0; at < bytes; at += (size_t)number(records + at + ERGO_AT_LENGTH, 2)) {
         const uint8_t *record = records + at;
-        uint64_t start = number(record + ERGO_AT_START, 4), end = number(record + ERGO_AT_END, 4);
+        wide start = number(record + ERGO_AT_START, 4), end = number(record + ERGO_AT_END, 4);
         print_token(number(record + ERGO_AT_KIND, 2), start, end, record[ERGO_AT_CUT], record + ERGO_RECORD_HEAD);
         if (ergo_token_text(script, n, (uint32_t)start, (uint32_t)end) != 0) {
             fprintf(stderr, "a record without a text\n");
@@ -108,9 +109,9 @@ static int show_contact(const char *path)
 /* The record bytes that a block of measuring tells: the need that its counts come to. */
 static size_t need_of(const uint8_t *block)
 {
-    uint64_t tokens = number(block + ERGO_ANSWER_AT_COUNT, 4);
-    uint64_t int_lits = number(block + ERGO_MEASURE_AT_INT_LITS, 4), long_lits = number(block + ERGO_MEASURE_AT_LONG_LITS, 4);
-    uint64_t strs = number(block + ERGO_MEASURE_AT_STRS, 4), newlines = number(block + ERGO_MEASURE_AT_NEWLINES, 4);
+    wide tokens = number(block + ERGO_ANSWER_AT_COUNT, 4);
+    wide int_lits = number(block + ERGO_MEASURE_AT_INT_LITS, 4), long_lits = number(block + ERGO_MEASURE_AT_LONG_LITS, 4);
+    wide strs = number(block + ERGO_MEASURE_AT_STRS, 4), newlines = number(block + ERGO_MEASURE_AT_NEWLINES, 4);
     size_t bytes = (size_t)number(block + ERGO_ANSWER_AT_RECORD_BYTES, 4);
     if (bytes != ERGO_NEED(tokens, int_lits, long_lits, strs, newlines)) {
         fprintf(stderr, "the counts do not add up to the record bytes\n");
@@ -142,7 +143,7 @@ static int show_script(const char *path, int as_records)
         fail("records");
     refusal = ergo_tokenize(script, n, records, bytes, answer, sizeof answer);
     if (refusal != ERGO_ACCEPTED) {
-        fprintf(stderr, "refused %" PRIu32 " after measuring\n", refusal);
+        fprintf(stderr, "refused %llu after measuring\n", (wide)refusal);
         return 2;
     }
     if (as_records && fwrite(records, 1, bytes, stdout) != bytes)
@@ -154,8 +155,12 @@ static int show_script(const char *path, int as_records)
     return status;
 }
 
-/* So many bytes of a roll are read: one more than can be read in steps. Where size_t has 32 bits, no roll is too long for that. */
-#define ROLL_BYTES (SIZE_MAX > UINT32_MAX ? (size_t)UINT32_MAX + 1 : SIZE_MAX)
+/* A roll of so many bytes is too long: it can't be read in steps, or, where addresses have 32 bits, not be lent. */
+#if SIZE_MAX > UINT32_MAX
+#define ROLL_BYTES ((size_t)UINT32_MAX + 1)
+#else
+#define ROLL_BYTES ((size_t)INT32_MAX + 1)
+#endif
 
 /* Prints the tokens of a roll. */
 static int show_roll(const char *path)
@@ -163,11 +168,11 @@ static int show_roll(const char *path)
     uint8_t answer[ERGO_ANSWER_BYTES], token[ERGO_STEP_BYTES];
     uint8_t *roll;
     size_t n;
-    uint64_t kind = 0, count, seen = 0;
+    wide kind = 0, count, seen = 0;
     uint32_t at = 0, previous = 0;
 
     roll = read_file(path, ROLL_BYTES, &n);
-    if (n > UINT32_MAX) {
+    if (n == ROLL_BYTES) {
         fprintf(stderr, "%s: too long to be read in steps\n", path);
         return 2;
     }
@@ -181,7 +186,7 @@ static int show_roll(const char *path)
     while (kind != ERGO_EOF) {
         uint32_t refusal = ergo_read_record(roll, n, at, previous, token, sizeof token);
         if (refusal != ERGO_ACCEPTED) {
-            fprintf(stderr, "refused %" PRIu32 " after the whole roll was read\n", refusal);
+            fprintf(stderr, "refused %llu after the whole roll was read\n", (wide)refusal);
             return 2;
         }
         kind = number(token + ERGO_STEP_AT_KIND, 4);
@@ -192,7 +197,7 @@ static int show_roll(const char *path)
     }
     free(roll);
     if (seen != count || at != n) {
-        fprintf(stderr, "%" PRIu64 " tokens up to %" PRIu32 ", where %" PRIu64 " were counted\n", seen, at, count);
+        fprintf(stderr, "%llu tokens up to %llu, where %llu were counted\n", seen, (wide)at, count);
         return 2;
     }
     return 0;
@@ -216,12 +221,12 @@ static int show_place(const char *path, uint32_t place)
         return refused(stdout, answer);
     }
     lines = (size_t)number(answer + ERGO_ANSWER_AT_LINES, 4);
-    index = malloc(lines * sizeof *index);
+    index = malloc(lines * sizeof *index); /* at most ERGO_SCRIPT_LIMIT + 1 lines: their bytes fit a size_t of 32 bits */
     if (index == NULL)
         fail("index");
     refusal = ergo_index_lines(script, n, index, lines, answer, sizeof answer);
     if (refusal != ERGO_ACCEPTED) {
-        fprintf(stderr, "refused %" PRIu32 " after the lines were counted\n", refusal);
+        fprintf(stderr, "refused %llu after the lines were counted\n", (wide)refusal);
         return 2;
     }
     refusal = ergo_line_column(script, n, index, lines, place, answer, sizeof answer);
@@ -229,17 +234,17 @@ static int show_place(const char *path, uint32_t place)
     free(script);
     if (refusal != ERGO_ACCEPTED)
         return refused(stdout, answer);
-    printf("line %" PRIu64 " column %" PRIu64 "\n", number(answer + ERGO_ANSWER_AT_LINE, 4), number(answer + ERGO_ANSWER_AT_COLUMN, 4));
+    printf("line %llu column %llu\n", number(answer + ERGO_ANSWER_AT_LINE, 4), number(answer + ERGO_ANSWER_AT_COLUMN, 4));
     return 0;
 }
 
 /* Reads a place, decimal digits and a number of 4 bytes: whether it is one. */
 static int read_place(const char *text, uint32_t *place)
 {
-    uint64_t value = 0;
+    wide value = 0;
     const char *at;
     for (at = text; *at >= '0' && *at <= '9' && value <= UINT32_MAX; at++)
-        value = 10 * value + (uint64_t)(*at - '0');
+        value = 10 * value + (wide)(*at - '0');
     *place = (uint32_t)value;
     return at != text && *at == '\0' && value <= UINT32_MAX;
 }

@@ -8,20 +8,25 @@ use std::path::Path;
 mod ergo {
     #[link(name = "ergo", kind = "static")]
     extern "C" {
-        fn ergo_tokenize(script: *const u8, n: usize, records: *mut u8, m: usize, answer: *mut u8, k: usize) -> u32;
-        fn ergo_tokenize_contact(script: *const u8, n: usize, records: *mut u8, m: usize, answer: *mut u8, k: usize) -> u32;
-        fn ergo_measure(script: *const u8, n: usize, answer: *mut u8, k: usize) -> u32;
-        fn ergo_token_text(script: *const u8, n: usize, start: u32, end: u32) -> u32;
-        fn ergo_read_roll(roll: *const u8, n: usize, answer: *mut u8, k: usize) -> u32;
-        fn ergo_read_record(roll: *const u8, n: usize, at: u32, previous: u32, answer: *mut u8, k: usize) -> u32;
-        fn ergo_index_lines(script: *const u8, n: usize, index: *mut u32, m: usize, answer: *mut u8, k: usize) -> u32;
-        fn ergo_line_column(script: *const u8, n: usize, index: *const u32, m: usize, place: u32, answer: *mut u8, k: usize) -> u32;
+        fn ergo_tokenize(script: *const u8, n: u64, records: *mut u8, m: u64, answer: *mut u8, k: u64) -> u32;
+        fn ergo_tokenize_contact(script: *const u8, n: u64, records: *mut u8, m: u64, answer: *mut u8, k: u64) -> u32;
+        fn ergo_measure(script: *const u8, n: u64, answer: *mut u8, k: u64) -> u32;
+        fn ergo_token_text(script: *const u8, n: u64, start: u32, end: u32) -> u32;
+        fn ergo_read_roll(roll: *const u8, n: u64, answer: *mut u8, k: u64) -> u32;
+        fn ergo_read_record(roll: *const u8, n: u64, at: u32, previous: u32, answer: *mut u8, k: u64) -> u32;
+        fn ergo_index_lines(script: *const u8, n: u64, index: *mut u32, m: u64, answer: *mut u8, k: u64) -> u32;
+        fn ergo_line_column(script: *const u8, n: u64, index: *const u32, m: u64, place: u32, answer: *mut u8, k: u64) -> u32;
     }
 
     // A refusal, by its number and its place.
     pub struct Refused {
         pub number: u32,
         pub place: u32,
+    }
+
+    // A length as the functions take it: with 64 bits on every processor.
+    fn length<T>(part: &[T]) -> u64 {
+        part.len() as u64
     }
 
     // A number of an answer block.
@@ -32,7 +37,7 @@ mod ergo {
     // How many bytes the records of a script take.
     fn measure(script: &[u8]) -> Result<usize, Refused> {
         let mut answer = [0u8; 32];
-        match unsafe { ergo_measure(script.as_ptr(), script.len(), answer.as_mut_ptr(), answer.len()) } {
+        match unsafe { ergo_measure(script.as_ptr(), length(script), answer.as_mut_ptr(), length(&answer)) } {
             0 => Ok(word(&answer, 12) as usize),
             number => Err(Refused { number, place: word(&answer, 4) }),
         }
@@ -43,7 +48,7 @@ mod ergo {
         let mut records = vec![0; measure(script)?];
         let mut answer = [0u8; 16];
         let (r, a) = (records.as_mut_ptr(), answer.as_mut_ptr());
-        match unsafe { ergo_tokenize(script.as_ptr(), script.len(), r, records.len(), a, answer.len()) } {
+        match unsafe { ergo_tokenize(script.as_ptr(), length(script), r, length(&records), a, length(&answer)) } {
             0 => Ok(records),
             number => super::fail(&format!("refused {number} after measuring")),
         }
@@ -57,7 +62,7 @@ mod ergo {
         let mut records = vec![0; CONTACT_RECORDS];
         let mut answer = [0u8; 16];
         let (r, a) = (records.as_mut_ptr(), answer.as_mut_ptr());
-        match unsafe { ergo_tokenize_contact(script.as_ptr(), script.len(), r, records.len(), a, answer.len()) } {
+        match unsafe { ergo_tokenize_contact(script.as_ptr(), length(script), r, length(&records), a, length(&answer)) } {
             0 => {
                 records.truncate(word(&answer, 12) as usize);
                 Ok(records)
@@ -68,7 +73,7 @@ mod ergo {
 
     // The text of a token, or nothing where the places are none of this script's.
     pub fn text(script: &[u8], start: u32, end: u32) -> Option<&[u8]> {
-        let good = unsafe { ergo_token_text(script.as_ptr(), script.len(), start, end) } == 0;
+        let good = unsafe { ergo_token_text(script.as_ptr(), length(script), start, end) } == 0;
         if good {
             Some(&script[start as usize..end as usize])
         } else {
@@ -89,7 +94,7 @@ mod ergo {
     // The token count of a roll, or why it can't be read.
     pub fn read_roll(roll: &[u8]) -> Result<u32, Refused> {
         let mut answer = [0u8; 16];
-        match unsafe { ergo_read_roll(roll.as_ptr(), roll.len(), answer.as_mut_ptr(), answer.len()) } {
+        match unsafe { ergo_read_roll(roll.as_ptr(), length(roll), answer.as_mut_ptr(), length(&answer)) } {
             0 => Ok(word(&answer, 8)),
             number => Err(Refused { number, place: word(&answer, 4) }),
         }
@@ -98,7 +103,7 @@ mod ergo {
     // The token of the record at an offset, where the one before it ends at `previous`.
     pub fn read_record(roll: &[u8], at: u32, previous: u32) -> Result<Held, Refused> {
         let mut answer = [0u8; 40];
-        match unsafe { ergo_read_record(roll.as_ptr(), roll.len(), at, previous, answer.as_mut_ptr(), answer.len()) } {
+        match unsafe { ergo_read_record(roll.as_ptr(), length(roll), at, previous, answer.as_mut_ptr(), length(&answer)) } {
             0 => Ok(Held {
                 kind: word(&answer, 8),
                 start: word(&answer, 12),
@@ -115,7 +120,7 @@ mod ergo {
     fn build(script: &[u8], index: &mut [u32]) -> (u32, u32, u32) {
         let mut answer = [0u8; 16];
         let (i, a) = (index.as_mut_ptr(), answer.as_mut_ptr());
-        let number = unsafe { ergo_index_lines(script.as_ptr(), script.len(), i, index.len(), a, answer.len()) };
+        let number = unsafe { ergo_index_lines(script.as_ptr(), length(script), i, length(index), a, length(&answer)) };
         (number, word(&answer, 4), word(&answer, 8))
     }
 
@@ -136,7 +141,7 @@ mod ergo {
     pub fn line_column(script: &[u8], index: &[u32], place: u32) -> Result<(u32, u32), Refused> {
         let mut answer = [0u8; 16];
         let (i, a) = (index.as_ptr(), answer.as_mut_ptr());
-        match unsafe { ergo_line_column(script.as_ptr(), script.len(), i, index.len(), place, a, answer.len()) } {
+        match unsafe { ergo_line_column(script.as_ptr(), length(script), i, length(index), place, a, length(&answer)) } {
             0 => Ok((word(&answer, 8), word(&answer, 12))),
             number => Err(Refused { number, place: word(&answer, 4) }),
         }

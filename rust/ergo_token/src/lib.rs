@@ -29,6 +29,7 @@
 //! nothing is kept between calls. The library is proved; this wrapper is not.
 
 use std::iter::FusedIterator;
+use sys::length;
 
 mod lines;
 mod refusal;
@@ -70,21 +71,27 @@ pub const NEWLINE_LENGTH: usize = RECORD_HEAD + 1;
 /// One byte of script costs at most so many bytes of records: those of an [`IntLit`](TokenKind::IntLit).
 pub const RECORD_PER_BYTE: usize = INT_LIT_LENGTH;
 
-/// Bytes enough for the records of every script of `n` bytes.
+/// Bytes enough for the records of every script of `n` bytes. It never wraps: where that is more than a `usize` holds it is the largest one. With 32
+/// bits, too, no script of at most [`SCRIPT_LIMIT`] bytes comes near that.
 pub const fn record_bound(n: usize) -> usize {
     RECORD_PER_BYTE.saturating_mul(n).saturating_add(RECORD_HEAD)
 }
 
 mod sys {
+    // The library takes a length in 64 bits on every processor, whatever usize has there.
+    pub fn length<T>(part: &[T]) -> u64 {
+        part.len() as u64
+    }
+
     #[link(name = "ergo", kind = "static")]
     extern "C" {
-        pub fn ergo_tokenize(script: *const u8, n: usize, records: *mut u8, m: usize, answer: *mut u8, k: usize) -> u32;
-        pub fn ergo_tokenize_contact(script: *const u8, n: usize, records: *mut u8, m: usize, answer: *mut u8, k: usize) -> u32;
-        pub fn ergo_measure(script: *const u8, n: usize, answer: *mut u8, k: usize) -> u32;
-        pub fn ergo_token_text(script: *const u8, n: usize, start: u32, end: u32) -> u32;
-        pub fn ergo_read_roll(roll: *const u8, n: usize, answer: *mut u8, k: usize) -> u32;
-        pub fn ergo_index_lines(script: *const u8, n: usize, index: *mut u32, m: usize, answer: *mut u8, k: usize) -> u32;
-        pub fn ergo_line_column(script: *const u8, n: usize, index: *const u32, m: usize, place: u32, answer: *mut u8, k: usize) -> u32;
+        pub fn ergo_tokenize(script: *const u8, n: u64, records: *mut u8, m: u64, answer: *mut u8, k: u64) -> u32;
+        pub fn ergo_tokenize_contact(script: *const u8, n: u64, records: *mut u8, m: u64, answer: *mut u8, k: u64) -> u32;
+        pub fn ergo_measure(script: *const u8, n: u64, answer: *mut u8, k: u64) -> u32;
+        pub fn ergo_token_text(script: *const u8, n: u64, start: u32, end: u32) -> u32;
+        pub fn ergo_read_roll(roll: *const u8, n: u64, answer: *mut u8, k: u64) -> u32;
+        pub fn ergo_index_lines(script: *const u8, n: u64, index: *mut u32, m: u64, answer: *mut u8, k: u64) -> u32;
+        pub fn ergo_line_column(script: *const u8, n: u64, index: *const u32, m: u64, place: u32, answer: *mut u8, k: u64) -> u32;
     }
 }
 
@@ -126,13 +133,14 @@ fn answered(answer: [u8; 16]) -> (u32, Size) {
 }
 
 // A function that tokenizes.
-type Entry = unsafe extern "C" fn(*const u8, usize, *mut u8, usize, *mut u8, usize) -> u32;
+type Entry = unsafe extern "C" fn(*const u8, u64, *mut u8, u64, *mut u8, u64) -> u32;
 
 // One call: the number handed back, the place, and the size.
 fn call(entry: Entry, script: &[u8], records: &mut [u8]) -> (u32, u32, Size) {
     let mut answer = [0u8; 16];
+    let (n, m, k) = (length(script), length(records), length(&answer));
     // SAFETY: the three slices are valid for their lengths, and the two that are lent for writing are borrowed for it, so none overlap.
-    let number = unsafe { entry(script.as_ptr(), script.len(), records.as_mut_ptr(), records.len(), answer.as_mut_ptr(), answer.len()) };
+    let number = unsafe { entry(script.as_ptr(), n, records.as_mut_ptr(), m, answer.as_mut_ptr(), k) };
     let (place, size) = answered(answer);
     (number, place, size)
 }
@@ -151,7 +159,7 @@ fn call(entry: Entry, script: &[u8], records: &mut [u8]) -> (u32, u32, Size) {
 pub fn measure(script: &[u8]) -> Result<Need, Refusal> {
     let mut answer = [0u8; 32];
     // SAFETY: both slices are valid for their lengths, and the one that is lent for writing is borrowed for it, so they don't overlap.
-    let number = unsafe { sys::ergo_measure(script.as_ptr(), script.len(), answer.as_mut_ptr(), answer.len()) };
+    let number = unsafe { sys::ergo_measure(script.as_ptr(), length(script), answer.as_mut_ptr(), length(&answer)) };
     let at = |at| word(&answer, at);
     match number {
         0 => Ok(Need { count: at(8), bytes: at(12), int_lits: at(16), long_lits: at(20), strs: at(24), newlines: at(28) }),
@@ -204,7 +212,7 @@ pub fn tokenize_contact(script: &[u8]) -> Result<Tokens<'_>, Refusal> {
 /// [`shown`] makes a text of any other script safe to print.
 pub fn token_text(script: &[u8], start: u32, end: u32) -> Result<&[u8], Refusal> {
     // SAFETY: the slice is valid for its length, and only read.
-    let number = unsafe { sys::ergo_token_text(script.as_ptr(), script.len(), start, end) };
+    let number = unsafe { sys::ergo_token_text(script.as_ptr(), length(script), start, end) };
     match (number, script.get(start as usize..end as usize)) {
         (0, Some(text)) => Ok(text),
         _ => Err(Refusal { number: 21, place: 0 }),

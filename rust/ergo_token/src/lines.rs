@@ -1,4 +1,5 @@
-use crate::{sys, word, Refusal};
+use crate::sys::{self, length};
+use crate::{word, Refusal};
 use std::fmt;
 
 /// A line and a column, both from 1; the column counts characters.
@@ -27,8 +28,9 @@ pub fn position(script: &[u8], place: u32) -> Result<Position, Refusal> {
 // Builds an index: the number handed back, the place, and the number of lines.
 fn build(script: &[u8], index: &mut [u32]) -> (u32, u32, u32) {
     let mut answer = [0u8; 16];
+    let (n, m, k) = (length(script), length(index), length(&answer));
     // SAFETY: the three slices are valid for their lengths, and the two that are lent for writing are borrowed for it, so none overlap.
-    let number = unsafe { sys::ergo_index_lines(script.as_ptr(), script.len(), index.as_mut_ptr(), index.len(), answer.as_mut_ptr(), answer.len()) };
+    let number = unsafe { sys::ergo_index_lines(script.as_ptr(), n, index.as_mut_ptr(), m, answer.as_mut_ptr(), k) };
     (number, word(&answer, 4), word(&answer, 8))
 }
 
@@ -84,9 +86,9 @@ impl<'s> Lines<'s> {
     pub fn position(&self, place: u32) -> Result<Position, Refusal> {
         let (script, starts) = (self.script, &self.starts);
         let mut answer = [0u8; 16];
-        let (a, k) = (answer.as_mut_ptr(), answer.len());
+        let (n, m, k) = (length(script), length(starts), length(&answer));
         // SAFETY: the three slices are valid for their lengths, and the one that is lent for writing is borrowed for it, so it overlaps none.
-        let number = unsafe { sys::ergo_line_column(script.as_ptr(), script.len(), starts.as_ptr(), starts.len(), place, a, k) };
+        let number = unsafe { sys::ergo_line_column(script.as_ptr(), n, starts.as_ptr(), m, place, answer.as_mut_ptr(), k) };
         match number {
             0 => Ok(Position { line: word(&answer, 8) as usize, column: word(&answer, 12) as usize }),
             number => Err(Refusal { number, place: word(&answer, 4) }),

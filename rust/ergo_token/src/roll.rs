@@ -1,4 +1,5 @@
-use crate::{answered, sys, Record, Records, Refusal};
+use crate::sys::{self, length};
+use crate::{answered, Record, Records, Refusal};
 
 /// A stored roll: the records of one script, read back without it.
 ///
@@ -27,7 +28,7 @@ impl<'r> Roll<'r> {
     pub fn read(records: &'r [u8]) -> Result<Roll<'r>, Refusal> {
         let mut answer = [0u8; 16];
         // SAFETY: both slices are valid for their lengths, and the one that is lent for writing is borrowed for it, so they don't overlap.
-        let number = unsafe { sys::ergo_read_roll(records.as_ptr(), records.len(), answer.as_mut_ptr(), answer.len()) };
+        let number = unsafe { sys::ergo_read_roll(records.as_ptr(), length(records), answer.as_mut_ptr(), length(&answer)) };
         match (number, answered(answer)) {
             (0, (_, size)) => Ok(Roll { records, count: size.count }),
             (number, (place, _)) => Err(Refusal { number, place }),

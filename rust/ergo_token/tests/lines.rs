@@ -4,8 +4,8 @@ use ergo_token::{position, tokenize, view, Lines, Position, Refusal, SCRIPT_LIMI
 
 // The wrapper links the library that has these two.
 extern "C" {
-    fn ergo_index_lines(script: *const u8, n: usize, index: *mut u32, m: usize, answer: *mut u8, k: usize) -> u32;
-    fn ergo_line_column(script: *const u8, n: usize, index: *const u32, m: usize, place: u32, answer: *mut u8, k: usize) -> u32;
+    fn ergo_index_lines(script: *const u8, n: u64, index: *mut u32, m: u64, answer: *mut u8, k: u64) -> u32;
+    fn ergo_line_column(script: *const u8, n: u64, index: *const u32, m: u64, place: u32, answer: *mut u8, k: u64) -> u32;
 }
 
 // What the library must not change.
@@ -24,13 +24,15 @@ fn block(words: [u32; 4]) -> Vec<u8> {
 // The number handed back and the block, of so many bytes.
 fn build(script: &[u8], index: &mut [u32], bytes: usize) -> (u32, Vec<u8>) {
     let mut answer = vec![BYTE; bytes];
-    let number = unsafe { ergo_index_lines(script.as_ptr(), script.len(), index.as_mut_ptr(), index.len(), answer.as_mut_ptr(), bytes) };
+    let (n, m, k) = (script.len() as u64, index.len() as u64, bytes as u64);
+    let number = unsafe { ergo_index_lines(script.as_ptr(), n, index.as_mut_ptr(), m, answer.as_mut_ptr(), k) };
     (number, answer)
 }
 
 fn query(script: &[u8], index: &[u32], place: u32, bytes: usize) -> (u32, Vec<u8>) {
     let mut answer = vec![BYTE; bytes];
-    let number = unsafe { ergo_line_column(script.as_ptr(), script.len(), index.as_ptr(), index.len(), place, answer.as_mut_ptr(), bytes) };
+    let (n, m, k) = (script.len() as u64, index.len() as u64, bytes as u64);
+    let number = unsafe { ergo_line_column(script.as_ptr(), n, index.as_ptr(), m, place, answer.as_mut_ptr(), k) };
     (number, answer)
 }
 

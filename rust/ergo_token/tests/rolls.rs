@@ -6,8 +6,8 @@ use std::iter::FusedIterator;
 
 // The wrapper links the library that has these two.
 extern "C" {
-    fn ergo_read_roll(roll: *const u8, n: usize, answer: *mut u8, k: usize) -> u32;
-    fn ergo_read_record(roll: *const u8, n: usize, at: u32, previous: u32, answer: *mut u8, k: usize) -> u32;
+    fn ergo_read_roll(roll: *const u8, n: u64, answer: *mut u8, k: u64) -> u32;
+    fn ergo_read_record(roll: *const u8, n: u64, at: u32, previous: u32, answer: *mut u8, k: u64) -> u32;
 }
 
 const SCRIPTS: [&str; 9] = [
@@ -106,7 +106,7 @@ fn written(record: Record) -> Vec<u8> {
 // The block of ergo_read_record, as ten numbers: the last two are the values.
 fn step(roll: &[u8], at: u32, previous: u32) -> [u32; 10] {
     let mut answer = [0xAA; 40];
-    let handed = unsafe { ergo_read_record(roll.as_ptr(), roll.len(), at, previous, answer.as_mut_ptr(), answer.len()) };
+    let handed = unsafe { ergo_read_record(roll.as_ptr(), roll.len() as u64, at, previous, answer.as_mut_ptr(), 40) };
     let mut block = [0; 10];
     for (word, bytes) in block.iter_mut().zip(answer.chunks_exact(4)) {
         *word = number(bytes) as u32;
@@ -449,18 +449,18 @@ fn blocks_of_other_lengths() {
     let roll = roll_of("a");
     for length in 0..=48 {
         let mut answer = vec![0xAA; length];
-        let whole = unsafe { ergo_read_roll(roll.as_ptr(), roll.len(), answer.as_mut_ptr(), answer.len()) };
+        let whole = unsafe { ergo_read_roll(roll.as_ptr(), roll.len() as u64, answer.as_mut_ptr(), length as u64) };
         assert_eq!(whole, if length == 16 { 0 } else { 20 });
         let wanted = if length == 16 { [0, 0, 0, 0, 0, 0, 0, 0, 2, 0, 0, 0, 26, 0, 0, 0].to_vec() } else { vec![0xAA; length] };
         assert_eq!(answer, wanted);
         let mut answer = vec![0xAA; length];
-        let one = unsafe { ergo_read_record(roll.as_ptr(), roll.len(), 0, 0, answer.as_mut_ptr(), answer.len()) };
+        let one = unsafe { ergo_read_record(roll.as_ptr(), roll.len() as u64, 0, 0, answer.as_mut_ptr(), length as u64) };
         assert_eq!(one, if length == 40 { 0 } else { 20 });
         assert!(length == 40 || answer == vec![0xAA; length]);
     }
     // On a refusal count and bytes are 0.
     let mut answer = [0xAA; 16];
-    let number = unsafe { ergo_read_roll(roll.as_ptr(), 20, answer.as_mut_ptr(), answer.len()) };
+    let number = unsafe { ergo_read_roll(roll.as_ptr(), 20, answer.as_mut_ptr(), 16) };
     assert_eq!((number, answer), (22, [22, 0, 0, 0, 13, 0, 0, 0, 0, 0, 0, 0, 0, 0, 0, 0]));
 }
 

@@ -8,7 +8,7 @@ use ergo_token::{INT_LIT_LENGTH, LONG_LIT_LENGTH, NEWLINE_LENGTH, RECORD_HEAD, S
 
 // The wrapper links the library that has this.
 extern "C" {
-    fn ergo_measure(script: *const u8, n: usize, answer: *mut u8, k: usize) -> u32;
+    fn ergo_measure(script: *const u8, n: u64, answer: *mut u8, k: u64) -> u32;
 }
 
 // What the library must not change.
@@ -40,7 +40,7 @@ fn counted(script: &[u8]) -> Result<Need, Refusal> {
 // The number handed back by measuring and the block, of so many bytes.
 fn block(script: &[u8], k: usize) -> (u32, Vec<u8>) {
     let mut answer = vec![BYTE; k];
-    let number = unsafe { ergo_measure(script.as_ptr(), script.len(), answer.as_mut_ptr(), k) };
+    let number = unsafe { ergo_measure(script.as_ptr(), script.len() as u64, answer.as_mut_ptr(), k as u64) };
     (number, answer)
 }
 
