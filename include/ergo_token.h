@@ -4,9 +4,9 @@
  * library allocates nothing, and calls nothing but memmove and memset, which the compiler puts in; a host without a C library must have these two. It
  * keeps nothing between calls: calls from several threads at once are fine as long as no two of them lend the same bytes for writing.
  *
- * All lengths are uint64_t on every processor, since the functions that are proved take 64 bits for a length wherever they run. So they do where
- * size_t has 32 bits, and there no linker tells that a host passes too few: a host that declares the functions itself must have uint64_t too. Where
- * addresses have 32 bits, each part of memory that is lent has less than 2^31 bytes.
+ * All lengths are uint64_t on every processor: the functions that are proved take 64 bits for a length wherever they run. size_t has 32 on some, and
+ * no linker tells that a host passes too few; so a host that declares the functions itself must have uint64_t too. Where addresses have 32 bits, each
+ * part of memory that is lent must have less than 2^31 bytes.
  *
  * All places are byte offsets from 0: those of tokens and of refusals 1 to 18 and 29 into the script, those of refusals 22 to 24 into the roll.
  * All numbers in records and answer blocks are unsigned and little-endian. Those of an index of line starts are uint32_t, in the machine's own
