@@ -1,6 +1,6 @@
 /* ErgoScript tokens as records: the eight functions of crates/ergo, for C and C++. `rt lib`, in that folder, makes the library,
  * crates/ergo/out/libergo.a, for Linux on x86-64 processors of level v2 (SSE4.2). `device/build TARGET` makes it for other processors; docs/DEVICE.md
- * says for which. Tokenizing takes at most some 9 kB of stack, measuring some 350 bytes, reading stored records some 200, lines and columns less. The
+ * says for which. Tokenizing takes at most some 9 kB of stack, measuring some 400 bytes, reading stored records some 200, lines and columns less. The
  * library allocates nothing, and calls nothing but memmove and memset, which the compiler puts in; a host without a C library must have these two. It
  * keeps nothing between calls: calls from several threads at once are fine as long as no two of them lend the same bytes for writing.
  *
