@@ -1,6 +1,7 @@
 /* The same list of answers on every target. All eight functions are asked of generated scripts, of their rolls, good, damaged and cut, and of lines and
  * places. Every number handed back, every block and every lent byte goes into a digest (FNV-1a of 64 bits), by value, so that nothing of the target
- * shows in it. Each part that is lent for writing stands between guard bytes, and those that a call changed are counted. */
+ * shows in it. Each part that is lent for writing stands between guard bytes, and those that a call changed are counted. No expression asks chance
+ * twice: compilers differ in which they do first. */
 #include "programs.h"
 
 #include <stddef.h>
@@ -239,11 +240,19 @@ static uint32_t some_record(const uint8_t *roll, uint32_t length)
 /* Reads the roll with one byte of one record changed, in its head or among its values. */
 static void read_damaged(uint8_t *roll, uint32_t length)
 {
-    uint8_t *damaged = roll + (below(2) == 0 ? some_record(roll, length) + below(ERGO_RECORD_HEAD) : below(length));
+    uint32_t at = below(2) == 0 ? some_record(roll, length) : below(length), more = below(ERGO_RECORD_HEAD);
+    uint8_t *damaged = roll + (at + more < length ? at + more : at);
     uint8_t was = *damaged;
     *damaged = below(2) == 0 ? (uint8_t)below(48) : (uint8_t)(was ^ 1u << below(8));
     read_whole(roll, length);
     *damaged = was;
+}
+
+/* Reads a record at any place, behind any end. */
+static void read_anywhere(const uint8_t *roll, uint32_t length)
+{
+    uint32_t at = below(length + 2), shorter = below(32), previous = chance() >> shorter;
+    read_record(roll, length, at, previous, ERGO_STEP_BYTES);
 }
 
 static void ask_rolls(uint32_t length)
@@ -254,7 +263,7 @@ static void ask_rolls(uint32_t length)
     read_damaged(roll, length);
     read_whole(roll, below(length));
     read_roll(roll, length + 1 + below(GUARD - 1), ERGO_ANSWER_BYTES); /* the guard bytes behind it are taken for records */
-    read_record(roll, length, below(length + 2), chance() >> below(32), ERGO_STEP_BYTES);
+    read_anywhere(roll, length);
     read_record(roll, length, some_record(roll, length), 0, ERGO_STEP_BYTES);
     if (below(8) == 0) {
         read_roll(roll, length, other_length());
@@ -309,7 +318,7 @@ static void spoil_index(uint32_t count)
 
 static void ask_lines(void)
 {
-    uint32_t lines, lent;
+    uint32_t lines, lent, fewer;
     index_lines(0, ERGO_ANSWER_BYTES);
     lines = four(block_area + GUARD + shift + ERGO_ANSWER_AT_LINES);
     index_lines(below(lines + 1), ERGO_ANSWER_BYTES);
@@ -319,7 +328,8 @@ static void ask_lines(void)
     lent = enough_numbers(lines);
     index_lines(lent, ERGO_ANSWER_BYTES);
     ask_places(lent);
-    line_column(below(lines + 1), below(script_length + 1), ERGO_ANSWER_BYTES);
+    fewer = below(lines + 1);
+    line_column(fewer, below(script_length + 1), ERGO_ANSWER_BYTES);
     line_column(lent, chance(), ERGO_ANSWER_BYTES);
     if (below(8) == 0)
         line_column(lent, 0, other_length());

@@ -1,4 +1,7 @@
-// Runs the programs against ergo.wasm as it is shipped, and prints their lines: node run.mjs ergo.wasm programs.wasm CRATES
+// Runs the programs against ergo.wasm, and prints their lines:
+//
+//     node run.mjs ergo.wasm programs.wasm CRATES    all but the stack; the lists are looked for in the folder CRATES
+//     node run.mjs ergo.wasm programs.wasm           the stack, of a module that exports its stack pointer
 //
 // The programs are a module of their own, which takes memory and functions from ergo.wasm. Their data stand from PROGRAMS on, and the lists behind them.
 import { readFileSync, writeSync } from 'node:fs';
@@ -36,10 +39,13 @@ function replay(name, by) {
   by(at, at + list.length);
 }
 
-programs.run_limit();
-replay('replay', programs.replay_scripts);
-replay('roll_replay', programs.replay_rolls);
-replay('line_replay', programs.replay_lines);
-programs.run_answers();
-if (stackPointer) programs.run_stack();
+if (crates) {
+  programs.run_limit();
+  replay('replay', programs.replay_scripts);
+  replay('roll_replay', programs.replay_rolls);
+  replay('line_replay', programs.replay_lines);
+  programs.run_answers();
+} else {
+  programs.run_stack();
+}
 writeSync(1, 'end\n');

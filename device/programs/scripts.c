@@ -156,6 +156,32 @@ static void add_odd(void)
     add_one_of(&odd);
 }
 
+static void add_any_of(const char *text, uint32_t count, uint32_t times)
+{
+    while (times-- > 0)
+        add((uint8_t)text[below(count)]);
+}
+
+/* Letters, signs and digits by chance, so that each of them comes. */
+static void add_any_piece(void)
+{
+    static const char letters[] = "abcdefghijklmnopqrstuvwxyzABCDEFGHIJKLMNOPQRSTUVWXYZ_$0123456789";
+    static const char signs[] = "!#%&*+-/:<=>?@\\^|~";
+    static const char digits[] = "0123456789";
+    uint32_t times = 1 + below(10);
+    switch (below(4)) {
+    case 0:
+        add_any_of(signs, sizeof signs - 1, 1 + times / 3);
+        break;
+    case 1:
+        add_any_of(digits, sizeof digits - 1, times);
+        break;
+    default:
+        add_any_of(letters, sizeof letters - 11, 1); /* no digit */
+        add_any_of(letters, sizeof letters - 1, times);
+    }
+}
+
 /* A character of any width: most of those that a class may have, and all others. */
 static void add_any_character(void)
 {
@@ -187,13 +213,15 @@ static int is_short_of(uint32_t aim)
     return length < aim && length < most;
 }
 
-/* Pieces, mostly with a blank between them, of a few kinds or of all; one in `odd` is an odd one, and none if that is 0. */
+/* Pieces, mostly with a blank between them, of a few kinds or of all and by chance; one in `odd` is an odd one, and none if that is 0. */
 static void add_mixture(uint32_t aim, uint32_t odd)
 {
     uint32_t kinds = below(4) == 0 ? 1 + below(3) : GOOD_COUNT, first = below(GOOD_COUNT);
     while (is_short_of(aim)) {
         if (odd != 0 && below(odd) == 0)
             add_odd();
+        else if (kinds == GOOD_COUNT && below(6) == 0)
+            add_any_piece();
         else
             add_one_of(&GOOD[(first + below(kinds)) % GOOD_COUNT]);
         if (below(4) != 0)

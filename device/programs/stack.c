@@ -9,12 +9,12 @@
 #define BRIEF 128u
 #define SHORT 512u
 
-enum function { TOKENIZE, TOKENIZE_SHORT, TOKENIZE_BRIEF, CONTACT, CONTACT_SHORT, CONTACT_BRIEF, MEASURE, TEXT, ROLL, RECORD, INDEX, PLACE, FUNCTIONS };
+enum function { TOKENIZE, TOKENIZE_SHORT, TOKENIZE_BRIEF, CONTACT, CONTACT_SHORT, CONTACT_BRIEF, MEASURE, TEXT, ROLL, RECORD, INDEX, PLACE, BELOW, FUNCTIONS };
 
 static const char *const NAMES[FUNCTIONS] = {
     "ergo_tokenize", "ergo_tokenize of at most 512 bytes", "ergo_tokenize of at most 128 bytes",
     "ergo_tokenize_contact", "ergo_tokenize_contact of at most 512 bytes", "ergo_tokenize_contact of at most 128 bytes",
-    "ergo_measure", "ergo_token_text", "ergo_read_roll", "ergo_read_record", "ergo_index_lines", "ergo_line_column"};
+    "ergo_measure", "ergo_token_text", "ergo_read_roll", "ergo_read_record", "ergo_index_lines", "ergo_line_column", "what is called below them"};
 
 static uint32_t depths[FUNCTIONS];
 
@@ -103,6 +103,86 @@ static APART void call_place(void)
     number = ergo_line_column(script, script_length, index_area, lent, place, block, ERGO_ANSWER_BYTES);
 }
 
+/* What the library calls in its turn: functions of mem.c, and those of the C compiler's own library for numbers that are wider than the processor's. */
+
+void *memset(void *to, int value, size_t n);
+void *memcpy(void *to, const void *from, size_t n);
+void *memmove(void *to, const void *from, size_t n);
+
+static volatile uint64_t wide = 0x123456789ABCDEFull, divisor = 10;
+static volatile uint32_t bits = 36;
+
+static APART void call_memset(void)
+{
+    NOTE_STACK_POINTER();
+    memset(block, 0, ERGO_STEP_BYTES);
+    number = 0;
+}
+
+static APART void call_memcpy(void)
+{
+    NOTE_STACK_POINTER();
+    memcpy(block, script, 16);
+    number = 0;
+}
+
+static APART void call_memmove(void)
+{
+    NOTE_STACK_POINTER();
+    memmove(block + 1, block, 16);
+    number = 0;
+}
+
+static APART void call_divide(void)
+{
+    uint64_t value = wide, by = divisor;
+    NOTE_STACK_POINTER();
+    wide = value / by + value % by;
+}
+
+static APART void call_multiply(void)
+{
+    uint64_t value = wide, by = divisor;
+    NOTE_STACK_POINTER();
+    wide = value * by;
+}
+
+static APART void call_shift(void)
+{
+    uint64_t value = wide;
+    uint32_t by = bits;
+    NOTE_STACK_POINTER();
+    wide = value >> by | value << (by - 30);
+}
+
+#if defined __arm__
+/* These call memset and memmove, so they go deepest of those in mem.c. */
+void __aeabi_memclr8(void *to, size_t n);
+void __aeabi_memset8(void *to, size_t n, int value);
+void __aeabi_memmove8(void *to, const void *from, size_t n);
+
+static APART void call_aeabi_memclr(void)
+{
+    NOTE_STACK_POINTER();
+    __aeabi_memclr8(block, ERGO_STEP_BYTES);
+    number = 0;
+}
+
+static APART void call_aeabi_memset(void)
+{
+    NOTE_STACK_POINTER();
+    __aeabi_memset8(block, ERGO_STEP_BYTES, 1);
+    number = 0;
+}
+
+static APART void call_aeabi_memmove(void)
+{
+    NOTE_STACK_POINTER();
+    __aeabi_memmove8(block + 8, block, 16);
+    number = 0;
+}
+#endif
+
 /* Painting. Both are put inside their caller, so that no frame of theirs lies where they paint. */
 
 static INSIDE void paint(volatile uint8_t *end)
@@ -190,6 +270,22 @@ static void note_script(void)
     note_places();
 }
 
+static void note_below(void)
+{
+    script = LONG_CONTACT;
+    note(BELOW, call_memset);
+    note(BELOW, call_memcpy);
+    note(BELOW, call_memmove);
+    note(BELOW, call_divide);
+    note(BELOW, call_multiply);
+    note(BELOW, call_shift);
+#if defined __arm__
+    note(BELOW, call_aeabi_memclr);
+    note(BELOW, call_aeabi_memset);
+    note(BELOW, call_aeabi_memmove);
+#endif
+}
+
 /* Texts that go deep: those that the readers of rare pieces read, and refusals behind much else. */
 static const char *const DEEP[] = {
     "'\xE2\x87\x92", "'\xE2\x87\x92 ", "'\xE2\x87\x92\xE2\x87\x92 ", "'\xE2\x88\x80/\xE2\x88\x83 ", "'\xE2\x87\x92//x\n", "'\xC3\xA9t\xC3\xA9 ",
@@ -238,6 +334,7 @@ void run_stack(void)
     note_deep(LONGEST);
     note_generated();
     note_long();
+    note_below();
     for (i = 0; i < FUNCTIONS; i++) {
         put("stack of ");
         put(NAMES[i]);

@@ -43,8 +43,19 @@ static void clear_bss(void)
         *to = 0;
 }
 
+/* Where there are registers for fractions, they are off at first, and a compiler may use them for copying. */
+static void use_all_registers(void)
+{
+#if defined __ARM_FP
+    volatile uint32_t *access = (volatile uint32_t *)0xE000ED88u;
+    *access |= 0xFu << 20;
+    __asm__ volatile("dsb\n\tisb" : : : "memory");
+#endif
+}
+
 void reset(void)
 {
+    use_all_registers();
     copy_data();
     clear_bss();
     run_all();
