@@ -201,14 +201,17 @@ static INSIDE uint32_t unpainted(const volatile uint8_t *end)
     return left;
 }
 
-/* The depth of one call. */
+/* The depth of one call. The lowest byte may lie above the stack pointer at the call, where that took nothing. */
 static APART uint32_t deepest(call *of)
 {
     uintptr_t here;
+    uint32_t all, above;
     STACK_POINTER(here);
     paint((volatile uint8_t *)here);
     of();
-    return unpainted((const volatile uint8_t *)here) - (uint32_t)(here - at_call);
+    all = unpainted((const volatile uint8_t *)here);
+    above = (uint32_t)(here - at_call);
+    return all > above ? all - above : 0;
 }
 
 static void note(enum function function, call *of)
