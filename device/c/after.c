@@ -16,10 +16,21 @@ static struct part written(void *bytes, u64 length)
     return part;
 }
 
+/* A place past the range of addresses of a script or roll would fall into another part. A script that is too long by the rules is refused before any
+ * place of it is looked at, but texts and rolls are read whatever their length. */
+static void check_length(u64 length)
+{
+    if (length > MOST_BYTES)
+        ERGO_TRAP();
+}
+
 /* A call, with its stack, which is empty at first. */
 static struct call call_of(u8 *stack, u32 bytes, struct part script, struct part lent, struct part answer)
 {
+    const u32 one = 1;
     struct call call;
+    if (*(const u8 *)&one != 1)
+        ERGO_TRAP(); /* a big-endian processor */
     call.tables = read_only(tables, sizeof tables);
     call.stack = written(stack, bytes);
     call.answer = answer;
@@ -59,6 +70,7 @@ uint32_t ergo_token_text(const uint8_t *script, uint64_t n, uint32_t start, uint
 {
     u8 stack[STACK_OF_ergo_token_text];
     struct call call = call_of(stack, sizeof stack, read_only(script, n), none(), none());
+    check_length(n);
     return module_ergo_token_text(&call, SCRIPT, n, start, end);
 }
 
@@ -66,6 +78,7 @@ uint32_t ergo_read_roll(const uint8_t *roll, uint64_t n, uint8_t *answer, uint64
 {
     u8 stack[STACK_OF_ergo_read_roll];
     struct call call = call_of(stack, sizeof stack, read_only(roll, n), none(), written(answer, k));
+    check_length(n);
     return module_ergo_read_roll(&call, SCRIPT, n, ANSWER, k);
 }
 
@@ -73,6 +86,7 @@ uint32_t ergo_read_record(const uint8_t *roll, uint64_t n, uint32_t at, uint32_t
 {
     u8 stack[STACK_OF_ergo_read_record];
     struct call call = call_of(stack, sizeof stack, read_only(roll, n), none(), written(answer, k));
+    check_length(n);
     return module_ergo_read_record(&call, SCRIPT, n, at, previous, ANSWER, k);
 }
 

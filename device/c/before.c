@@ -6,7 +6,8 @@
  * tables and its stack, which is an array of the exported function. Every access is held against the part that it falls into, so that nothing is read
  * or written outside of what was lent, whatever the module does. A script or roll may have 2^31 bytes at most, records and index 2^30.
  *
- * ERGO_TRAP, which may be defined otherwise, is what is done at an access to no part. The module, which is proved, makes none. */
+ * ERGO_TRAP, which may be defined otherwise, is what is done at an access to no part, and where a script or roll is longer; it must not return. The
+ * module, which is proved, makes no such access. */
 #include "ergo_token.h"
 
 #include <string.h>
@@ -35,6 +36,7 @@ typedef uint64_t u64;
 #define ANSWER 0x20000000u
 #define LENT 0x40000000u   /* records, or an index */
 #define SCRIPT 0x80000000u /* or a roll */
+#define MOST_BYTES 0x80000000u /* of a script or roll */
 
 struct part {
     const u8 *bytes;
