@@ -6,8 +6,8 @@
  * tables and its stack, which is an array of the exported function. Every access is held against the part that it falls into, so that nothing is read
  * or written outside of what was lent, whatever the module does. A script or roll may have 2^31 bytes at most, records and index 2^30.
  *
- * ERGO_TRAP, which may be defined otherwise, is what is done at an access to no part, and where a script or roll is longer; it must not return. The
- * module, which is proved, makes no such access. */
+ * ERGO_TRAP, which may be defined otherwise, is what is done at an access to no part, where a script or roll is longer, and on a big-endian
+ * processor; it must not return. The module, which is proved, makes no such access. */
 #include "ergo_token.h"
 
 #include <string.h>
