@@ -49,8 +49,9 @@ static int records_of(u64 length, u8 *answer)
 /* What is too long by a byte, and what is not. A block of another length is refused before a roll is read. */
 static int wrong_lengths(u8 *answer)
 {
-    return texts((u64)MOST_BYTES + 1, answer) + !texts(MOST_BYTES, answer) + rolls((u64)MOST_BYTES + 1, answer) + records_of((u64)MOST_BYTES + 1, answer) + !rolls(MOST_BYTES, answer)
-           + !records_of(MOST_BYTES, answer);
+    const u64 most = MOST_BYTES;
+    return texts(most + 1, answer) + rolls(most + 1, answer) + records_of(most + 1, answer) + !texts(most, answer) + !rolls(most, answer)
+           + !records_of(most, answer);
 }
 
 static int wrong_of(const struct call *call, u64 start, u32 length, int may_write)
