@@ -1,6 +1,6 @@
 // The cases that crates/listing_cases lists, and their listings by RULES, "Listing". A listing is written from the tokens of
 // the published tokenize, or from its error; no record bytes lie between.
-use super::{content, kind, marks, refusal, EXAMPLES};
+use super::{content, kind, marks, refusal, signs, EXAMPLES, WIDENED};
 use published::error::ParseError;
 use published::token::{tokenize, Token, TokenKind};
 use std::io::Write;
@@ -66,6 +66,23 @@ const BYTES: &[&[u8]] = &[&[0x61, 0xC0, 0x80], &[0x22, 0xE4, 0xB8], &[0x0D, 0xED
 const MARKED: &[&str] =
     &["\u{202A}", "x // \u{202E}y\n\u{1}", "\u{1} \"\u{2066}\u{2069}\"", "`\u{2029}\u{202F}` \"\u{2065}\u{206A}\" '\u{200E}' /* \u{200F}\u{61C} */"];
 
+// RULES, "Operator sign", and where it is used: what the table lets in, and what stays out.
+const SIGNS: &[&str] = &[
+    "a\u{2264}b \u{222A}",
+    "x_\u{222A} x_\u{20AC}",
+    "=\u{2264} \u{2264}// c",
+    "'\u{2264}' '\u{2264} '\u{2264}=",
+    "';\u{2264}",
+    "'\u{FFFC} \u{FFFD}",
+    "'\u{FFFC}'",
+    "\u{2044}\u{2044}a \u{2044}* b",
+    "x\u{24B6}+1 x_\u{24B6}",
+    "\u{2427}\u{2428}\u{2429}\u{31E4}\u{31E5}",
+    "\u{A9}\u{F7}\u{21D2}",
+    "\u{20AC}",
+    "\u{1F600}",
+];
+
 fn cases() -> Vec<Vec<u8>> {
     let texts = EXAMPLES.iter().chain(TRAPS).chain(KINDS);
     let mut list: Vec<Vec<u8>> = texts.map(|text| text.as_bytes().to_vec()).collect();
@@ -77,7 +94,14 @@ fn cases() -> Vec<Vec<u8>> {
     list.push(vec![0xFF; MOST_BYTES + 1]);
     list.extend(MARKED.iter().map(|text| text.as_bytes().to_vec()));
     list.push(["\u{202E}".as_bytes(), b"\xFF"].concat());
+    list.extend(SIGNS.iter().map(|text| text.as_bytes().to_vec()));
     list
+}
+
+// Those that this program judges, and how many another one lists before.
+fn judged() -> (usize, Vec<Vec<u8>>) {
+    let (mine, others): (Vec<_>, Vec<_>) = cases().into_iter().partition(|script| signs::is_judged(script));
+    (if WIDENED { others.len() } else { 0 }, mine)
 }
 
 fn values(text: &str, token: &Token) -> Vec<u64> {
@@ -120,7 +144,7 @@ fn listing(script: &[u8]) -> String {
 // The format is written in crates/listing_cases/src/main.rt.
 pub fn print_cases() {
     let mut out = Vec::new();
-    for script in cases() {
+    for script in judged().1 {
         out.extend(format!("{:04}\n", script.len()).into_bytes());
         out.extend(script);
     }
@@ -128,7 +152,8 @@ pub fn print_cases() {
 }
 
 pub fn print_listings() {
-    for (i, script) in cases().iter().enumerate() {
-        print!("-- {}\n{}", i + 1, listing(script));
+    let (before, scripts) = judged();
+    for (i, script) in scripts.iter().enumerate() {
+        print!("-- {}\n{}", before + i + 1, listing(script));
     }
 }

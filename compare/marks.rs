@@ -1,6 +1,7 @@
 // REQUESTS, "Direction marks": where a script has its first one, searched for over the characters of a str, and scripts that have marks and the
 // characters beside them, in each kind of piece and before and behind what other numbers refuse.
-use super::scripts::Random;
+#[cfg(linked)]
+use super::scripts::{self, Random};
 use super::{EXAMPLES, REFUSED};
 
 pub fn is_mark(c: char) -> bool {
@@ -181,20 +182,11 @@ pub fn three(number: u64) -> Vec<u8> {
     [before.as_bytes(), &three, behind.as_bytes()].concat()
 }
 
-// A copy with one to three of the characters put in, anywhere but inside a character. Into every other copy only neighbours.
+// A copy with one to three of the characters put in. Into every other copy only neighbours.
 #[cfg(linked)]
 pub fn marked(random: &mut Random, script: &[u8]) -> Vec<u8> {
-    let mut copy = script.to_vec();
     let first = if random.below(2) == 0 { MARKS } else { 0 };
-    for _ in 0..=random.below(3) {
-        let mut at = random.below(copy.len() + 1);
-        while copy.get(at).is_some_and(|byte| byte & 0xC0 == 0x80) {
-            at += 1;
-        }
-        let character = CHARACTERS[first + random.below(CHARACTERS.len() - first)];
-        copy.splice(at..at, character.bytes());
-    }
-    copy
+    scripts::put_in(random, script, 3, &CHARACTERS[first..])
 }
 
 // The characters are what they are called.

@@ -7,7 +7,7 @@ pub struct Alphabet {
     pub length: u32,
 }
 
-pub const ALPHABETS: [Alphabet; 17] = [
+pub const ALPHABETS: [Alphabet; 18] = [
     Alphabet { name: "quotes and escapes", pieces: &["\"", "\\", "u", "1", "F", "\n", "'", "]"], length: 7 },
     Alphabet { name: "quotes alone", pieces: &["\"", "a", "\\"], length: 12 },
     Alphabet { name: "slashes, stars and line ends", pieces: &["/", "*", "\n", "\r", " ", "\t", "a"], length: 7 },
@@ -55,6 +55,11 @@ pub const ALPHABETS: [Alphabet; 17] = [
     Alphabet {
         name: "direction marks and their neighbours",
         pieces: &["\u{202A}", "\u{2069}", "\u{2029}", "\u{202F}", "\u{206A}", "\"", "`", "'", "//", "/*", "*/", "\n"],
+        length: 5,
+    },
+    Alphabet {
+        name: "operator signs past ASCII",
+        pieces: &["\u{2264}", "\u{F7}", "\u{FFFC}", "\u{24B6}", "\u{21D2}", "=", "/", "*", "_", "a", "'", ";"],
         length: 5,
     },
 ];
@@ -271,6 +276,19 @@ pub fn contract(random: &mut Random, length: usize) -> Vec<u8> {
         }
     }
     text.into_bytes()
+}
+
+// A copy with one to `most` of the characters put in, anywhere but inside a character.
+pub fn put_in(random: &mut Random, script: &[u8], most: usize, characters: &[&str]) -> Vec<u8> {
+    let mut copy = script.to_vec();
+    for _ in 0..=random.below(most) {
+        let mut at = random.below(copy.len() + 1);
+        while copy.get(at).is_some_and(|byte| byte & 0xC0 == 0x80) {
+            at += 1;
+        }
+        copy.splice(at..at, characters[random.below(characters.len())].bytes());
+    }
+    copy
 }
 
 // A copy with one to three faults: bytes turned, put in, taken out, said twice, or the end cut off.

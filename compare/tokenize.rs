@@ -9,7 +9,8 @@
 // Refusals 1 to 16, every record byte and the counts of measuring are judged by tokenize; 17 to 21, 27 to 29, the answer blocks and the bytes past
 // the records by what RULES and REQUESTS say of them. tokenize takes direction marks, so its answer to a script that has one is not what is wanted: the
 // first mark is searched for here (marks.rs). Its tokens of such a script are used for what marks do not change (kept.rs): there rolls and lines
-// are asked too.
+// are asked too. Of the operator signs past ASCII it knows `⇒` alone: scripts with another one are judged by this program built a second time, over
+// a copy of tokenize that has the others too, with `--cfg widened` (signs.rs). Each of the two leaves out what the other one judges.
 #[cfg(whole)]
 mod kept;
 mod limits;
@@ -17,6 +18,7 @@ mod listing;
 mod marks;
 mod measure;
 mod scripts;
+mod signs;
 
 use measure::Counts;
 use published::error::ParseError;
@@ -33,6 +35,9 @@ extern "C" {
 }
 
 const LIMIT: usize = 16_777_216;
+
+// Does this program judge the scripts with operator signs that the published tokenize does not know (signs.rs)?
+const WIDENED: bool = cfg!(widened);
 
 // REQUESTS, "Limits": those of a contact, and the record bytes that are enough for every one.
 const CONTACT_BYTES: usize = 4096;
@@ -367,6 +372,9 @@ mod compare {
         // A script, by both functions, with a buffer that is ample, and once more with a buffer or a block that its number chooses. It is measured in a
         // block whose old bytes its number chooses, and every eighth once more in a block of some other length.
         pub fn script(&mut self, script: &[u8], number: u64) {
+            if !signs::is_judged(script) {
+                return;
+            }
             let want = wanted(script);
             let need = want.bytes as usize;
             self.marked(&want);
@@ -394,6 +402,9 @@ mod compare {
 
         // Every length of buffer up to one over what is needed, and every length of block up to 40 bytes.
         pub fn lengths(&mut self, script: &[u8]) {
+            if !signs::is_judged(script) {
+                return;
+            }
             let want = wanted(script);
             let need = want.bytes as usize;
             self.marked(&want);
@@ -489,6 +500,9 @@ mod compare {
         // What the other exports say of a script with a mark.
         #[cfg(whole)]
         pub fn kept(&mut self, script: &[u8]) {
+            if !signs::is_judged(script) {
+                return;
+            }
             let kept = kept::Kept::of(script);
             if kept.calls == 0 {
                 return;
@@ -562,8 +576,10 @@ mod compare {
             println!("ergo_measure: {} of the calls, {} differed", self.measured, self.measure_faults);
             let read = if cfg!(whole) { format!(", and {} rolls of such read back", self.rolls) } else { String::new() };
             println!("scripts with direction marks: {} refused by 29{read}", self.marked);
-            println!("the greatest need of a contact at the limits: {} record bytes", self.greatest);
-            assert_eq!(self.greatest, CONTACT_RECORDS, "what is enough for every contact is more than any needs");
+            if !WIDENED {
+                println!("the greatest need of a contact at the limits: {} record bytes", self.greatest);
+                assert_eq!(self.greatest, CONTACT_RECORDS, "what is enough for every contact is more than any needs");
+            }
         }
 
         pub fn same(&self) -> bool {
@@ -595,7 +611,9 @@ mod compare {
             }
         });
         sum.say_shown();
-        sum.say(name);
+        if sum.scripts > 0 {
+            sum.say(name);
+        }
         all.join(sum);
     }
 }
@@ -739,10 +757,22 @@ fn compare_random(all: &mut compare::Bench, count: u64, seed: u64) {
         let script = marks::marked(&mut random, &script);
         bench.script(&if i % 4 == 0 { scripts::damaged(&mut random, &script) } else { script }, i);
     });
+    part(all, &format!("random texts with operator signs past ASCII and characters like them, seed {seed}"), count, |bench, i| {
+        let (mut random, script) = random_script(seed.rotate_left(32), i);
+        let script = signs::signed(&mut random, &script);
+        bench.script(&if i % 4 == 0 { scripts::damaged(&mut random, &script) } else { script }, i);
+    });
     part(all, "random texts, each length of buffer and block", 40, |bench, i| {
         let mut random = Random(seed ^ i);
         bench.lengths(&contract(&mut random, i as usize));
     });
+}
+
+// What no reader is asked for.
+#[cfg(linked)]
+fn compare_others(all: &mut compare::Bench, count: u64, seed: u64) {
+    use compare::part;
+    part(all, "no bytes at no address", 1, |bench, _| bench.nulls());
     part(all, "token texts at every two places", count / 50, |bench, i| {
         let mut random = Random(!seed ^ i);
         let length = random.below(30);
@@ -754,6 +784,23 @@ fn compare_random(all: &mut compare::Bench, count: u64, seed: u64) {
         };
         bench.texts(&script[..script.len().min(60)]);
     });
+    let cases = measure::cases();
+    part(all, "measured, counted by hand", cases.len() as u64, |bench, i| {
+        let (script, want) = &cases[i as usize];
+        bench.told(script, want);
+    });
+}
+
+// Scripts with operator signs past ASCII, and with characters that are like them.
+#[cfg(linked)]
+fn compare_signs(all: &mut compare::Bench) {
+    use compare::part;
+    let mut each = |name: &str, list: Vec<Vec<u8>>| part(all, name, list.len() as u64, |bench, i| bench.script(&list[i as usize], i));
+    each("operator signs and characters like them in each kind of piece", signs::in_places());
+    each("the ends of each range of operator signs, and the codes beside them", signs::at_ends());
+    each("operator signs before and behind what is refused by 1 to 16", signs::beside_refused());
+    let places = signs::in_places();
+    part(all, "operator signs, each length of buffer and block", places.len() as u64 / 7, |bench, i| bench.lengths(&places[7 * i as usize]));
 }
 
 // Scripts with direction marks and their neighbours.
@@ -791,24 +838,22 @@ fn compare_kept(_: &mut compare::Bench, _: u64, _: u64) {}
 fn compare_all(count: u64, seed: u64) {
     use compare::{part, Bench};
     let mut all = Bench::default();
-    part(&mut all, "no bytes at no address", 1, |bench, _| bench.nulls());
     part(&mut all, "the rules' examples, each length of buffer and block", EXAMPLES.len() as u64, |bench, i| {
         bench.lengths(EXAMPLES[i as usize].as_bytes())
     });
     compare_short(&mut all);
     compare_marks(&mut all);
+    compare_signs(&mut all);
     compare_random(&mut all, count, seed);
     compare_kept(&mut all, count, seed);
-    let contacts = limits::compared();
-    part(&mut all, "scripts at a contact's limits", contacts.len() as u64, |bench, i| bench.limit(&contacts[i as usize]));
-    let cases = measure::cases();
-    part(&mut all, "measured, counted by hand", cases.len() as u64, |bench, i| {
-        let (script, want) = &cases[i as usize];
-        bench.told(script, want);
-    });
-    part(&mut all, "scripts of 16,777,216 and 16,777,217 bytes", 1, |bench, _| long_scripts(bench));
+    if !WIDENED {
+        compare_others(&mut all, count, seed);
+        let contacts = limits::compared();
+        part(&mut all, "scripts at a contact's limits", contacts.len() as u64, |bench, i| bench.limit(&contacts[i as usize]));
+        part(&mut all, "scripts of 16,777,216 and 16,777,217 bytes", 1, |bench, _| long_scripts(bench));
+    }
     all.say_numbers();
-    all.say("in all");
+    all.say(if WIDENED { "in all, with an operator sign that is not published" } else { "in all" });
     if !all.same() {
         std::process::exit(1);
     }
@@ -847,8 +892,8 @@ fn put_texts(list: &mut Vec<Vec<u8>>, pieces: &'static [&'static str], length: u
     }
 }
 
-// The scripts of the list: the examples, each byte, every short text of some alphabets, some wide characters in each role, random texts, and
-// direction marks and their neighbours in each piece and beside each refusal.
+// The scripts of the list: the examples, each byte, every short text of some alphabets, some wide characters in each role, random texts, direction
+// marks and their neighbours in each piece and beside each refusal, and operator signs past ASCII with what is like them and beside their ranges.
 fn listed_scripts() -> Vec<Vec<u8>> {
     let mut list: Vec<Vec<u8>> = EXAMPLES.iter().map(|text| text.as_bytes().to_vec()).collect();
     list.extend((0..=255).map(|byte| vec![byte]));
@@ -871,6 +916,7 @@ fn listed_scripts() -> Vec<Vec<u8>> {
         list.push(script);
     }
     list.extend(marks::listed());
+    list.extend(signs::listed());
     list
 }
 
@@ -885,6 +931,9 @@ fn print_list() {
         marked += (number == 29) as u32;
     };
     for (i, script) in listed_scripts().iter().enumerate() {
+        if !signs::is_judged(script) {
+            continue;
+        }
         let want = wanted(script);
         let lent = match i % 4 {
             0 if want.bytes > 0 => want.bytes as usize - 1,
@@ -894,7 +943,7 @@ fn print_list() {
         let entry = if i % 3 == 2 { Entry::Contact } else { Entry::Compiler };
         put(entry, script, &want, lent);
     }
-    for script in &limits::listed() {
+    for script in limits::listed().iter().filter(|script| signs::is_judged(script)) {
         let want = wanted(script);
         put(Entry::Contact, script, &want, CONTACT_RECORDS);
         if want.number == 0 {
@@ -915,6 +964,7 @@ fn print_list() {
 fn main() {
     assert_eq!(char::UNICODE_VERSION, (16, 0, 0), "a rustc of another Unicode is no judge of the classes: set RUSTC");
     marks::check();
+    signs::check();
     let (mut count, mut seed) = (100_000, 1);
     let mut args = std::env::args().skip(1);
     while let Some(option) = args.next() {

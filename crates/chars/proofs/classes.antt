@@ -1,3 +1,4 @@
 pub mod Ranges
+pub mod Bits
 pub mod Masks
 pub mod Laws

@@ -35,7 +35,7 @@ impl Classes {
 
 // Whether the class of these masks has a code: of 64 codes each block, this one's at a place of it.
 #[inline(always)]
-fn has(masks: &[u64; 157], block: usize, place: u32) -> bool
+fn has(masks: &[u64; 176], block: usize, place: u32) -> bool
     requires block { block < 1024 }
     requires place { place < 64 }
     ensures { result ≡ inMask masks.now BLOCKS block place }

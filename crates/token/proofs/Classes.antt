@@ -1,40 +1,51 @@
 -- Quoted characters and the classes of `chars`: which of them are in none, from what `chars` promises.
-use Rattle.std.proofs.Common.{ℕ, ◌<◌, ◌≡◌, refl, sym, ◌∙◌, ap, true, false, not, ◌&&◌, ◌||◌, arith, ltb, lt-ltb, ltb-true}
+use Rattle.std.proofs.Common.{ℕ, Bool, ◌<◌, ◌≡◌, refl, sym, ◌∙◌, ap, true, false, not, ◌&&◌, ◌||◌, arith, ltb, lt-ltb, ltb-true}
 use Prim.Native.String.{String}
 use Rattle.chars.specs.paper.Quoted.{codes, oneOf}
-use Rattle.chars.specs.paper.Classes.{isIdStart, isIdChar, opSigns, isOpSign}
+use Rattle.chars.specs.paper.Classes.{isIdStart, isIdChar, asciiSigns, isOpSign}
 use Rattle.chars.specs.promises.Codes.{every}
 use Rattle.chars.specs.promises.Classes.{lowStart, lowId}
 use Rattle.chars.proofs.Bools.{and-both}
-use Rattle.token.proofs.Base.{by-test}
 use Rattle.chars.proofs.theorems.Promises.{code_laws, class-laws}
-open code_laws use {carry, carry-not, every-sub}
-open class-laws use {sign-is, sign-no-start, byte-start, byte-id}
+open code_laws use {carry, carry-not, every-sub, no-member}
+open class-laws use {byte-start, byte-id, byte-sign}
 
--- ---- operator signs
+-- ---- operator signs, at a code of ASCII by the quoted list alone
 
--- none of the quoted characters is one, where none of them is quoted in `opSigns`
-pub sign-not : (t : String) → every (λ x. not (oneOf opSigns x)) (codes t) ≡ true → every (λ x. not (isOpSign x)) (codes t) ≡ true
-sign-not t h = every-sub (λ x. not (oneOf opSigns x)) (λ x. not (isOpSign x)) (codes t) h (λ c e. ap not (sign-is c) ∙ e)
+low-sign : (c : ℕ) → c < 0x80 → isOpSign c ≡ oneOf asciiSigns c
+low-sign c l = let h = byte-sign c in rw (lt-ltb c 0x80 l) at h
 
-pub no-sign : (t : String) → every (λ x. not (oneOf opSigns x)) (codes t) ≡ true → (c : ℕ) → oneOf t c ≡ true → isOpSign c ≡ false
+-- of ASCII, and not quoted in `asciiSigns`
+abbrev pub plainAscii : ℕ → Bool
+plainAscii c = ltb c 0x80 && not (oneOf asciiSigns c)
+
+plain-no-sign : (c : ℕ) → plainAscii c ≡ true → not (isOpSign c) ≡ true
+plain-no-sign c e =
+    let k = and-both (ltb c 0x80) (not (oneOf asciiSigns c)) e in
+    ap not (low-sign c (ltb-true c 0x80 k.0)) ∙ k.1
+
+-- none of the quoted characters is a sign, where each is such a one
+pub sign-not : (t : String) → every plainAscii (codes t) ≡ true → every (λ x. not (isOpSign x)) (codes t) ≡ true
+sign-not t h = every-sub plainAscii (λ x. not (isOpSign x)) (codes t) h plain-no-sign
+
+pub no-sign : (t : String) → every plainAscii (codes t) ≡ true → (c : ℕ) → oneOf t c ≡ true → isOpSign c ≡ false
 no-sign t h c e = carry-not isOpSign (codes t) c (sign-not t h) e
 
+-- and no sign is one of them
+pub sign-no : (t : String) → every plainAscii (codes t) ≡ true → (c : ℕ) → isOpSign c ≡ true → oneOf t c ≡ false
+sign-no t h c e = no-member isOpSign (codes t) c (sign-not t h) e
+
 pub sign-no-under : (c : ℕ) → isOpSign c ≡ true → oneOf "_" c ≡ false
-sign-no-under c e = carry-not (oneOf "_") (codes opSigns) c refl (sym (sign-is c) ∙ e)
+sign-no-under = sign-no "_" refl
 
 pub sign-no-semi : (c : ℕ) → isOpSign c ≡ true → oneOf ";" c ≡ false
-sign-no-semi c e = carry-not (oneOf ";") (codes opSigns) c refl (sym (sign-is c) ∙ e)
+sign-no-semi = sign-no ";" refl
 
 pub nul-no-sign : isOpSign 0 ≡ false
-nul-no-sign = sign-is 0
+nul-no-sign = low-sign 0 (omega arith)
 
 pub slash-sign : isOpSign 0x2F ≡ true
-slash-sign = sign-is 0x2F
-
--- of a byte
-pub byte-sign : (b : ℕ) → ltb b 0x80 && isOpSign b ≡ ltb b 0x80 && oneOf opSigns b
-byte-sign b = ap (λ z. ltb b 0x80 && z) (sign-is b)
+slash-sign = low-sign 0x2F (omega arith)
 
 pub sign-byte : (b : ℕ) → b < 0x80 → isOpSign b ≡ ltb b 0x80 && isOpSign b
 sign-byte b l = sym (ap (λ z. z && isOpSign b) (lt-ltb b 0x80 l))
@@ -58,14 +69,13 @@ under-no-id c e =
 
 -- blanks, line ends, the nine signs, quotes, digits, operator signs: no word starts with one of them
 abbrev pub others : String
-others = " \t\n\r()[]{},;.`\"'0123456789!#%&*+-/:<=>?@\\^|~⇒"
+others = " \t\n\r()[]{},;.`\"'0123456789!#%&*+-/:<=>?@\\^|~"
 
 other-no-start : (c : ℕ) → oneOf others c ≡ true → not (isIdStart c) ≡ true
 other-no-start c e =
-    by-test (oneOf opSigns c) (λ q. ap not (sign-no-start c (sign-is c ∙ q))) (λ q.
-    let h = carry (λ x. oneOf opSigns x || (ltb x 0x80 && not (lowStart x))) (codes others) c refl e in
-    let k = and-both (ltb c 0x80) (not (lowStart c)) (rw q at h) in
-    ap not (low-start c (ltb-true c 0x80 k.0)) ∙ k.1)
+    let h = carry (λ x. ltb x 0x80 && not (lowStart x)) (codes others) c refl e in
+    let k = and-both (ltb c 0x80) (not (lowStart c)) h in
+    ap not (low-start c (ltb-true c 0x80 k.0)) ∙ k.1
 
 -- none of the quoted characters is an id start, where each of them is quoted in `others`
 pub start-not : (t : String) → every (oneOf others) (codes t) ≡ true → every (λ x. not (isIdStart x)) (codes t) ≡ true

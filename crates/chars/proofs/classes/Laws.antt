@@ -1,19 +1,18 @@
 -- The character classes: what excludes what, each computed at the few characters that the rules name.
-use Rattle.std.proofs.Common.{ℕ, ◌≤◌, ◌<◌, ◌≡◌, refl, sym, ap, ◌∙◌, Bool, true, false, cond, not, ◌&&◌, ◌||◌, ⊎_elim, arith, eqb-true, le-leb, lt-ltb, le-ltb, ne_eqb, eqb, ltb}
-use Rattle.std.proofs.lemmas.Bool.{cases_lt, false_from_ne_true, not-true, lt-leb}
-use Prim.Native.String.{String}
+use Rattle.std.proofs.Common.{ℕ, suc, ◌≤◌, ◌<◌, ◌≡◌, refl, ap, ◌∙◌, Bool, true, false, ◌&&◌, ◌||◌, ⊎_elim, arith, le-leb, lt-ltb, le-ltb, ne_eqb, ltb}
+use Rattle.std.proofs.lemmas.Bool.{cases_lt, lt-leb}
 use Rattle.std.proofs.Math.Bool.{and-true, and-false, or-false}
 use Rattle.chars.specs.paper.Quoted.{between, codes, oneOf}
-use Rattle.chars.specs.paper.Tables.{alphabeticTable, lowercaseTable, uppercaseTable, ndTable, alphaNotLetterTable}
-use Rattle.chars.specs.paper.Classes.{isIdStart, isIdChar, opSigns, isOpSign, isPrintable, alphabetic, lowercase, uppercase, nd, alphaNotLetter}
+use Rattle.chars.specs.paper.Tables.{alphabeticTable, lowercaseTable, uppercaseTable, ndTable, alphaNotLetterTable, mathOrOtherSymbolTable}
+use Rattle.chars.specs.paper.Classes.{isIdStart, isIdChar, asciiSigns, isOpSign, isPrintable, alphabetic, lowercase, uppercase, nd, alphaNotLetter, mathOrOtherSymbol}
 use Rattle.chars.proofs.classes.Ranges.{between-out, clear-out, covered-in, only-first}
-use Rattle.chars.specs.promises.Codes.{every}
+use Rattle.chars.proofs.classes.Bits.{alone-id, alone-start}
 use Rattle.chars.specs.promises.Classes.{lowStart, lowId}
-use Rattle.chars.proofs.Carry.{carry}
+use Rattle.chars.proofs.Carry.{each-same, no-member}
 
 -- ---- operator signs
 
-pub sign-is : (c : ℕ) → isOpSign c ≡ oneOf opSigns c
+pub sign-is : (c : ℕ) → isOpSign c ≡ oneOf asciiSigns c || mathOrOtherSymbol c
 unfolding isOpSign
 sign-is c = refl
 
@@ -64,35 +63,44 @@ byte-start b = below isIdStart lowStart low-start b
 pub byte-id : (b : ℕ) → ltb b 0x80 && isIdChar b ≡ ltb b 0x80 && lowId b
 byte-id b = below isIdChar lowId low-id b
 
--- quoted characters of which none is in a class: ASCII by q, and the double arrow
-quoted-not : (p q : ℕ → Bool) → ((c : ℕ) → c < 0x80 → p c ≡ q c) → p 0x21D2 ≡ false → (t : String)
-    → every (λ x. cond (ltb x 0x80) (not (q x)) (eqb x 0x21D2)) (codes t) ≡ true → (c : ℕ) → oneOf t c ≡ true → not (p c) ≡ true
-quoted-not p q h a t k c e = ⊎_elim low past (cases_lt c 0x80)
-  where
-    found : cond (ltb c 0x80) (not (q c)) (eqb c 0x21D2) ≡ true
-    found = carry (λ x. cond (ltb x 0x80) (not (q x)) (eqb x 0x21D2)) (codes t) c k e
+-- the table's signs of ASCII stand in the list: computed at each code
+low-sign : (c : ℕ) → c < 0x80 → isOpSign c ≡ oneOf asciiSigns c
+unfolding isOpSign mathOrOtherSymbol
+low-sign c l = each-same isOpSign (oneOf asciiSigns) 0 0x80 c refl (omega arith) l
 
-    low : c < 0x80 → not (p c) ≡ true
-    low l = ap not (h c l) ∙ rw (lt-ltb c 0x80 l) at found
+pub byte-sign : (b : ℕ) → ltb b 0x80 && isOpSign b ≡ ltb b 0x80 && oneOf asciiSigns b
+byte-sign b = below isOpSign (oneOf asciiSigns) low-sign b
 
-    past : 0x80 ≤ c → not (p c) ≡ true
-    past l = let f = rw (le-ltb c 0x80 l) at found in ap (λ z. not (p z)) (eqb-true c 0x21D2 f) ∙ ap not a
+-- ---- above U+FFFF no class has a code
+
+module _ (c : ℕ) (h : 0xFFFF < c) where
+  pub above-no-start : isIdStart c ≡ false
+  unfolding isIdStart
+  above-no-start = rw (lt-leb c 0xFFFF h)
+
+  pub above-no-id : isIdChar c ≡ false
+  unfolding isIdChar
+  above-no-id = let a : (c ≡ 0x24 → ⊥) = λ e. omega arith in rw (ne_eqb c 0x24 a, lt-leb c 0xFFFF h)
+
+  pub above-no-print : isPrintable c ≡ false
+  unfolding isPrintable
+  above-no-print = rw (lt-leb c 0xFFFF h)
+
+  -- of no range of the table, and of no quoted sign
+  pub above-no-sign : isOpSign c ≡ false
+  unfolding isOpSign mathOrOtherSymbol
+  above-no-sign =
+      let quoted : oneOf asciiSigns c ≡ false = no-member (ltb 0xFFFF) (codes asciiSigns) c refl (lt-ltb 0xFFFF c h) in
+      rw quoted (clear-out (suc 0xFFFF) c c h (omega arith) mathOrOtherSymbolTable refl)
 
 -- ---- operator signs are neither
 
-arrow-no-start : isIdStart 0x21D2 ≡ false
-unfolding isIdStart lowercase uppercase
-arrow-no-start = refl
+module _ (c : ℕ) (e : isOpSign c ≡ true) where
+  pub sign-no-id : isIdChar c ≡ false
+  sign-no-id = ⊎_elim (λ l. above-no-id c l) (λ l. alone-id c l e) (cases_lt 0xFFFF c)
 
-pub sign-no-start : (c : ℕ) → isOpSign c ≡ true → isIdStart c ≡ false
-sign-no-start c e = not-true (isIdStart c) (quoted-not isIdStart lowStart low-start arrow-no-start opSigns refl c (sym (sign-is c) ∙ e))
-
-arrow-no-id : isIdChar 0x21D2 ≡ false
-unfolding isIdChar alphabetic nd alphaNotLetter
-arrow-no-id = refl
-
-pub sign-no-id : (c : ℕ) → isOpSign c ≡ true → isIdChar c ≡ false
-sign-no-id c e = not-true (isIdChar c) (quoted-not isIdChar lowId low-id arrow-no-id opSigns refl c (sym (sign-is c) ∙ e))
+  pub sign-no-start : isIdStart c ≡ false
+  sign-no-start = ⊎_elim (λ l. above-no-start c l) (λ l. alone-start c l e) (cases_lt 0xFFFF c)
 
 -- ---- characters that the rules name
 
@@ -124,33 +132,3 @@ module _ (c : ℕ) (from : 0x24B6 ≤ c) (to : c ≤ 0x24E9) where
   circled-no-id =
       let a : (c ≡ 0x24 → ⊥) = λ e. omega arith in
       rw (ne_eqb c 0x24 a, le-leb c 0xFFFF (omega arith), circled-mark, circled-no-nd, and-false (alphabetic c))
-
--- ---- past ASCII
-
-module _ (c : ℕ) (h : 0x80 ≤ c) where
-  -- the one operator sign is the double arrow
-  pub wide-sign : isOpSign c ≡ true → c ≡ 0x21D2
-  wide-sign e =
-      let k = carry (λ x. ltb x 0x80 || eqb x 0x21D2) (codes opSigns) c refl (sym (sign-is c) ∙ e) in
-      eqb-true c 0x21D2 (rw (le-ltb c 0x80 h) at k)
-
-  pub wide-none : (c ≡ 0x21D2 → ⊥) → isOpSign c ≡ false
-  wide-none n = false_from_ne_true (isOpSign c) (λ e. n (wide-sign e))
-
--- ---- above U+FFFF no class has a code
-
-module _ (c : ℕ) (h : 0xFFFF < c) where
-  pub above-no-start : isIdStart c ≡ false
-  unfolding isIdStart
-  above-no-start = rw (lt-leb c 0xFFFF h)
-
-  pub above-no-id : isIdChar c ≡ false
-  unfolding isIdChar
-  above-no-id = let a : (c ≡ 0x24 → ⊥) = λ e. omega arith in rw (ne_eqb c 0x24 a, lt-leb c 0xFFFF h)
-
-  pub above-no-print : isPrintable c ≡ false
-  unfolding isPrintable
-  above-no-print = rw (lt-leb c 0xFFFF h)
-
-  pub above-no-sign : isOpSign c ≡ false
-  above-no-sign = wide-none c (omega arith) (λ e. omega arith)

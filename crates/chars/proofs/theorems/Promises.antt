@@ -133,7 +133,7 @@ text-laws = record {
   run-done = runs.run-done;
 }
 
--- the order of the tables: one computed test over the five; those of the source: by comparing
+-- the order of the tables: one computed test over the six; those of the source: by comparing
 pub class-laws : ClassLaws
 unfolding tables
 class-laws = record {
@@ -143,6 +143,7 @@ class-laws = record {
   sign-no-id = classes.sign-no-id;
   byte-start = classes.byte-start;
   byte-id = classes.byte-id;
+  byte-sign = classes.byte-sign;
   roman-start = classes.roman-start;
   roman-no-id = classes.roman-no-id;
   circled-no-start = classes.circled-no-start;

@@ -3,7 +3,7 @@ use Rattle.std.specs.Prelude.{ℕ, Bool, not, ◌&&◌, ◌||◌, nat_le}
 use Prim.Native.String.{String}
 use Rattle.chars.specs.paper.Quoted.{between, oneOf}
 use Rattle.chars.specs.paper.Ranges.{inRanges}
-use Rattle.chars.specs.paper.Tables.{alphabeticTable, lowercaseTable, uppercaseTable, ndTable, alphaNotLetterTable}
+use Rattle.chars.specs.paper.Tables.{alphabeticTable, lowercaseTable, uppercaseTable, ndTable, alphaNotLetterTable, mathOrOtherSymbolTable}
 
 -- RULES, "Unicode tables": the properties of a code up to U+FFFF
 unfoldable pub alphabetic : ℕ → Bool
@@ -21,6 +21,9 @@ nd c = inRanges ndTable c
 unfoldable pub alphaNotLetter : ℕ → Bool
 alphaNotLetter c = inRanges alphaNotLetterTable c
 
+unfoldable pub mathOrOtherSymbol : ℕ → Bool
+mathOrOtherSymbol c = inRanges mathOrOtherSymbolTable c
+
 -- RULES, "Id start": "A character that can begin an identifier: `$`, `_`, or one that is Lowercase or Uppercase. It is at most U+FFFF, and none of
 -- the circled letters U+24B6 to U+24E9."
 unfoldable pub isIdStart : ℕ → Bool
@@ -31,12 +34,12 @@ isIdStart c = nat_le c 0xFFFF && not (between 0x24B6 0x24E9 c) && (lowercase c |
 unfoldable pub isIdChar : ℕ → Bool
 isIdChar c = oneOf "$" c || nat_le c 0xFFFF && (alphabetic c && not (alphaNotLetter c) || nd c)
 
--- RULES, "Operator sign": "One of these eighteen, or U+21D2 (`⇒`): `! # % & * + - / : < = > ? @ \ ^ | ~`."
-abbrev pub opSigns : String
-opSigns = "!#%&*+-/:<=>?@\\^|~⇒"
+-- RULES, "Operator sign": "One of the eighteen `! # % & * + - / : < = > ? @ \ ^ | ~`, or a character of `MATH_OR_OTHER_SYMBOL`."
+abbrev pub asciiSigns : String
+asciiSigns = "!#%&*+-/:<=>?@\\^|~"
 
 unfoldable pub isOpSign : ℕ → Bool
-isOpSign c = oneOf opSigns c
+isOpSign c = oneOf asciiSigns c || mathOrOtherSymbol c
 
 -- RULES, "Printable": "A character that can stand by itself between two `'`: at most U+FFFF, and in none of U+0000 to U+001F, U+007F to U+009F and
 -- U+FFF0 to U+FFFF."

@@ -10,6 +10,8 @@ pub examples : Examples
 unfolding entered hosted measuring verdict checkOf markOf cleanOf tokenText hasText
 examples = record {
   scripts-hold = refl;
+  sign-not-printable = refl;
+  newest-signs = refl;
   too-long = λ limits s room long. rw long;
   contact-bytes = refl;
   marks-seen = refl;

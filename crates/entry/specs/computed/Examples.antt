@@ -6,7 +6,7 @@ use Rattle.chars.specs.paper.Quoted.{codes}
 use Rattle.chars.specs.computed.Encoded.{encodeAll, script}
 use Rattle.token.specs.paper.Records.{mostBytes, mostNeed}
 use Rattle.token.specs.computed.Listing.{holdBy}
-use Rattle.token.specs.computed.Examples.{marked, listingExample, refusalExamples, tieExamples, traps}
+use Rattle.token.specs.computed.Examples.{marked, listingExample, refusalExamples, tieExamples, traps, signs}
 use Rattle.entry.specs.declared.limits.Limits.{Limits}
 use Rattle.entry.specs.paper.Limits.{compiler, contact, contactNeed}
 use Rattle.entry.specs.paper.Host.{seen}
@@ -19,8 +19,13 @@ abbrev pub illFormed : List (List ℕ)
 illFormed = (0x61 ∷ 0xC0 ∷ 0x80 ∷ []) ∷ (0xED ∷ 0xA0 ∷ 0x80 ∷ []) ∷ (0x61 ∷ 0xF4 ∷ 0x90 ∷ 0x80 ∷ 0x80 ∷ []) ∷ (0x22 ∷ 0xE4 ∷ 0xB8 ∷ []) ∷ []
 
 pub record Examples : Type 0 where
-  -- the twelve marked scripts, the listing's example, refusals 1 to 16, ties and traps: by the listing of a script
-  pub scripts-hold : IsTrue (holdBy entered (marked ++ listingExample ++ refusalExamples ++ tieExamples ++ traps))
+  -- the twelve marked scripts, the listing's example, refusals 1 to 16, ties, traps and operator signs: by the listing of a script
+  pub scripts-hold : IsTrue (holdBy entered (marked ++ listingExample ++ refusalExamples ++ tieExamples ++ traps ++ signs))
+  -- RULES, "Operator sign": U+FFFC is one and is not printable, so that behind a `'` it begins a symbol, and a `'` behind it another piece
+  pub sign-not-printable : map entered ((script "'" ++ encodeAll (0xFFFC ∷ [])) ∷ (script "'" ++ encodeAll (0xFFFC ∷ []) ++ script "'") ∷ [])
+      ≡ map codes ("7 0 4 0\n18 4 4 0\n" ∷ "refused 16 at 5\n" ∷ [])
+  -- U+2427 to U+2429, U+31E4 and U+31E5, signs that Unicode 16.0 was the first to have, are one operator
+  pub newest-signs : entered (encodeAll (0x2427 ∷ 0x2428 ∷ 0x2429 ∷ 0x31E4 ∷ 0x31E5 ∷ [])) ≡ codes "2 0 15 0\n18 15 15 0\n"
   -- 17, for every script that is so long, whatever the limits
   pub too-long : (limits : Limits) (s : List ℕ) (room : ℕ) → IsTrue (nat_lt mostBytes (length s)) → verdict limits s room ≡ rejected 17 0
   -- 18: the place is the length of the longest valid prefix

@@ -1,13 +1,12 @@
 -- What the class of a byte says of it: each is one computed test at the codes of ASCII.
 use Prim.Native.String.{String}
 use Rattle.token.proofs.cursor.Words.{ℕ, zero, suc, ◌+◌, ◌*◌, ◌≤◌, ◌<◌, ◌≡◌, refl, sym, ◌∙◌, ap, Bool, true, false, not, ◌&&◌, ◌||◌, List, [], ◌∷◌, arith, eqb-true, le-leb, le-ltb, ne_eqb, eqb, leb, ltb, length, get_or, codes, oneOf, and-both, every, span, alike, code_laws, class-laws, signOf, signNumber, classOf, blankClass, crClass, tickClass, backtickClass, lfClass, digitClass, keywordClass, quoteClass, wideClass, slashClass, upToBlank, startsWord, inWord, isSign, inRun, cases_lt, inl, inr}
-use Rattle.chars.specs.paper.Classes.{isIdStart, isIdChar, isOpSign, opSigns}
+use Rattle.chars.specs.paper.Classes.{isIdStart, isIdChar, isOpSign, asciiSigns}
 use Rattle.chars.specs.promises.Classes.{lowId, lowStart}
-use Rattle.token.proofs.Classes.{byte-sign}
 use Rattle.chars.specs.paper.Quoted.{member}
 use Rattle.token.specs.code.ByteClass.{otherClass, startClass, dollarClass, signClass, backslashClass, signKeywordClass, isOrdinary}
 open code_laws use {agree, carry, carry-span, no-member, every-sub}
-open class-laws use {byte-id, byte-start}
+open class-laws use {byte-id, byte-sign, byte-start}
 
 -- ---- a table that passes one computed test has the class of each byte
 
@@ -69,12 +68,12 @@ module _ (b : ℕ) where
 
   pub class-sign : isSign (classOf b) ≡ ltb b 0x80 && isOpSign b
   unfolding classOf signNumber signOf
-  class-sign = says isSign (λ b. ltb b 0x80 && oneOf opSigns b) refl (low (oneOf opSigns)) b ∙ sym (byte-sign b)
+  class-sign = says isSign (λ b. ltb b 0x80 && oneOf asciiSigns b) refl (low (oneOf asciiSigns)) b ∙ sym (byte-sign b)
 
   pub class-run : inRun (classOf b) ≡ (ltb b 0x80 && isOpSign b) && not (eqb b 0x2F)
   unfolding classOf signNumber signOf
   class-run =
-      says inRun (λ b. (ltb b 0x80 && oneOf opSigns b) && not (eqb b 0x2F)) refl (λ b h. sym (rw (le-ltb b 0x80 h))) b
+      says inRun (λ b. (ltb b 0x80 && oneOf asciiSigns b) && not (eqb b 0x2F)) refl (λ b h. sym (rw (le-ltb b 0x80 h))) b
       ∙ ap (λ z. z && not (eqb b 0x2F)) (sym (byte-sign b))
 
   pub class-wide : eqb (classOf b) wideClass ≡ leb 0x80 b
@@ -133,11 +132,11 @@ module _ (b : ℕ) where
   class-sign-keyword = says (λ e. eqb e signKeywordClass) (oneOf ":=#@") refl (λ b h. none-past ":=#@" refl b h) b
 
   -- what begins no token
-  pub class-other : eqb (classOf b) otherClass ≡ ltb b 0x80 && not (oneOf " \t\n\r()[]{},;.0123456789`\"'" b || (lowStart b || oneOf opSigns b))
+  pub class-other : eqb (classOf b) otherClass ≡ ltb b 0x80 && not (oneOf " \t\n\r()[]{},;.0123456789`\"'" b || (lowStart b || oneOf asciiSigns b))
   unfolding classOf signNumber signOf
   class-other =
-      says (λ e. eqb e otherClass) (λ b. ltb b 0x80 && not (oneOf " \t\n\r()[]{},;.0123456789`\"'" b || (lowStart b || oneOf opSigns b))) refl
-      (low (λ b. not (oneOf " \t\n\r()[]{},;.0123456789`\"'" b || (lowStart b || oneOf opSigns b)))) b
+      says (λ e. eqb e otherClass) (λ b. ltb b 0x80 && not (oneOf " \t\n\r()[]{},;.0123456789`\"'" b || (lowStart b || oneOf asciiSigns b))) refl
+      (low (λ b. not (oneOf " \t\n\r()[]{},;.0123456789`\"'" b || (lowStart b || oneOf asciiSigns b)))) b
 
   -- no operator sign begins a word
   pub class-apart : inRun (classOf b) && startsWord (classOf b) ≡ false

@@ -1,7 +1,7 @@
 -- Characters and symbols at a place of a script, by the character that is peeked.
 use Rattle.token.proofs.lexer.Laws.{drop-place}
 use Rattle.token.proofs.ident.Laws.{token-at, next-later}
-use Rattle.token.proofs.lexer.Words.{ℕ, ◌+◌, ◌≤◌, ◌<◌, ◌≡◌, refl, sym, ◌∙◌, ap, subst, Bool, true, false, cond, not, ◌&&◌, ◌||◌, and-true, and_comm, or-false, ◌⊎◌, inl, inr, List, ◌∷◌, Some, None, Err, same_Some, none-some, length, drop, get_or, eqb, ltb, arith, ltb-true, ltb-false, lt-ltb, leb-true, le-leb, eqb-true, eq-eqb, ne_eqb, between, oneOf, isIdStart, isOpSign, isPrintable, Char, Text, from, place, headIs, idStart, afterRun, and-both, alike, code_laws, class-laws, text-laws, sign-no-semi, no-start, begins, backslash, apostrophe, isAny, opSign, freeSign, opensComment, plainChar, Found, Esc, unbroken, broken, afterSlash, afterIdent, tickNext, escapedOf, scanCharSym, classAt, upToBlank, startsWord, inWord, wideClass, asksMore, inOperator, isSign, inRun, cursorAt, hereOf, runTo, lowBefore, pieceOf, tokenTo, refusedFor, refusedBy, refusalBy, escEnd, escapeOf, endAt, escapedChar, symbolOf, plainOf, endOf, runSymbolEnd, Cursor, Refused, zero-one, by-test}
+use Rattle.token.proofs.lexer.Words.{ℕ, ◌+◌, ◌≤◌, ◌<◌, ◌≡◌, refl, sym, ◌∙◌, ap, subst, Bool, true, false, cond, not, ◌&&◌, ◌||◌, and-true, and_comm, or-false, ◌⊎◌, inl, inr, List, ◌∷◌, Some, None, Err, same_Some, none-some, length, drop, get_or, eqb, ltb, arith, ltb-true, ltb-false, lt-ltb, leb-true, le-leb, eqb-true, eq-eqb, ne_eqb, between, oneOf, isIdStart, isOpSign, isPrintable, Char, Text, from, place, headIs, idStart, afterRun, and-both, alike, code_laws, class-laws, text-laws, sign-no-semi, no-sign, no-start, begins, backslash, apostrophe, isAny, opSign, freeSign, opensComment, plainChar, Found, Esc, unbroken, broken, afterSlash, afterIdent, tickNext, escapedOf, scanCharSym, classAt, upToBlank, startsWord, inWord, wideClass, asksMore, inOperator, isSign, inRun, cursorAt, hereOf, runTo, lowBefore, pieceOf, tokenTo, refusedFor, refusedBy, refusalBy, escEnd, escapeOf, endAt, escapedChar, symbolOf, plainOf, endOf, runSymbolEnd, Cursor, Refused, zero-one, by-test}
 use Rattle.token.specs.declared.names.Here as names
 use Rattle.token.specs.declared.kinds.TokenKind.TheVariants as tk
 use Rattle.token.specs.declared.refusal.Refusal.TheVariants as refusal
@@ -231,11 +231,10 @@ module _ (s : List ℕ) (i : ℕ) (n : get_or s i 0 ≡ 0x5C → ⊥) (z : eqb (
 
   -- a `;` that no sign follows
   pub ascii-semi : get_or s i 0 ≡ 0x3B → opSign (from s (i + 1)) ≡ false → Some (cursorAt (i + 1)) ≡ endOf (length s) (plainOf (from s i))
-  unfolding isOpSign
   ascii-semi e o =
       let h = inside s i (omega (arith, e)) in
       let l : get_or s i 0 < 0x80 = omega (arith, e) in
-      semi-found s i _ (i + 1) (behind s i n h l) n (open-here l) (ap isOpSign e) (ap isIdStart e ∙ no-start ";" refl 0x3B refl) (rw (e, o) refl)
+      semi-found s i _ (i + 1) (behind s i n h l) n (open-here l) (ap isOpSign e ∙ no-sign ";" refl 0x3B refl) (ap isIdStart e ∙ no-start ";" refl 0x3B refl) (rw (e, o) refl)
 
   -- none of these, and nothing past ASCII
   pub ascii-none : not (upToBlank (classAt s i)) && startsWord (classAt s i) ≡ false → isSign (classAt s i) ≡ false

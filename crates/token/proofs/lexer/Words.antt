@@ -14,7 +14,7 @@ pub use Rattle.chars.proofs.Prefix.{end, passed, stopped}
 pub use Rattle.chars.proofs.theorems.Promises.{class-laws, code_laws, text-laws}
 unfoldable pub use Rattle.chars.specs.code.Text.{charEnd}
 unfoldable pub use Rattle.chars.specs.computed.Runs.{afterRun}
-pub use Rattle.chars.specs.paper.Classes.{opSigns}
+pub use Rattle.chars.specs.paper.Classes.{asciiSigns}
 unfoldable pub use Rattle.chars.specs.paper.Classes.{isIdChar, isIdStart, isOpSign, isPrintable}
 pub use Rattle.chars.specs.paper.Quoted.{between, codes, oneOf}
 pub use Rattle.chars.specs.paper.Text.{Char, Text, headIs, idStart, idChar, place}
@@ -68,4 +68,4 @@ pub use Rattle.token.specs.paper.Shapes.{both}
 pub use Rattle.token.specs.paper.Tests.{apostrophe, backslash, digit, digitValue, endOfLine, freeSign, isAny, notBacktick, opSign, opensBlock, opensComment, opensLine, plainChar, quote}
 unfoldable pub use Rattle.token.specs.paper.Tests.{begins, isDigit}
 pub use Rattle.token.proofs.Base.{by-test, code-is, ok-parts, zero-one}
-pub use Rattle.token.proofs.Classes.{no-start, nul-no-sign, sign-byte, sign-no-semi, sign-not, slash-no-start, start-not, under-no-id}
+pub use Rattle.token.proofs.Classes.{no-sign, no-start, nul-no-sign, sign-byte, sign-no-semi, sign-not, slash-no-start, start-not, under-no-id}

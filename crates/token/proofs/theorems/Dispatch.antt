@@ -1,12 +1,12 @@
 -- One piece: what the scanner finds stands, what stands is what it finds, and where nothing stands a refusal is met.
 use Rattle.std.proofs.Common.{ℕ, ◌≡◌, refl, sym, ◌∙◌, ap, Bool, true, false, cond, not, ◌||◌, inl, inr, [], ◌∷◌, drop, eqb, arith, eqb-true, List}
 use Prim.Native.String.{String}
-use Rattle.token.proofs.theorems.Words.{some, codes, oneOf, isIdStart, isOpSign, opSigns, Char, Text, headIs, idStart, clash, and-both, every, code_laws, class-laws, sign-not, start-not, isDigit, isAny, begins, startsWith, opensLine, opensBlock, opensComment, endsLine, quote, digit, opSign, freeSign, apostrophe, Kind, TokenType, withoutValues, One, both, TokenShape, HasShape, Stands, Valued, Met, GapKind, Found, Start, startOf, starts, signOf, scanAs, scan, scanReturn, scanString, plainOf, TokenKind, by-test, false_from_ne_true, or_parts, no-start, code-is, others, ◌then◌}
+use Rattle.token.proofs.theorems.Words.{some, codes, oneOf, isIdStart, isOpSign, Char, Text, headIs, idStart, clash, and-both, every, code_laws, class-laws, plainAscii, sign-not, no-sign, start-not, isDigit, isAny, begins, startsWith, opensLine, opensBlock, opensComment, endsLine, quote, digit, opSign, freeSign, apostrophe, Kind, TokenType, withoutValues, One, both, TokenShape, HasShape, Stands, Valued, Met, GapKind, Found, Start, startOf, starts, signOf, scanAs, scan, scanReturn, scanString, plainOf, TokenKind, by-test, false_from_ne_true, or_parts, no-start, code-is, others, ◌then◌}
 use Rattle.token.specs.declared.kinds.TokenKind.TheVariants as tk
 use Rattle.token.proofs.theorems.Families.{number-stands, stood, Fell, fell-at, Outcome, operator-stands, head-other, apart, apart', begins-any, one-drop, tick-stands, body-finds, word-stands, backtick-stands, content-is, pair-stands, line-stands, block-stands}
 use Rattle.token.proofs.theorems.Heads.{no-start-met, by-sign, slash}
 open code_laws use {carry-not, carry-span, every-sub, in-between}
-open class-laws use {sign-is, sign-no-start}
+open class-laws use {sign-no-start}
 
 -- no comment opens
 pub record Clear (s : Text) : Type 0 where
@@ -113,11 +113,13 @@ module _ (s : Text) (z : Clear s) where
   pub starts-operator : opSign s ≡ true → startOf s ≡ Start.operator
   unfolding isDigit
   starts-operator e =
-      let d = head-other isOpSign isDigit (λ c f. carry-not isDigit (codes opSigns) c refl (sym (sign-is c) ∙ f)) s e in
-      past-early isOpSign (sign-not early refl) e ∙ rw (d, head-other isOpSign isIdStart sign-no-start s e, e)
+      past-early isOpSign (sign-not early refl) e ∙ rw (head-other isOpSign isDigit no-digit s e, head-other isOpSign isIdStart sign-no-start s e, e)
+    where
+      no-digit : (c : ℕ) → isOpSign c ≡ true → isDigit c ≡ false
+      no-digit c f = false_from_ne_true (isDigit c) (λ q. clash (sym (no-sign "0123456789" refl c (digit-one c q)) ∙ f))
 
   past-words : (a : String) → every (λ x. not (oneOf a x)) (codes early) ≡ true → every (λ x. not (isDigit x)) (codes a) ≡ true
-      → every (oneOf others) (codes a) ≡ true → every (λ x. not (oneOf opSigns x)) (codes a) ≡ true → isAny a s ≡ true → startOf s ≡ quotes s
+      → every (oneOf others) (codes a) ≡ true → every plainAscii (codes a) ≡ true → isAny a s ≡ true → startOf s ≡ quotes s
   past-words a h i j k e =
       past-early (oneOf a) h e ∙ rw (apart' a isDigit i s e, apart' a isIdStart (start-not a j) s e, apart' a isOpSign (sign-not a k) s e)
 

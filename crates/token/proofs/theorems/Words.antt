@@ -5,7 +5,6 @@ pub use Rattle.std.proofs.lemmas.Bool.Decides.{same_from_decides}
 pub use mathlib.Core.Option.{some-injective, Option, none, some}
 pub use borrow.Author.Tests.{not-true, not-false, lt-leb}
 pub use Rattle.chars.specs.paper.Quoted.{member, oneOf, codes, between}
-pub use Rattle.chars.specs.paper.Classes.{opSigns}
 unfoldable pub use Rattle.chars.specs.paper.Classes.{isIdStart, isOpSign, isIdChar, isPrintable}
 pub use Rattle.chars.specs.paper.Text.{Char, Text, place, headIs, idStart, idChar}
 unfoldable pub use Rattle.chars.specs.paper.Text.{from}
@@ -30,4 +29,4 @@ pub use Rattle.token.specs.computed.Flags.{GapKind, Gap, fresh, push, cutOf}
 pub use Rattle.token.specs.declared.kinds.Kw.{Kw}
 pub use Rattle.token.specs.declared.kinds.TokenKind.{TokenKind}
 pub use Rattle.token.proofs.Base.{no-some, zero-one, by-test, neither, code-is, begun-is, Snoc, snoc, snoc-same}
-pub use Rattle.token.proofs.Classes.{sign-not, start-not, slash-sign, under-no-id, sign-no-under, slash-no-start, no-start, no-sign, others}
+pub use Rattle.token.proofs.Classes.{plainAscii, sign-not, start-not, slash-sign, under-no-id, sign-no-under, slash-no-start, no-start, no-sign, others}

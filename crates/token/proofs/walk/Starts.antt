@@ -1,5 +1,5 @@
 -- What begins with an operator sign, with an id start, or with neither.
-use Rattle.token.proofs.lexer.Words.{◌≡◌, refl, sym, ◌∙◌, ap, ap₂, ℕ, ◌+◌, ◌<◌, ◌≤◌, Bool, true, false, not, ◌&&◌, ◌||◌, List, [], ◌∷◌, length, drop, get_or, eqb, leb, ltb, ltb-true, eqb-true, not-true, String, codes, oneOf, isIdStart, isOpSign, opSigns, Text, from, headIs, idStart, Some, afterRun, lowStart, every, clash, and-both, or-neither, code_laws, text-laws, isAny, opSign, freeSign, opensComment, Found, scan, scanIdent, scanOperator, classAt, wideClass, slashClass, otherClass, upToBlank, startsWord, isSign, pieceOf, refusalBy, Good, Refuses, Counts, Stand, sign-not, start-not, slash-no-start, Start, startOf, scanAs, or-false}
+use Rattle.token.proofs.lexer.Words.{◌≡◌, refl, sym, ◌∙◌, ap, ap₂, ℕ, ◌+◌, ◌<◌, ◌≤◌, Bool, true, false, not, ◌&&◌, ◌||◌, List, [], ◌∷◌, length, drop, get_or, eqb, leb, ltb, ltb-true, eqb-true, not-true, String, codes, oneOf, isIdStart, isOpSign, asciiSigns, Text, from, headIs, idStart, Some, afterRun, lowStart, every, clash, and-both, or-neither, code_laws, text-laws, isAny, opSign, freeSign, opensComment, Found, scan, scanIdent, scanOperator, classAt, wideClass, slashClass, otherClass, upToBlank, startsWord, isSign, pieceOf, refusalBy, Good, Refuses, Counts, Stand, sign-not, start-not, slash-no-start, Start, startOf, scanAs, or-false}
 use Rattle.chars.specs.paper.Quoted.{member}
 use Rattle.chars.specs.code.Text.{stepAt}
 use Rattle.chars.specs.declared.utf8.Decoded.{Decoded}
@@ -127,9 +127,9 @@ module _ {s : List ℕ} {x : Stand} (g : Good s x) (h : x.at < length s) (k : eq
   refuses-other d out =
       let b = get_or s x.at 0 in
       let z : classAt s x.at ≡ otherClass = eqb-true _ _ (by-class g (λ z. eqb z otherClass) k) in
-      let a = and-both (ltb b 0x80) (not (oneOf wordless b || (lowStart b || oneOf opSigns b))) (sym (class-other b) ∙ ap (λ z. eqb z otherClass) z) in
+      let a = and-both (ltb b 0x80) (not (oneOf wordless b || (lowStart b || oneOf asciiSigns b))) (sym (class-other b) ∙ ap (λ z. eqb z otherClass) z) in
       let l = ltb-true b 0x80 a.0 in
-      let n = or-neither (oneOf wordless b) (lowStart b || oneOf opSigns b) (not-true _ a.1) in
+      let n = or-neither (oneOf wordless b) (lowStart b || oneOf asciiSigns b) (not-true _ a.1) in
       let c = comment-class s x.at ∙ ap (λ z. eqb z slashClass && oneOf "*/" (get_or s (x.at + 1) 0)) z in
       let i : isIdStart b ≡ false = sym (ap (λ y. y && isIdStart b) a.0) ∙ sym (class-start b) ∙ ap (λ z. not (upToBlank z) && startsWord z) z in
       refuses-here h 3

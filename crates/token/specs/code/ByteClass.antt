@@ -1,7 +1,7 @@
 -- What a byte is, as `byte_class` tells it: one number, whose order and bits are the classes.
 use Rattle.std.specs.Prelude.{ℕ, ◌*◌, ◌/◌, ◌%◌, Bool, if◌then◌else◌, ◌||◌, List, slice_index, ◌==◌, nat_le}
 use Rattle.chars.specs.paper.Quoted.{between, oneOf}
-use Rattle.chars.specs.paper.Classes.{opSigns}
+use Rattle.chars.specs.paper.Classes.{asciiSigns}
 use Rattle.chars.specs.promises.Classes.{lowStart}
 use Rattle.token.specs.code.Ascii.{signNumber}
 
@@ -78,7 +78,7 @@ classOf b =
     else if b == 0x2F then slashClass
     else if b == 0x5C then backslashClass
     else if oneOf ":=#@" b then signKeywordClass
-    else if oneOf opSigns b then signClass
+    else if oneOf asciiSigns b then signClass
     else otherClass
 
 -- of the byte at a place; past the end that of 0, with which no token begins

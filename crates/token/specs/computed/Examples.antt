@@ -91,7 +91,21 @@ traps =
     ∷ "\n/**/ /**/\nx" gives "17 0 1 0 0\n17 10 11 0 1\n1 11 12 1\n18 12 12 0\n"
     ∷ []
 
-pub examples-hold : IsTrue (holdBy listed (listingExample ++ refusalExamples ++ tieExamples ++ traps))
+-- RULES, "Operator sign": what the table lets in, and what stays out
+abbrev pub signs : List Example
+signs =
+    "a≤b" gives "1 0 1 0\n2 1 4 0\n1 4 5 0\n18 5 5 0\n"
+    ∷ "x_∪" gives "1 0 5 0\n18 5 5 0\n"
+    ∷ "=≤" gives "2 0 4 0\n18 4 4 0\n"
+    ∷ "'≤'" gives "7 0 5 0\n18 5 5 0\n"
+    ∷ "'≤" gives "7 0 4 0\n18 4 4 0\n"
+    ∷ "';≤" gives "refused 16 at 1\n"
+    ∷ "⁄*" gives "2 0 4 0\n18 4 4 0\n"
+    ∷ "xⒶ" gives "1 0 1 0\n2 1 4 0\n18 4 4 0\n"
+    ∷ "€" gives "refused 3 at 0\n"
+    ∷ []
+
+pub examples-hold : IsTrue (holdBy listed (listingExample ++ refusalExamples ++ tieExamples ++ traps ++ signs))
 unfolding listed
 examples-hold = refl
 

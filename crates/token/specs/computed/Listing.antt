@@ -2,7 +2,7 @@
 use Rattle.std.specs.Prelude.{ℕ, zero, suc, ◌+◌, ◌/◌, ◌%◌, Bool, true, false, if◌then◌else◌, List, [], ◌∷◌, ◌++◌, nat_lt}
 use Prim.Native.String.{String}
 use Rattle.chars.specs.paper.Quoted.{codes}
-use Rattle.chars.specs.paper.Classes.{alphabetic, lowercase, uppercase, nd, alphaNotLetter, isIdStart, isIdChar, isOpSign, isPrintable}
+use Rattle.chars.specs.paper.Classes.{alphabetic, lowercase, uppercase, nd, alphaNotLetter, mathOrOtherSymbol, isIdStart, isIdChar, isOpSign, isPrintable}
 use Rattle.chars.specs.paper.Utf8.{width, codeOf}
 use Rattle.chars.specs.computed.Encoded.{script}
 use Rattle.chars.specs.paper.Text.{charsAt, from}
@@ -52,7 +52,7 @@ pub data Example : Type 0 where
 infix 70 ◌gives◌
 -- Where this is unfolded, all of the computed definition is.
 unfoldable pub listed : List ℕ → List ℕ
-unfolding alphabetic lowercase uppercase nd alphaNotLetter width codeOf charsAt from isIdStart isIdChar isOpSign isPrintable isDigit isHexDigit begins wordOf runOf afterRun codesTo scanReturn scanLine close scanBlock readDigits scanNumber exactHexes digitsUpTo afterSlash closePlain closePrefixed closeTriple closeString strip plainContent scanString orPrefixed afterIdent scanIdent scanOperator scanBacktick scanCharSym startOf signOf scan walk answer decimalFor shown refusedAt listing
+unfolding alphabetic lowercase uppercase nd alphaNotLetter mathOrOtherSymbol width codeOf charsAt from isIdStart isIdChar isOpSign isPrintable isDigit isHexDigit begins wordOf runOf afterRun codesTo scanReturn scanLine close scanBlock readDigits scanNumber exactHexes digitsUpTo afterSlash closePlain closePrefixed closeTriple closeString strip plainContent scanString orPrefixed afterIdent scanIdent scanOperator scanBacktick scanCharSym startOf signOf scan walk answer decimalFor shown refusedAt listing
 listed s = listing (answer s)
 
 -- the record bytes of a script; 0 where it is refused. Like `listed` it opens all that it stands on, so that an example is computed.
@@ -61,7 +61,7 @@ needOf (tokenized ts) = recordBytes ts
 needOf (refused j a) = 0
 
 unfoldable pub needed : List ℕ → ℕ
-unfolding alphabetic lowercase uppercase nd alphaNotLetter width codeOf charsAt from isIdStart isIdChar isOpSign isPrintable isDigit isHexDigit begins wordOf runOf afterRun codesTo scanReturn scanLine close scanBlock readDigits scanNumber exactHexes digitsUpTo afterSlash closePlain closePrefixed closeTriple closeString strip plainContent scanString orPrefixed afterIdent scanIdent scanOperator scanBacktick scanCharSym startOf signOf scan walk answer decimalFor shown refusedAt listing
+unfolding alphabetic lowercase uppercase nd alphaNotLetter mathOrOtherSymbol width codeOf charsAt from isIdStart isIdChar isOpSign isPrintable isDigit isHexDigit begins wordOf runOf afterRun codesTo scanReturn scanLine close scanBlock readDigits scanNumber exactHexes digitsUpTo afterSlash closePlain closePrefixed closeTriple closeString strip plainContent scanString orPrefixed afterIdent scanIdent scanOperator scanBacktick scanCharSym startOf signOf scan walk answer decimalFor shown refusedAt listing
 needed s = needOf (answer s)
 
 -- by any way of listing a script

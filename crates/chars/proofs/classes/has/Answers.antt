@@ -6,7 +6,7 @@ use Rattle.chars.proofs.classes.Masks.{below-at}
 use Rattle.chars.proofs.classes.has.Goals as goal
 
 pub bounds-masks-block : goal.bounds-masks-block
-bounds-masks-block c = below-at 157 0 BLOCKS refl c.args.block c.requires.block
+bounds-masks-block c = below-at 176 0 BLOCKS refl c.args.block c.requires.block
 
 pub returns : goal.returns
 unfolding inMask
