@@ -1,7 +1,8 @@
 // The three that are timed and counted: ergo_tokenize, the published tokenize and the peer by re2c; and that they give the same answer, as measuring
-// does.
+// does. On rows with operator signs that the published tokenize does not know, the copy of it that has them stands in its place.
 use crate::records::bound;
 use std::hint::black_box;
+use std::sync::atomic::{AtomicBool, Ordering};
 
 #[link(name = "ergo", kind = "static")]
 extern "C" {
@@ -64,9 +65,19 @@ pub fn measure(script: &str) -> Block {
     begins(&answer)
 }
 
+static WIDENED: AtomicBool = AtomicBool::new(false);
+
+// Whether the copy with the class widened stands in the place of tokenize from now on.
+pub fn widen(widened: bool) {
+    WIDENED.store(widened, Ordering::Relaxed);
+}
+
 // How many tokens, or nothing where tokenize refused.
 #[cfg(published)]
 fn tokenize(script: &str) -> Option<usize> {
+    if WIDENED.load(Ordering::Relaxed) {
+        return widened::token::tokenize(script).ok().map(|tokens| tokens.len());
+    }
     published::token::tokenize(script).ok().map(|tokens| tokens.len())
 }
 

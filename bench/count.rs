@@ -58,6 +58,7 @@ fn name(who: Who) -> &'static str {
 fn count_rows(words: &[String]) {
     let all = calls::all();
     for row in chosen(words) {
+        calls::widen(row.signs);
         for (end, script) in [("accepted", row.text()), ("refused", row.refused())] {
             let bound = records::bound(script.len());
             let (mut records, mut others) = (vec![0u8; bound], vec![0u8; bound]);

@@ -75,9 +75,7 @@ static inline int comment_follows(const byte *at)
 // What a byte behind the first, ASCII part of a name or an operator may begin. Only then are the rules for all characters gone through.
 enum { MORE_NAME = 1, QUOTE = 2, MORE_SIGNS = 4 };
 static const byte follows[256] = {
-    ['_'] = MORE_NAME, ['"'] = QUOTE, ['/'] = MORE_SIGNS, [0x80 ... 0xE1] = MORE_NAME,
-    [0xE2] = MORE_NAME | MORE_SIGNS, // U+21D2 begins with it
-    [0xE3 ... 0xEF] = MORE_NAME,
+    ['_'] = MORE_NAME, ['"'] = QUOTE, ['/'] = MORE_SIGNS, [0x80 ... 0xEF] = MORE_NAME | MORE_SIGNS,
 };
 
 /*!include:re2c "classes.re" */
@@ -90,7 +88,8 @@ static const byte follows[256] = {
     id_start = (lowercase | uppercase | [$_]) \ [\u24B6-\u24E9];
     id_char = (alphabetic \ alpha_not_letter) | nd | [$];
     // Operator signs, without the slash and without slash and star.
-    sign = [!#%&*+\-:<=>?@\\^|~\u21D2];
+    wide_sign = math_or_other_symbol \ [\u0000-\u007F];
+    sign = [!#%&*+\-:<=>?@\\^|~] | wide_sign;
     after_slash = sign \ [*];
     printable = [\u0020-\uFFEF] \ [\u007F-\u009F\\];
 
@@ -263,11 +262,15 @@ static const byte *name_end(const byte *at)
     */
 }
 
-// Of the two bytes of MORE_SIGNS: U+21D2 must be there whole. A slash is a sign or begins a comment, and in neither case the signs before it are a
-// keyword.
+// Of the bytes of MORE_SIGNS: a sign past ASCII must be there whole. A slash is a sign or begins a comment, and in neither case the signs before it are
+// a keyword.
 static int sign_follows(const byte *at)
 {
-    return *at == '/' || (at[1] == 0x87 && at[2] == 0x92);
+    const byte *marker;
+    /*!re2c
+    * { return 0; }
+    wide_sign | "/" { return 1; }
+    */
 }
 
 static const byte *operator_end(const byte *at)
@@ -364,7 +367,7 @@ wide:
     /*!re2c
     * { REFUSED(3, start); }
     id_start { goto name; }
-    "\u21D2" { goto operator; }
+    wide_sign { goto operator; }
     */
 
 name:

@@ -112,6 +112,7 @@ fn show_rows(bench: &mut Bench, words: &[String]) {
     println!("{:<40} {:>9} {:>4} {:>9} {:>9} {:>9} {:>9} tokenize tokenize  re2c by", "row", "bytes", "no.", heads[0], heads[1], heads[2], heads[3]);
     println!("{:<40} {:>9} {:>4} {:>9} {:>9} {:>9} {:>9}   by one   by two      one", "", "", "", "MB/s", "MB/s", "MB/s", "MB/s");
     for row in chosen(words) {
+        calls::widen(row.signs);
         for (end, script) in [("", row.text()), (", refused", row.refused())] {
             let name = format!("{}{end}", row.name);
             show(&name, script.len(), &bench.measure(&name, &script));
@@ -142,6 +143,7 @@ fn main() {
     }
     let mut bench = Bench::new(rounds.unwrap_or(9));
     show_rows(&mut bench, &words);
+    calls::widen(false);
     if words.is_empty() {
         println!();
         show_growth(&mut bench);

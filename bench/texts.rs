@@ -140,6 +140,17 @@ const ALPHABETS: [Kind; 10] = [
     alphabet("strings, mixed", Form("\"", "à payer – 金额 ≤ 10 € … राशि ⇒ ចំនួន ", 4, "\" ")),
 ];
 
+// With operator signs past ASCII other than `⇒`. The published tokenize does not know them, so that a copy with the class widened is counted in its place
+// (compare/published).
+#[rustfmt::skip]
+const SIGNS: [Kind; 5] = [
+    kind("operators", "operators of ≤ and ∪", "≤ ", Form("", "≤∪", 10, " ")),
+    kind("operators", "operators of ¬ and ÷", "÷ ", Form("", "¬÷", 15, " ")),
+    kind("operators", "signs past ASCII in code", "a≤b ", one("  val total = значение ≤ limit ∪ (a × b ÷ 2) ⇒ x\n")),
+    kind("names", "names ending in ≤ and ∪", "a_≤ ", Form("name_", "≤∪", 10, " ")),
+    kind("quoted", "symbols of ≤ and ∪", "'≤ ", Form("'", "≤∪", 10, " ")),
+];
+
 const SIZES: [(&str, usize); 10] = [
     ("1 byte", 1),
     ("10 bytes", 10),
@@ -163,6 +174,8 @@ enum What {
 pub struct Row {
     pub group: &'static str,
     pub name: String,
+    // Is it of SIGNS?
+    pub signs: bool,
     what: What,
 }
 
@@ -228,7 +241,8 @@ fn mixture(n: usize) -> String {
 }
 
 fn forms(kind: &'static Kind) -> Vec<Row> {
-    let row = |form: &str, what| Row { group: kind.group, name: format!("{}{form}", kind.name), what };
+    let signs = SIGNS.iter().any(|other| other.name == kind.name);
+    let row = |form: &str, what| Row { group: kind.group, name: format!("{}{form}", kind.name), signs, what };
     match &kind.long {
         Some(long) => vec![row(", short", What::Form(&kind.short)), row(", long", What::Form(long))],
         None => vec![row("", What::Form(&kind.short))],
@@ -239,12 +253,13 @@ pub fn rows() -> Vec<Row> {
     static TABLE: [Kind; KINDS.len()] = KINDS;
     static MORE: [Kind; NAMES.len()] = NAMES;
     static WIDE: [Kind; ALPHABETS.len()] = ALPHABETS;
-    let all = || TABLE.iter().chain(&MORE).chain(&WIDE);
+    static NEW: [Kind; SIGNS.len()] = SIGNS;
+    let all = || TABLE.iter().chain(&MORE).chain(&WIDE).chain(&NEW);
     let mut kinds: Vec<&Kind> = all().collect();
     // Those of one group together, in whichever list they stand.
     kinds.sort_by_key(|kind| all().position(|other| other.group == kind.group));
     let mut rows: Vec<Row> = kinds.into_iter().flat_map(forms).collect();
-    let mut add = |group, name: &str, what| rows.push(Row { group, name: name.to_string(), what });
+    let mut add = |group, name: &str, what| rows.push(Row { group, name: name.to_string(), signs: false, what });
     add("mixtures", "contract", What::Contract("\n"));
     add("mixtures", "contract, CR LF", What::Contract("\r\n"));
     add("mixtures", "all kinds by chance", What::Random);
