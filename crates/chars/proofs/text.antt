@@ -3,3 +3,4 @@ pub mod Steps
 pub mod Places
 pub mod Runs
 pub mod Looks
+pub mod Signs

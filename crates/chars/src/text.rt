@@ -1,10 +1,11 @@
 // A script read character by character.
-ghost use Rattle.std.specs.Prelude.{◌≡◌, ◌+◌, ◌*◌, ◌≤◌, ◌<◌, ◌==◌, IsTrue, length, drop, Some};
+ghost use Rattle.std.specs.Prelude.{◌≡◌, ◌+◌, ◌*◌, ◌≤◌, ◌<◌, ◌==◌, ◌&&◌, IsTrue, length, drop, nat_le, Some};
 ghost use Rattle.chars.specs.paper.Quoted.{between};
 ghost use Rattle.chars.specs.paper.Utf8.{width};
+ghost use Rattle.chars.specs.paper.Classes.{isOpSign};
 ghost use Rattle.chars.specs.code.Classes.{answers};
 ghost use Rattle.chars.specs.code.Utf8.{decoded};
-ghost use Rattle.chars.specs.code.Text.{beginsThree, threeBytes, stepAt};
+ghost use Rattle.chars.specs.code.Text.{beginsThree, threeBytes, formOfThree, signWidth, stepAt};
 ghost use Rattle.chars.specs.promises.Texts.{TextLaws};
 
 use crate::classes::{Classes, classes_at};
@@ -119,6 +120,47 @@ pub fn look(s: &[u8], at: usize) -> Decoded
         };
     }
     told((s[at] / 64) as usize, (s[at] % 64) as u32, 1)
+}
+
+// Whether the bytes there have the form of a character of three, as those of an overlong one and of a surrogate have, too.
+#[tactic(auto, unfolding(crate::specs::code::Text::formOfThree))]
+#[inline(always)]
+fn has_form_of_three(s: &[u8], at: usize) -> bool
+    requires { at < length s.now }
+    ensures { result ≡ formOfThree s.now at }
+{
+    is_in(s[at], 0xE0, 0xEF) && at + 2 < s.len() && continues(s[at + 1]) && continues(s[at + 2])
+}
+
+// Whether the character of that form is an operator sign. Overlong ones have one of the first 32 blocks, and no surrogate is a sign.
+#[inline(always)]
+fn is_sign_of_three(block: usize, place: u32) -> bool
+    requires block { block < 1024 }
+    requires place { place < 64 }
+    ensures { result ≡ nat_le 32 block && isOpSign (64 * block + place) }
+{
+    32 <= block && classes_at(block, place).op_sign
+}
+
+/// How many bytes the operator sign has that stands at a byte offset, if one does.
+// Nearly all signs past ASCII have three bytes, so that form is asked for first. What has it and is no character is no sign: the first byte, which
+// stands alone then, is none.
+#[inline(always)]
+pub fn sign_width(s: &[u8], at: usize) -> Option<usize>
+    requires { at < length s.now }
+    ensures { result ≡ signWidth (stepAt s.now at) }
+{
+    if has_form_of_three(s, at) {
+        if is_sign_of_three(block_of(s[at], s[at + 1]), (s[at + 2] % 64) as u32) {
+            return Some(3);
+        }
+        return None;
+    }
+    let here = look(s, at);
+    if here.classes.op_sign {
+        return Some(here.width);
+    }
+    None
 }
 
 /// The first character from a byte offset on; past the end there is none.

@@ -1,5 +1,6 @@
 // The character classes of RULES (docs/RULES.md), "Characters", as runs: for each class the maximal runs of the characters up to U+FFFF that belong to
-// it, one to a line, then how many characters were walked. `rt ci` holds what it writes to `stdout`, which compare/class-runs made of `token.rs` itself.
+// it, one to a line, then how many characters were walked. `rt ci` holds what it writes to `stdout`, which compare/class-runs made of `token.rs` itself,
+// and of operator signs also of the categories as they are published.
 #![tactic(auto)]
 
 ghost use Rattle.std.specs.Prelude.{◌≡◌, ◌-◌, ◌<◌, ◌≤◌, length, IfOk};
@@ -11,7 +12,7 @@ use puts::hex_digit;
 use std::alloc::AllocError;
 use std::io;
 
-// Room for all lines, which take less than 10,000 bytes.
+// Room for all lines, which take less than 13,000 bytes.
 const ROOM_BYTES: usize = 16 * 1024;
 
 #[derive(Clone, Copy, Debug, PartialEq, Eq)]

@@ -1,5 +1,6 @@
 // Listings of many scripts: for each case a line `-- K`, counted from 1, and the script's listing. `rt ci` runs it on `stdin`
-// and holds what it prints to `stdout`; `compare/tokenize FOLDER --listing` wrote both, the listings by the published tokenize alone.
+// and holds what it prints to `stdout`; `compare/tokenize FOLDER --listing` wrote both, the listings by the published tokenize alone, and of scripts
+// with operator signs that it does not know by a copy that has them.
 //
 // Standard input holds cases, one directly after the other. A case is four decimal digits, the script's length, a line feed, and the script.
 #![tactic(auto)]

@@ -1,12 +1,12 @@
-// Replays answers of the published tokenize. `rt ci` runs it on `stdin`, which `compare/tokenize FOLDER --list` wrote, and holds
-// what it prints to `stdout`.
+// Replays answers of the published tokenize, and to scripts with operator signs that it does not know, of a copy that has them. `rt ci` runs it on
+// `stdin`, which `compare/tokenize FOLDER --list` wrote, and holds what it prints to `stdout`.
 //
 // Standard input holds cases, one directly after the other, up to its end. Numbers are four bytes each, little-endian. A case is
 //
 //     the script's length
 //     how many bytes are lent for the records
 //     0 where tokenize is to answer, any other where tokenize_contact is
-//     the answer block, number, place, token count and record bytes: by the published tokenize; 18, 19 and 27 to 29 by RULES and REQUESTS
+//     the answer block, number, place, token count and record bytes: by that tokenize; 18, 19 and 27 to 29 by RULES and REQUESTS
 //     the script
 //     where the number is 0, the records: as many bytes as the block says
 //

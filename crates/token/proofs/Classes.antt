@@ -1,5 +1,5 @@
 -- Quoted characters and the classes of `chars`: which of them are in none, from what `chars` promises.
-use Rattle.std.proofs.Common.{ℕ, Bool, ◌<◌, ◌≡◌, refl, sym, ◌∙◌, ap, true, false, not, ◌&&◌, ◌||◌, arith, ltb, lt-ltb, ltb-true}
+use Rattle.std.proofs.Common.{ℕ, Bool, ◌<◌, ◌≡◌, refl, sym, ◌∙◌, ap, true, false, not, ◌&&◌, arith, ltb, lt-ltb, ltb-true}
 use Prim.Native.String.{String}
 use Rattle.chars.specs.paper.Quoted.{codes, oneOf}
 use Rattle.chars.specs.paper.Classes.{isIdStart, isIdChar, asciiSigns, isOpSign}

@@ -23,7 +23,7 @@ use crate::piece::Piece;
 use crate::refusal::{Refusal, Refused};
 use crate::string::lex_prefixed_string;
 use chars::runs::{NoneOf, run_end};
-use chars::text::look;
+use chars::text::sign_width;
 
 // Does an operator sign of ASCII stand there? FREE: one that opens no comment.
 #[inline(always)]
@@ -40,26 +40,42 @@ fn is_op_sign<const FREE: bool>(s: &[u8], at: usize) -> bool
 }
 
 // Past the operator signs that stand there. FREE: a comment's opening ends them.
-#[inline(never)] // its loops have registers of their own then
+#[inline(never)] // its loop has registers of its own then
 fn consume_signs<const FREE: bool>(s: &[u8], c: Cursor) -> Cursor
     requires { c.at ≤ length s.now }
     ensures within { result.at ≤ length s.now }
     ensures rest { from s.now result.at ≡ afterRun (signIn FREE) (from s.now c.at) }
 {
     let mut i = c.at;
-    // A step is a sign past ASCII, and those of ASCII before it.
+    while is_op_sign::<FREE>(s, i) {
+        i += 1;
+    }
+    if Class::at(s, i) == Class::WIDE {
+        return consume_wide_signs::<FREE>(s, Cursor { at: i });
+    }
+    Cursor { at: i }
+}
+
+// The same, where a character past ASCII stands.
+#[inline(never)] // so that the loop over ASCII is small
+fn consume_wide_signs<const FREE: bool>(s: &[u8], c: Cursor) -> Cursor
+    requires { c.at ≤ length s.now }
+    ensures within { result.at ≤ length s.now }
+    ensures rest { from s.now result.at ≡ afterRun (signIn FREE) (from s.now c.at) }
+{
+    let mut i = c.at;
+    // A step is a sign: one of ASCII, or one past it.
     loop {
-        while is_op_sign::<FREE>(s, i) {
+        if Class::at(s, i) == Class::WIDE {
+            let Some(width) = sign_width(s, i) else {
+                return Cursor { at: i };
+            };
+            i += width;
+        } else if is_op_sign::<FREE>(s, i) {
             i += 1;
-        }
-        if Class::at(s, i) != Class::WIDE {
+        } else {
             return Cursor { at: i };
         }
-        let here = look(s, i);
-        if !here.classes.op_sign {
-            return Cursor { at: i };
-        }
-        i += here.width;
     }
 }
 

@@ -9,7 +9,7 @@ ghost use Rattle.token.specs.code.Names.{hereOf, runTo, lowBefore, wordChar, run
 
 use crate::byte_class::Class;
 use crate::cursor::byte_at;
-use chars::text::look;
+use chars::text::{look, sign_width};
 
 /// A place, and what the byte there is.
 #[derive(Clone, Copy, Debug, PartialEq, Eq)]
@@ -117,11 +117,10 @@ pub fn wide_run_end(s: &[u8], at: usize) -> Here
     let mut end = run_end(s, at);
     // A step is a character past ASCII, and the ASCII behind it.
     while end.class == Class::WIDE {
-        let here = look(s, end.at);
-        if !here.classes.op_sign {
+        let Some(width) = sign_width(s, end.at) else {
             return end;
-        }
-        end = run_end(s, end.at + here.width);
+        };
+        end = run_end(s, end.at + width);
     }
     end
 }

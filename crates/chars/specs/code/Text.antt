@@ -1,5 +1,5 @@
 -- What `text` answers.
-use Rattle.std.specs.Prelude.{ℕ, suc, ◌+◌, ◌-◌, ◌*◌, ◌/◌, max, Bool, not, ◌&&◌, ◌==◌, Option, None, if◌then◌else◌, nat_lt, List, length, drop}
+use Rattle.std.specs.Prelude.{ℕ, suc, ◌+◌, ◌-◌, ◌*◌, ◌/◌, max, Bool, not, ◌&&◌, ◌==◌, Option, Some, None, if◌then◌else◌, nat_lt, List, length, drop, slice_index}
 use Rattle.chars.specs.paper.Quoted.{between}
 use Rattle.chars.specs.paper.Utf8.{width, codeOf}
 use Rattle.chars.specs.code.Utf8.{decoded}
@@ -27,3 +27,13 @@ beginsThree a b = not ((64 * a + b - 0x3880) / 32 == 0) && not ((64 * a + b - 0x
 -- are the three bytes such a character?
 abbrev pub threeBytes : ℕ → ℕ → ℕ → Bool
 threeBytes a b c = between 0xE0 0xEF a && (between 0x80 0xBF b && (between 0x80 0xBF c && beginsThree a b))
+
+-- do the bytes from the place i on have the form of such a character?
+unfoldable pub formOfThree : List ℕ → ℕ → Bool
+formOfThree s i =
+    between 0xE0 0xEF (slice_index s i) && (nat_lt (i + 2) (length s) && (between 0x80 0xBF (slice_index s (i + 1)) && between 0x80 0xBF (slice_index s (i + 2))))
+
+-- how many bytes an operator sign has, if the character is one
+abbrev pub signWidth : Option Decoded → Option ℕ
+signWidth None = None
+signWidth (Some d) = if d.classes.op_sign then Some d.width else None

@@ -1,10 +1,11 @@
 -- The cursor: one character, and runs of bytes.
-use Rattle.token.proofs.cursor.Words.{ℕ, zero, suc, ◌+◌, ◌-◌, ◌≤◌, ◌<◌, ◌≡◌, ◌∙◌, ap, List, ◌∷◌, length, get_or, arith, Text, from, stepAt, text-laws, cursorAt, Cursor, None, Option, Some, refl, drop, sym}
+use Rattle.token.proofs.cursor.Words.{ℕ, zero, suc, ◌+◌, ◌-◌, ◌≤◌, ◌<◌, ◌≡◌, ◌∙◌, ap, List, ◌∷◌, length, get_or, arith, Text, from, stepAt, text-laws, cursorAt, Cursor, None, Option, Some, refl, drop, sym, Bool, true, false, cond}
 use Rattle.std.proofs.lemmas.Option.{none-some, same_Some}
 use Rattle.chars.specs.code.Classes.{answers}
 use Rattle.token.specs.code.Cursor.{peekAt, peekedOf}
 use Rattle.chars.specs.code.Runs.{Each}
 use Rattle.chars.specs.code.Utf8.{decoded}
+use Rattle.chars.specs.code.Text.{signWidth}
 use Rattle.chars.specs.declared.utf8.Decoded.{Decoded}
 open text-laws use {at-char, next-on, step-classes, step-text, step-none}
 
@@ -53,6 +54,41 @@ peeked-end s i e = go (stepAt s i) refl e
     go : (x : Option Decoded) → stepAt s i ≡ x → None ≡ peekedOf i x → length s ≤ i
     go (Some y) f q = absurd (none-some (y, cursorAt (i + y.width)) q)
     go None f q = step-none s i (sym f)
+
+-- what the width of an operator sign says of the look there
+pub record SignAt (s : List ℕ) (i w : ℕ) : Type 0 where
+  pub look : Decoded
+  pub there : Some look ≡ stepAt s i
+  pub sign : look.classes.op_sign ≡ true
+  pub width : w ≡ look.width
+
+pub sign-at : (s : List ℕ) (i w : ℕ) → Some w ≡ signWidth (stepAt s i) → SignAt s i w
+sign-at s i w e = go (stepAt s i) refl e
+  where
+    by : (d : Decoded) (b : Bool) → stepAt s i ≡ Some d → d.classes.op_sign ≡ b → Some w ≡ cond b (Some d.width) None → SignAt s i w
+    by d true f p q = record { look = d; there = sym f; sign = p; width = same_Some w d.width q }
+    by d false f p q = absurd (none-some w (sym q))
+
+    go : (x : Option Decoded) → stepAt s i ≡ x → Some w ≡ signWidth x → SignAt s i w
+    go (Some d) f q = by d d.classes.op_sign f refl q
+    go None f q = absurd (none-some w (sym q))
+
+-- and of one that is none
+pub record NoSignAt (s : List ℕ) (i : ℕ) : Type 0 where
+  pub look : Decoded
+  pub there : Some look ≡ stepAt s i
+  pub sign : look.classes.op_sign ≡ false
+
+pub no-sign-at : (s : List ℕ) (i : ℕ) → i < length s → None ≡ signWidth (stepAt s i) → NoSignAt s i
+no-sign-at s i h e = go (stepAt s i) refl e
+  where
+    by : (d : Decoded) (b : Bool) → stepAt s i ≡ Some d → d.classes.op_sign ≡ b → None ≡ cond b (Some d.width) None → NoSignAt s i
+    by d true f p q = absurd (none-some d.width q)
+    by d false f p q = record { look = d; there = sym f; sign = p }
+
+    go : (x : Option Decoded) → stepAt s i ≡ x → None ≡ signWidth x → NoSignAt s i
+    go (Some d) f q = by d d.classes.op_sign f refl q
+    go None f q = let l = step-none s i (sym f) in absurd (omega (arith, h, l))
 
 -- ---- bytes of one property, passed together: what f finds past any one of them is what it finds before it
 

@@ -1,10 +1,10 @@
 -- Operator signs, by the classes of their bytes, and past ASCII by one look.
-use Rattle.token.proofs.lexer.Words.{◌≡◌, refl, sym, ◌∙◌, ap, ap₂, ℕ, ◌+◌, ◌≤◌, ◌<◌, Bool, true, false, cond, not, ◌&&◌, List, ◌∷◌, length, get_or, eqb, leb-false, ne_eqb, eqb-true, ◌-◌, arith, and-true, or-false, lt-leb, Option, none, some, codes, oneOf, isOpSign, Some, Char, Text, idStart, from, afterRun, clash, and-both, text-laws, opSign, freeSign, opensComment, runOf, wordOf, symbolKeywords, wordKeywords, Found, codesTo, runOr, scanOperator, classOf, classAt, keywordClass, signKeywordClass, wideClass, slashClass, isSign, signIn, asciiSign, runBefore, LeftTo, Kw, TokenKind, nul-no-sign, sign-byte, by-test}
+use Rattle.token.proofs.lexer.Words.{◌≡◌, refl, sym, ◌∙◌, ap, ap₂, subst, ℕ, ◌+◌, ◌≤◌, ◌<◌, Bool, true, false, cond, not, ◌&&◌, List, ◌∷◌, length, get_or, eqb, leb-false, ne_eqb, eqb-true, ◌-◌, arith, and-true, or-false, lt-leb, Option, none, some, codes, oneOf, isOpSign, Some, None, Char, Text, idStart, from, afterRun, clash, and-both, text-laws, opSign, freeSign, opensComment, runOf, wordOf, symbolKeywords, wordKeywords, Found, codesTo, runOr, scanOperator, classOf, classAt, keywordClass, signKeywordClass, wideClass, slashClass, isSign, signIn, asciiSign, runBefore, LeftTo, Kw, TokenKind, nul-no-sign, sign-byte, by-test}
 use Rattle.token.specs.declared.kinds.TokenKind.TheVariants as tk
-use Rattle.chars.specs.code.Text.{stepAt}
+use Rattle.chars.specs.code.Text.{stepAt, signWidth}
 use Rattle.chars.specs.declared.classes.Classes.{Classes}
 use Rattle.chars.specs.declared.utf8.Decoded.{Decoded}
-use Rattle.token.proofs.cursor.Laws.{seen}
+use Rattle.token.proofs.cursor.Laws.{seen, sign-at, no-sign-at}
 use Rattle.token.proofs.ident.Laws.{comment_bytes, head-low}
 use Rattle.token.proofs.byte_class.Laws.{class-sign, class-keyword, class-sign-keyword, class-slash, class-wide}
 use Rattle.token.proofs.keyword.Laws.{run-at, word-at, first-none}
@@ -92,6 +92,16 @@ module _ (s : List ℕ) (j : ℕ) where
 
       pub wide-stop : d.classes.op_sign ≡ false → afterRun (signIn free) (from s j) ≡ from s j
       wide-stop o = run-stays (signIn free) (from s j) (wide-here ∙ o)
+
+    -- the same by the width of a sign
+    module _ (w : eqb (classAt s j) wideClass ≡ true) where
+      pub width-on : (n : ℕ) → Some n ≡ signWidth (stepAt s j) → (j + n ≤ length s) × (j < j + n) × (afterRun (signIn free) (from s (j + n)) ≡ afterRun (signIn free) (from s j))
+      width-on n q =
+          let a = sign-at s j n q in
+          subst (λ k. (j + k ≤ length s) × (j < j + k) × (afterRun (signIn free) (from s (j + k)) ≡ afterRun (signIn free) (from s j))) (sym a.width) (wide-on a.look w a.there a.sign)
+
+      pub width-stop : None ≡ signWidth (stepAt s j) → afterRun (signIn free) (from s j) ≡ from s j
+      width-stop q = let a = no-sign-at s j (class-inside s j (λ z. eqb z wideClass) refl w) q in wide-stop a.look w a.there a.sign
 
     -- where neither a sign of ASCII stands nor a character past it, none does
     pub sign-stop : asciiSign free s j ≡ false → eqb (classAt s j) wideClass ≡ false → signIn free (from s j) ≡ false

@@ -1,12 +1,12 @@
 -- Words and runs of operator signs with their characters past ASCII: a run of characters, of which the loops pass those of ASCII by their classes and the
 -- others by one look at each.
-use Rattle.token.proofs.lexer.Words.{◌≡◌, refl, sym, ◌∙◌, ap, ap₂, subst, ℕ, ◌+◌, ◌≤◌, ◌<◌, Bool, true, false, not, ◌&&◌, ◌||◌, List, [], ◌∷◌, Some, length, get_or, eqb, leb-true, ne_eqb, lt-ltb, arith, and-true, or-false, clash, or-neither, under-no-id, isIdChar, isOpSign, Char, Text, from, place, idChar, afterRun, text-laws, class-laws, opSign, classAt, otherClass, wideClass, inWord, inRun, hereOf, runTo, wordChar, runChar, sign-byte, nul-no-sign, Here}
-use Rattle.chars.specs.code.Text.{stepAt}
+use Rattle.token.proofs.lexer.Words.{◌≡◌, refl, sym, ◌∙◌, ap, ap₂, subst, ℕ, ◌+◌, ◌≤◌, ◌<◌, Bool, true, false, not, ◌&&◌, ◌||◌, List, [], ◌∷◌, Some, None, length, get_or, eqb, leb-true, ne_eqb, lt-ltb, arith, and-true, or-false, clash, or-neither, under-no-id, isIdChar, isOpSign, Char, Text, from, place, idChar, afterRun, text-laws, class-laws, opSign, classAt, otherClass, wideClass, inWord, inRun, hereOf, runTo, wordChar, runChar, sign-byte, nul-no-sign, Here}
+use Rattle.chars.specs.code.Text.{stepAt, signWidth}
 use Rattle.chars.specs.declared.classes.Classes.{Classes}
 use Rattle.chars.specs.declared.utf8.Decoded.{Decoded}
 use Rattle.token.proofs.byte_class.Laws.{class-word, class-run, class-wide}
 use Rattle.token.proofs.cursor.Bytes.{any-byte}
-use Rattle.token.proofs.cursor.Laws.{seen}
+use Rattle.token.proofs.cursor.Laws.{seen, sign-at, no-sign-at}
 use Rattle.token.proofs.ident.Laws.{head-low}
 use Rattle.token.proofs.ident.Signs.{low-byte}
 use Rattle.token.proofs.names.Bytes.{pass-keep, pass-within, pass-done, class-inside}
@@ -145,6 +145,23 @@ module _ {p : Text → Bool} {q : ℕ → Bool} {f : Classes → Bool} (k : Kind
             let v : y.at ≡ runTo q s (e.at + d.width) = ap (λ (x : Here). x.at) x in
             let o = ascii-passed (e.at + d.width) a.1 in
             ((x ∙ ap (hereOf s) (sym v), subst (Passed at) (sym v) a.2), omega (arith, a.0, o.on, v), omega (arith, o.within, v))
+
+-- ---- the loop over signs, which asks for the width of one
+
+module _ (s : List ℕ) {at : ℕ} {e : Here} (g : Kept run-kind s at e) (w : eqb (classAt s e.at) wideClass ≡ true) where
+  pub sign-none : None ≡ signWidth (stepAt s e.at) → e ≡ hereOf s (place (length s) (afterRun runChar (from s at)))
+  sign-none q = let a = no-sign-at s e.at (kept-inside run-kind s g w) q in kept-wide run-kind s g w a.look a.there a.sign
+
+  module _ (n : ℕ) (q : Some n ≡ signWidth (stepAt s e.at)) where
+    pub sign-next : (e.at < e.at + n) × (e.at + n ≤ length s)
+    sign-next =
+        let a = sign-at s e.at n q in
+        subst (λ k. (e.at < e.at + k) × (e.at + k ≤ length s)) (sym a.width) (kept-next run-kind s g w a.look a.there a.sign)
+
+    pub sign-on : (y : Here) → y ≡ hereOf s (runTo inRun s (e.at + n)) → Kept run-kind s at y × (e.at < y.at) × (y.at ≤ length s)
+    sign-on y x =
+        let a = sign-at s e.at n q in
+        kept-on run-kind s g w a.look a.there a.sign y (subst (λ k. y ≡ hereOf s (runTo inRun s (e.at + k))) a.width x)
 
 -- what a test of a class says of the class that stands there
 pub told : (f : ℕ → Bool) {k j : ℕ} {r b : Bool} → k ≡ j → r ≡ f k → r ≡ b → f j ≡ b

@@ -1,4 +1,4 @@
--- Both loops keep what follows the signs from its place on.
+-- The loop keeps what follows the signs from its place on.
 use Rattle.token.proofs.lexer.Words.{◌≡◌, ◌≤◌, ◌-◌, Bool, length, from, afterRun, signIn}
 use denote.Param as param
 use Rattle.token.specs.contracts.ident.consume_signs as contract
@@ -13,9 +13,3 @@ invariant-loop-i g l = (l.i ≤ length l.s) × (afterRun (signIn (free g)) (from
 
 abbrev pub decreases-loop-i : goal.decreases-loop-i
 decreases-loop-i g l = length l.s - l.i
-
-abbrev pub invariant-loop-i-2 : goal.invariant-loop-i-2
-invariant-loop-i-2 g l = (l.i ≤ length l.s) × (l.initial.i ≤ l.i) × (afterRun (signIn (free g)) (from l.s l.i) ≡ afterRun (signIn (free g)) (from l.s l.fn.c.at))
-
-abbrev pub decreases-loop-i-2 : goal.decreases-loop-i-2
-decreases-loop-i-2 g l = length l.s - l.i

@@ -1,46 +1,46 @@
--- A step passes a character past ASCII and the ASCII behind it, or nothing of the run stands there.
-use Rattle.token.proofs.lexer.Words.{arith, not-true, not-false}
-use Rattle.token.proofs.names.Wide.{run-kind, first, class-is, kept-inside, kept-ascii, kept-wide, kept-next, kept-on}
+-- A step passes a sign past ASCII and the ASCII behind it, or nothing of the run stands there.
+use Rattle.token.proofs.lexer.Words.{sym, ◌∙◌, arith}
+use Rattle.token.proofs.names.Wide.{run-kind, first, class-is, kept-inside, kept-ascii, sign-none, sign-next, sign-on}
 use Rattle.token.proofs.names.wide_run_end.Goals as goal
 
-pub loop-here-init : goal.loop-here-init
-loop-here-init c = first run-kind c.args.s.now c.args.at c.requires c.run_end-end.result c.run_end-end.ensures
+pub loop-width-init : goal.loop-width-init
+loop-width-init c = first run-kind c.args.s.now c.args.at c.requires c.run_end-end.result c.run_end-end.ensures
 
-pub look-here-requires : goal.look-here-requires
-look-here-requires c =
-    let g = c.loop-here.invariant in
-    kept-inside run-kind c.args.s.now g (class-is run-kind c.args.s.now g c.eq.ensures c.loop-here-test.true)
+pub sign_width-requires : goal.sign_width-requires
+sign_width-requires c =
+    let g = c.loop-width.invariant in
+    kept-inside run-kind c.args.s.now g (class-is run-kind c.args.s.now g c.eq.ensures c.loop-width-test.true)
 
-pub returns-then-not-here : goal.returns-then-not-here
-returns-then-not-here c =
-    let g = c.loop-here.invariant in
-    kept-wide run-kind c.args.s.now g (class-is run-kind c.args.s.now g c.eq.ensures c.loop-here-test.true) c.look-here.result c.look-here.ensures (not-true _ c.if-not-here.true)
+pub returns-in_default : goal.returns-in_default
+returns-in_default c =
+    let g = c.loop-width.invariant in
+    sign-none c.args.s.now g (class-is run-kind c.args.s.now g c.eq.ensures c.loop-width-test.true) (sym c.in_default.is ∙ c.sign_width.ensures)
 
 pub overflow_add-end : goal.overflow_add-end
 overflow_add-end c =
-    let g = c.loop-here.invariant in
-    let n = kept-next run-kind c.args.s.now g (class-is run-kind c.args.s.now g c.eq.ensures c.loop-here-test.true) c.look-here.result c.look-here.ensures (not-false _ c.if-not-here.false) in
+    let g = c.loop-width.invariant in
+    let n = sign-next c.args.s.now g (class-is run-kind c.args.s.now g c.eq.ensures c.loop-width-test.true) _ (sym c.in-Some.is ∙ c.sign_width.ensures) in
     omega (arith, n.1)
 
-pub run_end-end-requires-in-loop-here : goal.run_end-end-requires-in-loop-here
-run_end-end-requires-in-loop-here c =
-    let g = c.loop-here.invariant in
-    (kept-next run-kind c.args.s.now g (class-is run-kind c.args.s.now g c.eq.ensures c.loop-here-test.true) c.look-here.result c.look-here.ensures (not-false _ c.if-not-here.false)).1
+pub run_end-end-requires-in-loop-width : goal.run_end-end-requires-in-loop-width
+run_end-end-requires-in-loop-width c =
+    let g = c.loop-width.invariant in
+    (sign-next c.args.s.now g (class-is run-kind c.args.s.now g c.eq.ensures c.loop-width-test.true) _ (sym c.in-Some.is ∙ c.sign_width.ensures)).1
 
-pub loop-here-smaller : goal.loop-here-smaller
-loop-here-smaller c =
-    let g = c.loop-here.invariant in
-    let n = kept-on run-kind c.args.s.now g (class-is run-kind c.args.s.now g c.eq.ensures c.loop-here-test.true) c.look-here.result c.look-here.ensures (not-false _ c.if-not-here.false)
-    c.run_end-end-in-loop-here.result c.run_end-end-in-loop-here.ensures in
+pub loop-width-smaller : goal.loop-width-smaller
+loop-width-smaller c =
+    let g = c.loop-width.invariant in
+    let n = sign-on c.args.s.now g (class-is run-kind c.args.s.now g c.eq.ensures c.loop-width-test.true) _ (sym c.in-Some.is ∙ c.sign_width.ensures)
+    c.run_end-end-in-loop-width.result c.run_end-end-in-loop-width.ensures in
     omega (arith, n.1, n.2)
 
-pub loop-here-preserved : goal.loop-here-preserved
-loop-here-preserved c =
-    let g = c.loop-here.invariant in
-    (kept-on run-kind c.args.s.now g (class-is run-kind c.args.s.now g c.eq.ensures c.loop-here-test.true) c.look-here.result c.look-here.ensures (not-false _ c.if-not-here.false)
-    c.run_end-end-in-loop-here.result c.run_end-end-in-loop-here.ensures).0
+pub loop-width-preserved : goal.loop-width-preserved
+loop-width-preserved c =
+    let g = c.loop-width.invariant in
+    (sign-on c.args.s.now g (class-is run-kind c.args.s.now g c.eq.ensures c.loop-width-test.true) _ (sym c.in-Some.is ∙ c.sign_width.ensures)
+    c.run_end-end-in-loop-width.result c.run_end-end-in-loop-width.ensures).0
 
 pub returns : goal.returns
 returns c =
-    let g = c.loop-here.invariant in
-    kept-ascii run-kind c.args.s.now g (class-is run-kind c.args.s.now g c.eq.ensures c.loop-here-test.false)
+    let g = c.loop-width.invariant in
+    kept-ascii run-kind c.args.s.now g (class-is run-kind c.args.s.now g c.eq.ensures c.loop-width-test.false)
