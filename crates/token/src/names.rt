@@ -1,5 +1,5 @@
 // Words and runs of operator signs: byte by byte while they are ASCII, since few have the sixteen that `chars::runs` looks at together, and past it by
-// one look at each character. Each is told by a place and the class of the byte there.
+// one look at each character, or the width of each sign. Each is told by a place and the class of the byte there.
 ghost use Rattle.std.specs.Prelude.{◌≡◌, ◌≤◌, ◌<◌, length};
 ghost use Rattle.chars.specs.paper.Text.{from, place, idChar};
 ghost use Rattle.chars.specs.computed.Runs.{afterRun};
@@ -27,7 +27,7 @@ pub fn here_at(s: &[u8], at: usize) -> Here
     }
 }
 
-// This loop and that of `run_end` go by two tests, and by bytes, for most end within four; those of all characters go by two answers of a look. With the
+// This loop and that of `run_end` go by two tests, and by bytes, for most end within four; those of all characters go by a look and by the width of a sign. With the
 // test as a parameter, a trait and two impls of it would stand here for one line.
 
 /// Where the ASCII id characters and underscores end that stand there.

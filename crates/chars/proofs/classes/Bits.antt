@@ -1,5 +1,5 @@
--- Tables of ranges and lists of codes as the bits of one number, and so each class: whatever the codes, two sets are compared by two numbers. And that
--- no operator sign is an id start or an id character, by one computed test.
+-- Tables of ranges and lists of codes as the bits of one number, and so each class: two sets of codes are compared as two numbers. And that no operator
+-- sign is an id start or an id character, by one computed test.
 use Rattle.std.proofs.Common.{◌≡◌, ℕ, ◌+◌, ◌-◌, ◌%◌, ◌^◌, ◌≤◌, min, max, Bool, true, false, cond, not, ◌&&◌, ◌||◌, List, [], ◌∷◌, eqb, leb, refl, sym, ap, ◌∙◌, ⊎_elim, arith, eq-eqb, ne_eqb, le-leb, bit_and, bit_or, bit_xor}
 use Rattle.std.proofs.lemmas.Bool.{cases_lt, cases_eq, lt-leb}
 use Rattle.std.specs.Int.{bit_at}

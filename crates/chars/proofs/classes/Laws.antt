@@ -1,4 +1,4 @@
--- The character classes: what excludes what, each computed at the few characters that the rules name.
+-- The character classes: ASCII by its byte, what excludes what, and what no class has.
 use Rattle.std.proofs.Common.{ℕ, suc, ◌≤◌, ◌<◌, ◌≡◌, refl, ap, ◌∙◌, Bool, true, false, ◌&&◌, ◌||◌, ⊎_elim, arith, le-leb, lt-ltb, le-ltb, ne_eqb, ltb}
 use Rattle.std.proofs.lemmas.Bool.{cases_lt, lt-leb}
 use Rattle.std.proofs.Math.Bool.{and-true, and-false, or-false}

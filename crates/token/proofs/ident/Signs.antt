@@ -1,4 +1,4 @@
--- Operator signs, by the classes of their bytes, and past ASCII by one look.
+-- Operator signs, by the classes of their bytes, and past ASCII by the width of a sign or by one look.
 use Rattle.token.proofs.lexer.Words.{◌≡◌, refl, sym, ◌∙◌, ap, ap₂, subst, ℕ, ◌+◌, ◌≤◌, ◌<◌, Bool, true, false, cond, not, ◌&&◌, List, ◌∷◌, length, get_or, eqb, leb-false, ne_eqb, eqb-true, ◌-◌, arith, and-true, or-false, lt-leb, Option, none, some, codes, oneOf, isOpSign, Some, None, Char, Text, idStart, from, afterRun, clash, and-both, text-laws, opSign, freeSign, opensComment, runOf, wordOf, symbolKeywords, wordKeywords, Found, codesTo, runOr, scanOperator, classOf, classAt, keywordClass, signKeywordClass, wideClass, slashClass, isSign, signIn, asciiSign, runBefore, LeftTo, Kw, TokenKind, nul-no-sign, sign-byte, by-test}
 use Rattle.token.specs.declared.kinds.TokenKind.TheVariants as tk
 use Rattle.chars.specs.code.Text.{stepAt, signWidth}

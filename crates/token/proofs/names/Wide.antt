@@ -1,5 +1,5 @@
 -- Words and runs of operator signs with their characters past ASCII: a run of characters, of which the loops pass those of ASCII by their classes and the
--- others by one look at each.
+-- others by one look at each, or by the width of a sign.
 use Rattle.token.proofs.lexer.Words.{◌≡◌, refl, sym, ◌∙◌, ap, ap₂, subst, ℕ, ◌+◌, ◌≤◌, ◌<◌, Bool, true, false, not, ◌&&◌, ◌||◌, List, [], ◌∷◌, Some, None, length, get_or, eqb, leb-true, ne_eqb, lt-ltb, arith, and-true, or-false, clash, or-neither, under-no-id, isIdChar, isOpSign, Char, Text, from, place, idChar, afterRun, text-laws, class-laws, opSign, classAt, otherClass, wideClass, inWord, inRun, hereOf, runTo, wordChar, runChar, sign-byte, nul-no-sign, Here}
 use Rattle.chars.specs.code.Text.{stepAt, signWidth}
 use Rattle.chars.specs.declared.classes.Classes.{Classes}

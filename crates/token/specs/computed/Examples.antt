@@ -1,5 +1,5 @@
--- RULES, "Marked scripts", as one computed check over their list; the examples of "Listing", "Refusals of a piece", "The first refusal" and
--- "Traps". `Examples` in `entry` asks for all of them; here they give a wrong definition its first error.
+-- RULES, "Marked scripts", as one computed check over their list; the examples of "Listing", "Refusals of a piece", "The first refusal", "Traps"
+-- and "Operator sign". `Examples` in `entry` asks for all of them; here they give a wrong definition its first error.
 use Rattle.std.specs.Prelude.{◌≡◌, refl, IsTrue, List, [], ◌∷◌, ◌++◌}
 use Rattle.chars.specs.computed.Encoded.{script}
 use Rattle.token.specs.paper.Records.{mostNeed, values, recordLength, recordBytes}

@@ -1,6 +1,5 @@
 -- By the form of three bytes, and by one look where it does not stand there.
-use Rattle.std.proofs.Common.{sym, ◌∙◌, ◌+◌, ◌≡◌, true, arith}
-use Rattle.chars.specs.code.Text.{formOfThree}
+use Rattle.std.proofs.Common.{sym, ◌∙◌, arith}
 use Rattle.chars.proofs.text.Signs.{form, block-within, sign-three, no-sign-three}
 use Rattle.chars.proofs.text.sign_width.Goals as goal
 
