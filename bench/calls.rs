@@ -2,7 +2,6 @@
 // does. On rows with operator signs that the published tokenize does not know, the copy of it that has them stands in its place.
 use crate::records::bound;
 use std::hint::black_box;
-use std::sync::atomic::{AtomicBool, Ordering};
 
 #[link(name = "ergo", kind = "static")]
 extern "C" {
@@ -22,14 +21,16 @@ type Entry = unsafe extern "C" fn(*const u8, u64, *mut u8, u64, *mut u8, u64) ->
 pub enum Who {
     Ours,
     Tokenize,
+    // The copy of tokenize that has all operator signs.
+    Widened,
     Peer,
 }
 
-// Those that were built in.
-pub fn all() -> Vec<Who> {
+// Those that were built in, for a row with operator signs that the published tokenize does not know, or without.
+pub fn all(signs: bool) -> Vec<Who> {
     let mut all = vec![Who::Ours];
     if cfg!(published) {
-        all.push(Who::Tokenize);
+        all.push(if signs { Who::Widened } else { Who::Tokenize });
     }
     if cfg!(peer) {
         all.push(Who::Peer);
@@ -65,26 +66,24 @@ pub fn measure(script: &str) -> Block {
     begins(&answer)
 }
 
-static WIDENED: AtomicBool = AtomicBool::new(false);
-
-// Whether the copy with the class widened stands in the place of tokenize from now on.
-pub fn widen(widened: bool) {
-    WIDENED.store(widened, Ordering::Relaxed);
-}
-
 // How many tokens, or nothing where tokenize refused.
 #[cfg(published)]
 fn tokenize(script: &str) -> Option<usize> {
-    if WIDENED.load(Ordering::Relaxed) {
-        return widened::token::tokenize(script).ok().map(|tokens| tokens.len());
-    }
     published::token::tokenize(script).ok().map(|tokens| tokens.len())
+}
+
+#[cfg(published)]
+fn widened(script: &str) -> Option<usize> {
+    widened::token::tokenize(script).ok().map(|tokens| tokens.len())
 }
 
 #[cfg(not(published))]
 fn tokenize(_: &str) -> Option<usize> {
     panic!("built without the published tokenize")
 }
+
+#[cfg(not(published))]
+use tokenize as widened;
 
 pub fn ours(script: &str, records: &mut [u8]) -> Block {
     entry(ergo_tokenize, script, records)
@@ -96,6 +95,7 @@ pub fn call(who: Who, script: &str, records: &mut [u8]) {
     match who {
         Who::Ours => drop(black_box(entry(ergo_tokenize, script, records))),
         Who::Tokenize => drop(black_box(tokenize(script))),
+        Who::Widened => drop(black_box(widened(script))),
         Who::Peer => drop(black_box(entry(PEER, script, records))),
     }
 }
@@ -105,9 +105,11 @@ pub fn agree(name: &str, script: &str, all: &[Who], records: &mut [u8], others: 
     let block = ours(script, &mut records[..bound(script.len())]);
     let bytes = block[3] as usize;
     assert_eq!(measure(script), block, "{name}: measuring answers otherwise");
-    if all.contains(&Who::Tokenize) {
-        let count = (block[0] == 0).then_some(block[2] as usize);
-        assert_eq!(tokenize(script), count, "{name}: tokenize answers otherwise");
+    let count = (block[0] == 0).then_some(block[2] as usize);
+    for (who, tokenize) in [(Who::Tokenize, tokenize as fn(&str) -> Option<usize>), (Who::Widened, widened)] {
+        if all.contains(&who) {
+            assert_eq!(tokenize(script), count, "{name}: tokenize answers otherwise");
+        }
     }
     if all.contains(&Who::Peer) {
         assert_eq!(entry(PEER, script, &mut others[..bound(script.len())]), block, "{name}: the peer answers otherwise");

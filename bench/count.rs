@@ -50,15 +50,14 @@ fn repeats(bytes: usize) -> usize {
 fn name(who: Who) -> &'static str {
     match who {
         Who::Ours => "ours",
-        Who::Tokenize => "tokenize",
+        Who::Tokenize | Who::Widened => "tokenize",
         Who::Peer => "re2c",
     }
 }
 
 fn count_rows(words: &[String]) {
-    let all = calls::all();
     for row in chosen(words) {
-        calls::widen(row.signs);
+        let all = calls::all(row.signs);
         for (end, script) in [("accepted", row.text()), ("refused", row.refused())] {
             let bound = records::bound(script.len());
             let (mut records, mut others) = (vec![0u8; bound], vec![0u8; bound]);

@@ -42,6 +42,15 @@ struct Bench {
     all: Vec<Who>,
 }
 
+// The column of three that one of them has.
+fn column(who: Who) -> usize {
+    match who {
+        Who::Ours => 0,
+        Who::Tokenize | Who::Widened => 1,
+        Who::Peer => 2,
+    }
+}
+
 // Median seconds of a call: of each of the three, and of ours by two calls with an allocation between.
 struct Times {
     number: u32,
@@ -52,7 +61,7 @@ struct Times {
 impl Bench {
     fn new(rounds: usize) -> Bench {
         let longest = bound(16 * MIB);
-        Bench { records: vec![0; longest], others: vec![0; longest], rounds, all: calls::all() }
+        Bench { records: vec![0; longest], others: vec![0; longest], rounds, all: calls::all(false) }
     }
 
     fn measure(&mut self, name: &str, script: &str) -> Times {
@@ -65,7 +74,7 @@ impl Bench {
         let (mut of, mut two) = ([Vec::new(), Vec::new(), Vec::new()], Vec::new());
         for _ in 0..self.rounds {
             for &who in &self.all {
-                of[who as usize].push(timed(repeat, || calls::call(who, script, records)));
+                of[column(who)].push(timed(repeat, || calls::call(who, script, records)));
             }
             two.push(timed(repeat, || drop(black_box(twice(black_box(script))))));
         }
@@ -112,7 +121,7 @@ fn show_rows(bench: &mut Bench, words: &[String]) {
     println!("{:<40} {:>9} {:>4} {:>9} {:>9} {:>9} {:>9} tokenize tokenize  re2c by", "row", "bytes", "no.", heads[0], heads[1], heads[2], heads[3]);
     println!("{:<40} {:>9} {:>4} {:>9} {:>9} {:>9} {:>9}   by one   by two      one", "", "", "", "MB/s", "MB/s", "MB/s", "MB/s");
     for row in chosen(words) {
-        calls::widen(row.signs);
+        bench.all = calls::all(row.signs);
         for (end, script) in [("", row.text()), (", refused", row.refused())] {
             let name = format!("{}{end}", row.name);
             show(&name, script.len(), &bench.measure(&name, &script));
@@ -143,7 +152,7 @@ fn main() {
     }
     let mut bench = Bench::new(rounds.unwrap_or(9));
     show_rows(&mut bench, &words);
-    calls::widen(false);
+    bench.all = calls::all(false);
     if words.is_empty() {
         println!();
         show_growth(&mut bench);

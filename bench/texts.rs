@@ -140,8 +140,8 @@ const ALPHABETS: [Kind; 10] = [
     alphabet("strings, mixed", Form("\"", "à payer – 金额 ≤ 10 € … राशि ⇒ ចំនួន ", 4, "\" ")),
 ];
 
-// With operator signs past ASCII other than `⇒`. The published tokenize does not know them, so that a copy with the class widened is counted in its place
-// (compare/published).
+// With operator signs past ASCII other than `⇒`. The published tokenize does not know them, so that a copy with the class widened is counted in its
+// place (compare/published).
 #[rustfmt::skip]
 const SIGNS: [Kind; 5] = [
     kind("operators", "operators of ≤ and ∪", "≤ ", Form("", "≤∪", 10, " ")),

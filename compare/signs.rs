@@ -1,6 +1,6 @@
 // RULES, "Operator sign": which scripts have a sign that the published tokenize does not know, and scripts that have some, in each kind of piece.
 use super::scripts::{self, Random};
-use super::{EXAMPLES, REFUSED};
+use super::{EXAMPLES, REFUSED, WIDENED};
 use published::symbols::{is_math_or_other_symbol, RANGES};
 
 // A sign past ASCII other than `⇒`.
@@ -12,11 +12,12 @@ pub fn is_new(c: char) -> bool {
 // widened (compare/published) the others. Bytes that are not UTF-8 have no characters.
 pub fn is_judged(script: &[u8]) -> bool {
     let has_new = !script.is_ascii() && std::str::from_utf8(script).is_ok_and(|text| text.chars().any(is_new));
-    has_new == cfg!(widened)
+    has_new == WIDENED
 }
 
-// Signs of two bytes and of three, one that is an upper-case letter too, two that are not printable, and what Unicode 16.0 was the first to have; the
-// sign that is published; and characters that are like signs and are none: of categories Sc, Sk, No, Pd and Po, and So past U+FFFF.
+// Signs of two bytes and of three, the first and the last that are letters too, two that are not printable, and what Unicode 16.0 was the first to have;
+// the sign that is published; and characters that are like signs and are none: of categories Sc, Sk, No, Pd and Po, So past U+FFFF, and a code without
+// a character.
 const CHARACTERS: [&str; 22] = [
     "\u{AC}", "\u{F7}", "\u{2264}", "\u{222A}", "\u{24B6}", "\u{24E9}", "\u{2044}", "\u{FFFC}", "\u{FFFD}", "\u{2427}", "\u{2428}", "\u{2429}",
     "\u{31E4}", "\u{31E5}", "\u{21D2}", "\u{20AC}", "\u{2C2}", "\u{24EA}", "\u{FE63}", "\u{A7}", "\u{1F600}", "\u{FFFE}",

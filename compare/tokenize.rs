@@ -2,9 +2,9 @@
 // and writes the list of answers that crates/replay replays and the listings that crates/listing_cases prints. Built and run by compare/tokenize.
 //
 //     tokenize [--count N] [--seed S]   compare, and print how many scripts were compared and how many differed; exit status 1 if any differed
-//     tokenize --list                   print what crates/replay/stdin is to hold; only the published tokenize is asked
-//     tokenize --cases                  print what crates/listing_cases/stdin is to hold
-//     tokenize --listing                print its listings, for crates/listing_cases/stdout; only the published tokenize is asked
+//     tokenize --list                   print its part of what crates/replay/stdin is to hold; only the published source is asked
+//     tokenize --cases                  print its part of what crates/listing_cases/stdin is to hold
+//     tokenize --listing                print the listings of these, for crates/listing_cases/stdout; only the published source is asked
 //
 // Refusals 1 to 16, every record byte and the counts of measuring are judged by tokenize; 17 to 21, 27 to 29, the answer blocks and the bytes past
 // the records by what RULES and REQUESTS say of them. tokenize takes direction marks, so its answer to a script that has one is not what is wanted: the
