@@ -15,7 +15,7 @@ pub fn is_judged(script: &[u8]) -> bool {
     has_new == WIDENED
 }
 
-// Signs of two bytes and of three, the first and the last that are letters too, two that are not printable, and what Unicode 16.0 was the first to have;
+// Signs of two bytes and of three, the first and the last circled letter, two that are not printable, and what Unicode 16.0 was the first to have;
 // the sign that is published; and characters that are like signs and are none: of categories Sc, Sk, No, Pd and Po, So past U+FFFF, and a code without
 // a character.
 const CHARACTERS: [&str; 22] = [
