@@ -1,0 +1,6 @@
+pub mod Texts
+pub mod Values
+pub mod Gaps
+pub mod Tokens
+pub mod Examples
+pub mod Theorems

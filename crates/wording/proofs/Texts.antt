@@ -1,0 +1,122 @@
+-- The text at a piece is that of its bytes, wherever they stand.
+use Rattle.std.proofs.Common.{ℕ, zero, suc, ◌+◌, ◌-◌, ◌≤◌, ◌<◌, ◌≡◌, refl, sym, ◌∙◌, ap, subst, true, ◌&&◌, List, [], inl, inr, ◌∷◌, ◌++◌, length, take, drop, append_assoc, length-append, length-drop, arith}
+use lib.Utf8.{scalar, scalars, scalar_cases, encode, encodes}
+use Rattle.std.specs.Str.{IsUtf8, IsCharBoundary}
+use Rattle.std.proofs.lemmas.List.{take-append-drop, take_at, drop_at, drop-drop, length-take-le}
+use Rattle.std.proofs.lemmas.Str.{IsUtf8-between, length-encode, len_utf8_bounds}
+use Rattle.chars.specs.paper.Utf8.{WellFormed, width, codeOf}
+use Rattle.chars.specs.paper.Text.{Char, Text, charsAt, from, place}
+use Rattle.chars.specs.computed.Encoded.{encoded}
+use Rattle.chars.specs.code.Text.{charEnd}
+use Rattle.chars.specs.promises.Utf8.{isScalar}
+use Rattle.std.proofs.lemmas.Bool.{cases_lt}
+use Rattle.chars.specs.promises.Texts.{Suffix}
+use Rattle.chars.proofs.Bools.{and-both}
+use Rattle.chars.proofs.text.Texts.{chars-skip}
+use Rattle.chars.proofs.theorems.Promises.{text-laws, valid-laws}
+use Rattle.chars.proofs.theorems.Encodes.{encoding-laws}
+use Rattle.chars.proofs.theorems.StdUtf8.{std-laws}
+use Rattle.token.specs.paper.Shapes.{textOf}
+open text-laws use {at-char, at-end, next-on, place-from}
+open valid-laws use {valid-all, next-valid}
+open encoding-laws use {decodes}
+open std-laws use {same-texts}
+
+-- ---- the characters of given codes
+
+-- from the place i on
+abbrev pub spelled : ℕ → List ℕ → Text
+spelled i [] = []
+spelled i (c ∷ cs) = record { code = c; at = i } ∷ spelled (i + length (encode c)) cs
+
+same-bytes : (c : ℕ) → encoded c ≡ encode c
+unfolding encode
+same-bytes c = refl
+
+-- one character of the bytes w, whatever follows
+one : (i c : ℕ) (w rest : List ℕ) → 1 ≤ length w → (width (w ++ rest) ≡ length w) × (codeOf (length w) (w ++ rest) ≡ c)
+    → charsAt i 0 (w ++ rest) ≡ record { code = c; at = i } ∷ charsAt (i + length w) 0 rest
+unfolding charsAt
+one i c [] rest l h = absurd (omega arith)
+one i c (x ∷ w) rest l h =
+    let k : suc i + length w ≡ i + suc (length w) = omega arith in
+    let n : suc (length w) - 1 ≡ length w = omega arith in
+    rw (h.0, h.1, n) (ap (λ t. record { code = c; at = i } ∷ t)
+    (chars-skip (suc i) (length w) (w ++ rest) ∙ rw (drop_at w rest (length w) refl, k) refl))
+
+scalar-is : (c : ℕ) → scalar c ≡ true → isScalar c ≡ true
+scalar-is c e = grind (arith, scalar_cases)
+
+spells : (i : ℕ) (cs rest : List ℕ) → scalars cs ≡ true → charsAt i 0 (encodes cs ++ rest) ≡ spelled i cs ++ charsAt (i + length (encodes cs)) 0 rest
+spells i [] rest e = let k : i + 0 ≡ i = omega arith in rw k refl
+spells i (c ∷ cs) rest e =
+    let h = and-both (scalar c) (scalars cs) e in
+    let d = decodes c (encodes cs ++ rest) (scalar-is c h.0) in
+    let l = len_utf8_bounds c in
+    let n = length-encode c in
+    let k : i + length (encode c) + length (encodes cs) ≡ i + length (encode c ++ encodes cs) = omega (arith, length-append {A = ℕ}) in
+    ap (charsAt i 0) (append_assoc (encode c) (encodes cs) rest) ∙ one i c (encode c) (encodes cs ++ rest) (omega arith) (subst (λ w. (width (w ++ (encodes cs ++ rest)) ≡ length w) × (codeOf (length w) (w ++ (encodes cs ++ rest)) ≡ c)) (same-bytes c) d)
+    ∙ ap (λ t. record { code = c; at = i } ∷ t) (spells (i + length (encode c)) cs rest h.1 ∙ ap (λ j. spelled (i + length (encode c)) cs ++ charsAt j 0 rest) k)
+
+-- the text between two places of a script, by the bytes between them
+pub between-is : (script : List ℕ) (i j : ℕ) (cs : List ℕ) → i ≤ j → j ≤ length script → scalars cs ≡ true → encodes cs ≡ take (j - i) (drop i script)
+    → textOf (from script i) (from script j) ≡ spelled i cs
+unfolding from
+between-is script i j cs l m e h =
+    let d = length-drop i script in
+    let n : length (encodes cs) ≡ j - i = ap length h ∙ length-take-le (j - i) (drop i script) (omega arith) in
+    let k : i + length (encodes cs) ≡ j = omega arith in
+    let z : i + (j - i) ≡ j = omega arith in
+    let q : drop i script ≡ encodes cs ++ drop j script = sym (take-append-drop (j - i) (drop i script)) ∙ rw (← h, drop-drop, z) refl in
+    let t : from script i ≡ spelled i cs ++ from script j = ap (charsAt i 0) q ∙ spells i cs (drop j script) e ∙ ap (λ x. spelled i cs ++ charsAt x 0 (drop j script)) k in
+    let w : length (from script i) - length (from script j) ≡ length (spelled i cs) = omega (arith, ap length t, length-append (spelled i cs) (from script j)) in
+    rw (w, t) (take_at (spelled i cs) (from script j) (length (spelled i cs)) refl)
+
+-- ---- where characters begin in a well-formed script
+
+module _ (script : List ℕ) (utf8 : WellFormed script) where
+  pub record Begins (i : ℕ) : Type 0 where
+    pub inside : i ≤ length script
+    pub valid : WellFormed (drop i script)
+
+  -- past some characters
+  past : (k i : ℕ) → Begins i → (j : ℕ) × Begins j × (i ≤ j) × (drop k (from script i) ≡ from script j)
+  past zero i b = (i, b, omega arith, refl)
+  past (suc k) i b =
+      elim (cases_lt i (length script)) [
+        | inl l ↦
+            let o = next-on script i l in
+            let p = past k (charEnd script i) (record { inside = o.1; valid = (next-valid script i l b.valid).1 }) in
+            (p.0, p.1, omega (arith, o.0, p.2), ap (drop (suc k)) (at-char script i l) ∙ p.3)
+        | inr l ↦ (i, b, omega arith, rw (at-end script i l) refl)
+      ]
+
+  boundary : (i : ℕ) → Begins i → IsCharBoundary script i
+  boundary i b = (b.inside, λ l m. omega (arith, (next-valid script i l b.valid).0 m))
+
+  -- s is the script's text from where a character begins
+  pub record TextAt (s : Text) : Type 0 where
+    pub begins : Begins (place (length script) s)
+    pub text : from script (place (length script) s) ≡ s
+
+  text-by : (i : ℕ) {s : Text} → Begins i → s ≡ from script i → TextAt s
+  text-by i b e =
+      let p = ap (place (length script)) e ∙ place-from script i b.inside in
+      record { begins = subst Begins (sym p) b; text = ap (from script) p ∙ sym e }
+
+  pub text-start : TextAt (from script 0)
+  text-start = text-by 0 (record { inside = omega arith; valid = utf8 }) refl
+
+  -- of what is left of it, and the characters of the bytes between both
+  pub text-left : {r s : Text} → Suffix r s → TextAt s → (place (length script) s ≤ place (length script) r) × TextAt r
+  text-left {r} {s} h t =
+      let i = place (length script) s in
+      let p = past (length s - length r) i t.begins in
+      let e : r ≡ from script p.0 = h.rest-is ∙ ap (drop (length s - length r)) (sym t.text) ∙ p.3 in
+      let q = ap (place (length script)) e ∙ place-from script p.0 p.1.inside in
+      (omega (arith, p.2, q), text-by p.0 p.1 e)
+
+  pub utf8-between : {r s : Text} → TextAt s → TextAt r → place (length script) s ≤ place (length script) r
+      → IsUtf8 (take (place (length script) r - place (length script) s) (drop (place (length script) s) script))
+  utf8-between {r} {s} t u l =
+      IsUtf8-between script (place (length script) s) (place (length script) r) ((same-texts script).0 (valid-all script utf8)) l (boundary _ t.begins) (boundary _ u.begins)

@@ -1,0 +1,3 @@
+pub mod paper
+pub mod computed
+pub mod Theorems
