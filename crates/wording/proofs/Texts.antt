@@ -1,15 +1,15 @@
 -- The text at a piece is that of its bytes, wherever they stand.
-use Rattle.std.proofs.Common.{ℕ, zero, suc, ◌+◌, ◌-◌, ◌≤◌, ◌<◌, ◌≡◌, refl, sym, ◌∙◌, ap, subst, true, ◌&&◌, List, [], inl, inr, ◌∷◌, ◌++◌, length, take, drop, append_assoc, length-append, length-drop, arith}
+use Rattle.std.proofs.Common.{ℕ, zero, suc, ◌+◌, ◌-◌, ◌≤◌, ◌≡◌, refl, sym, ◌∙◌, ap, subst, true, List, [], inl, inr, ◌∷◌, ◌++◌, length, take, drop, append_assoc, length-append, length-drop, arith}
 use lib.Utf8.{scalar, scalars, scalar_cases, encode, encodes}
 use Rattle.std.specs.Str.{IsUtf8, IsCharBoundary}
+use Rattle.std.proofs.lemmas.Bool.{cases_lt}
 use Rattle.std.proofs.lemmas.List.{take-append-drop, take_at, drop_at, drop-drop, length-take-le}
 use Rattle.std.proofs.lemmas.Str.{IsUtf8-between, length-encode, len_utf8_bounds}
 use Rattle.chars.specs.paper.Utf8.{WellFormed, width, codeOf}
-use Rattle.chars.specs.paper.Text.{Char, Text, charsAt, from, place}
+use Rattle.chars.specs.paper.Text.{Text, charsAt, from, place}
 use Rattle.chars.specs.computed.Encoded.{encoded}
 use Rattle.chars.specs.code.Text.{charEnd}
 use Rattle.chars.specs.promises.Utf8.{isScalar}
-use Rattle.std.proofs.lemmas.Bool.{cases_lt}
 use Rattle.chars.specs.promises.Texts.{Suffix}
 use Rattle.chars.proofs.Bools.{and-both}
 use Rattle.chars.proofs.text.Texts.{chars-skip}
@@ -22,9 +22,9 @@ open valid-laws use {valid-all, next-valid}
 open encoding-laws use {decodes}
 open std-laws use {same-texts}
 
--- ---- the characters of given codes
+-- ---- the characters of bytes
 
--- from the place i on
+-- characters of given codes, from the place i on
 abbrev pub spelled : ℕ → List ℕ → Text
 spelled i [] = []
 spelled i (c ∷ cs) = record { code = c; at = i } ∷ spelled (i + length (encode c)) cs
@@ -33,8 +33,11 @@ same-bytes : (c : ℕ) → encoded c ≡ encode c
 unfolding encode
 same-bytes c = refl
 
--- one character of the bytes w, whatever follows
-one : (i c : ℕ) (w rest : List ℕ) → 1 ≤ length w → (width (w ++ rest) ≡ length w) × (codeOf (length w) (w ++ rest) ≡ c)
+-- the bytes w are one character of the code c, before the rest
+abbrev One : List ℕ → ℕ → List ℕ → Type 0
+One w c rest = (width (w ++ rest) ≡ length w) × (codeOf (length w) (w ++ rest) ≡ c)
+
+one : (i c : ℕ) (w rest : List ℕ) → 1 ≤ length w → One w c rest
     → charsAt i 0 (w ++ rest) ≡ record { code = c; at = i } ∷ charsAt (i + length w) 0 rest
 unfolding charsAt
 one i c [] rest l h = absurd (omega arith)
@@ -55,7 +58,8 @@ spells i (c ∷ cs) rest e =
     let l = len_utf8_bounds c in
     let n = length-encode c in
     let k : i + length (encode c) + length (encodes cs) ≡ i + length (encode c ++ encodes cs) = omega (arith, length-append {A = ℕ}) in
-    ap (charsAt i 0) (append_assoc (encode c) (encodes cs) rest) ∙ one i c (encode c) (encodes cs ++ rest) (omega arith) (subst (λ w. (width (w ++ (encodes cs ++ rest)) ≡ length w) × (codeOf (length w) (w ++ (encodes cs ++ rest)) ≡ c)) (same-bytes c) d)
+    ap (charsAt i 0) (append_assoc (encode c) (encodes cs) rest)
+    ∙ one i c (encode c) (encodes cs ++ rest) (omega arith) (subst (λ w. One w c (encodes cs ++ rest)) (same-bytes c) d)
     ∙ ap (λ t. record { code = c; at = i } ∷ t) (spells (i + length (encode c)) cs rest h.1 ∙ ap (λ j. spelled (i + length (encode c)) cs ++ charsAt j 0 rest) k)
 
 -- the text between two places of a script, by the bytes between them
@@ -68,8 +72,10 @@ between-is script i j cs l m e h =
     let k : i + length (encodes cs) ≡ j = omega arith in
     let z : i + (j - i) ≡ j = omega arith in
     let q : drop i script ≡ encodes cs ++ drop j script = sym (take-append-drop (j - i) (drop i script)) ∙ rw (← h, drop-drop, z) refl in
-    let t : from script i ≡ spelled i cs ++ from script j = ap (charsAt i 0) q ∙ spells i cs (drop j script) e ∙ ap (λ x. spelled i cs ++ charsAt x 0 (drop j script)) k in
-    let w : length (from script i) - length (from script j) ≡ length (spelled i cs) = omega (arith, ap length t, length-append (spelled i cs) (from script j)) in
+    let t : from script i ≡ spelled i cs ++ from script j =
+        ap (charsAt i 0) q ∙ spells i cs (drop j script) e ∙ ap (λ x. spelled i cs ++ charsAt x 0 (drop j script)) k in
+    let w : length (from script i) - length (from script j) ≡ length (spelled i cs) =
+        omega (arith, ap length t, length-append (spelled i cs) (from script j)) in
     rw (w, t) (take_at (spelled i cs) (from script j) (length (spelled i cs)) refl)
 
 -- ---- where characters begin in a well-formed script
@@ -79,7 +85,7 @@ module _ (script : List ℕ) (utf8 : WellFormed script) where
     pub inside : i ≤ length script
     pub valid : WellFormed (drop i script)
 
-  -- past some characters
+  -- some characters further a character begins, or the script ends
   past : (k i : ℕ) → Begins i → (j : ℕ) × Begins j × (i ≤ j) × (drop k (from script i) ≡ from script j)
   past zero i b = (i, b, omega arith, refl)
   past (suc k) i b =
@@ -107,7 +113,7 @@ module _ (script : List ℕ) (utf8 : WellFormed script) where
   pub text-start : TextAt (from script 0)
   text-start = text-by 0 (record { inside = omega arith; valid = utf8 }) refl
 
-  -- of what is left of it, and the characters of the bytes between both
+  -- what is left of such a text is one too, and the bytes between both are UTF-8
   pub text-left : {r s : Text} → Suffix r s → TextAt s → (place (length script) s ≤ place (length script) r) × TextAt r
   text-left {r} {s} h t =
       let i = place (length script) s in
@@ -119,4 +125,5 @@ module _ (script : List ℕ) (utf8 : WellFormed script) where
   pub utf8-between : {r s : Text} → TextAt s → TextAt r → place (length script) s ≤ place (length script) r
       → IsUtf8 (take (place (length script) r - place (length script) s) (drop (place (length script) s) script))
   utf8-between {r} {s} t u l =
-      IsUtf8-between script (place (length script) s) (place (length script) r) ((same-texts script).0 (valid-all script utf8)) l (boundary _ t.begins) (boundary _ u.begins)
+      IsUtf8-between script (place (length script) s) (place (length script) r) ((same-texts script).0 (valid-all script utf8)) l
+      (boundary _ t.begins) (boundary _ u.begins)

@@ -1,17 +1,21 @@
 -- Scripts that are the same but for comments have the same tokens.
-use Rattle.std.proofs.Common.{ℕ, ◌≤◌, ◌≡◌, refl, sym, ◌∙◌, ap, subst, Bool, true, false, ◌⊎◌, inl, inr, ◌↔◌, List, [], ◌∷◌, ◌++◌, length, take, drop, arith}
+use Rattle.std.proofs.Common.{ℕ, ◌≤◌, ◌≡◌, refl, sym, ◌∙◌, ap, subst, Bool, true, false, ◌⊎◌, inl, inr, ◌↔◌, List, [], ◌∷◌, length, arith}
 use Rattle.std.specs.Prelude.{All, IsFalse}
 use Rattle.std.proofs.lemmas.List.Elements.{All-head, All-tail}
 use Rattle.chars.specs.paper.Utf8.{WellFormed}
-use Rattle.token.proofs.theorems.Words.{Text, place, from, Suffix, ScriptText, text-laws, clash, Kind, TokenType, isComment, Token, Stands, textOf, Piece, Pieces, Reading, Valued, Tokens, TokensOf, Cut, Gap, cutOf, fresh}
+use Rattle.token.proofs.theorems.Words.{Text, place, from, ScriptText, text-laws, clash, Kind, isComment, Token, Stands, textOf, Piece, Pieces, Valued, Tokens, Cut, Gap, fresh}
 use Rattle.token.specs.declared.kinds.TokenKind.TheVariants as tk
 use Rattle.token.proofs.theorems.Shorter.{Strict, stands-strict}
 use Rattle.token.proofs.theorems.Flags.{Knows, cut-here, knows-fresh, lineEnds, end-ends}
-use Rattle.wording.specs.paper.Wording.{partAt, SameButComments}
-use Rattle.wording.proofs.Texts.{between-is, TextAt, text-start, text-left, utf8-between}
+use Rattle.wording.specs.paper.Wording.{partAt}
+use Rattle.wording.proofs.Texts.{between-is, TextAt, text-left, utf8-between}
 use Rattle.wording.proofs.Values.{same-values}
 use Rattle.wording.proofs.Gaps.{no-end, isSpace, isGap, after, knows-on}
 open text-laws use {text-suffix, text-place}
+
+-- the piece of the kind k from the text s to the text m
+abbrev piece : ℕ → Kind → Text → Text → Piece
+piece n k s m = record { kind = k; start = place n s; end = place n m }
 
 gap-kind : {k : Kind} → (k ≡ Kind.blank) ⊎ (isComment k ≡ true) → isGap k ≡ true
 gap-kind {k} (inl e) = rw e refl
@@ -41,9 +45,7 @@ module _ (a b : List ℕ) (utf8 : WellFormed a) (long : length a ≡ length b) w
     inside : place (length a) s ≤ place (length a) m
 
   twins : {k l : Kind} {s m t o : Text} → TextAt a utf8 s → ScriptText b t → Stands k s m → Stands l t o
-      → ◌≡◌ {A = Piece} (record { kind = k; start = place (length a) s; end = place (length a) m })
-      (record { kind = l; start = place (length b) t; end = place (length b) o })
-      → Twins k s m t o
+      → piece (length a) k s m ≡ piece (length b) l t o → Twins k s m t o
   twins {k} {l} {s} {m} {t} {o} S T w x q =
       let h = stands-strict k s m w in
       let f = text-left a utf8 h.0 S in
@@ -63,9 +65,7 @@ module _ (a b : List ℕ) (utf8 : WellFormed a) (long : length a ≡ length b) w
 
   -- equal parts have one text
   same-text : {k : Kind} {s m t o : Text} → TextAt a utf8 s → ScriptText b t → Twins k s m t o
-      → partAt a (record { kind = k; start = place (length a) s; end = place (length a) m })
-      ≡ partAt b (record { kind = k; start = place (length a) s; end = place (length a) m })
-      → textOf s m ≡ textOf t o
+      → partAt a (piece (length a) k s m) ≡ partAt b (piece (length a) k s m) → textOf s m ≡ textOf t o
   same-text {s} {m} {t} {o} S T w e =
       let i = place (length a) s in
       let j = place (length a) m in
@@ -89,30 +89,31 @@ module _ (a b : List ℕ) (utf8 : WellFormed a) (long : length a ≡ length b) w
   tokens-from Pieces.done (Pieces.piece x u) e h ts gap g K L S T y = cc
   tokens-from (Pieces.piece w v) Pieces.done e h ts gap g K L S T y = cc
   tokens-from (Pieces.piece {k} {s} {m} {ps} w v) (Pieces.piece {k = l} {s = t} {m = o} {ps = us} x u) e h ts gap g K L S T y =
-      let q : ◌≡◌ {A = Piece} (record { kind = k; start = place (length a) s; end = place (length a) m })
-              (record { kind = l; start = place (length b) t; end = place (length b) o }) = cc in
-      let z = twins S T w x q in
-      let more : ps ≡ us = cc in
-      let rest = tokens-from v u more (All-tail Same _ ps h) in
-      by z (All-head Same _ ps h) gap g K L S T w rest y
+      let q : piece (length a) k s m ≡ piece (length b) l t o = cc in
+      let r : ps ≡ us = cc in
+      by (twins S T w x q) (All-head Same _ ps h) gap g K L S T w (tokens-from v u r (All-tail Same _ ps h)) y
     where
-      by : {k : Kind} {s m t o : Text} {ps : List Piece} {ts : List Token} → Twins k s m t o → Same (record { kind = k; start = place (length a) s; end = place (length a) m })
+      -- at the first piece; rest: what is known from the next one on
+      by : {k : Kind} {s m t o : Text} {ps : List Piece} {ts : List Token} → Twins k s m t o → Same (piece (length a) k s m)
           → (gap : List Piece) (g : Gap) → Knows a gap g s → Knows b gap g t → TextAt a utf8 s → ScriptText b t → Stands k s m
-          → ((ts : List Token) (gap : List Piece) (g : Gap) → Knows a gap g m → Knows b gap g o → TextAt a utf8 m → ScriptText b o → Tokens a gap ps ts → Tokens b gap ps ts)
-          → Tokens a gap (record { kind = k; start = place (length a) s; end = place (length a) m } ∷ ps) ts
-          → Tokens b gap (record { kind = k; start = place (length a) s; end = place (length a) m } ∷ ps) ts
+          → ((ts : List Token) (gap : List Piece) (g : Gap) → Knows a gap g m → Knows b gap g o → TextAt a utf8 m → ScriptText b o
+          → Tokens a gap ps ts → Tokens b gap ps ts)
+          → Tokens a gap (piece (length a) k s m ∷ ps) ts → Tokens b gap (piece (length a) k s m ∷ ps) ts
       by {k} {s} {m} {t} {o} z h gap g K L S T w rest (Tokens.skip {p} d y) =
           let f = gap-kind d in
-          Tokens.skip d (rest _ _ (after k g) (knows-on a gap g s K p k m refl w z.behind.text f) (knows-on b gap g t L p k o refl z.shape (end-there z) f) z.behind z.text y)
+          let K' = knows-on a gap g s K p k m refl w z.behind.text f in
+          let L' = knows-on b gap g t L p k o refl z.shape (end-there z) f in
+          Tokens.skip d (rest _ _ (after k g) K' L' z.behind z.text y)
       by {k} {s} {m} {t} {o} z h gap g K L S T w rest (Tokens.lineEnd {p} d mark y) =
           let f : isGap k ≡ true = rw d refl in
-          Tokens.lineEnd d mark (rest _ _ (after k g) (knows-on a gap g s K p k m refl w z.behind.text f) (knows-on b gap g t L p k o refl z.shape (end-there z) f) z.behind z.text y)
-      by {k} {s} {m} {t} {o} z h gap g K L S T w rest (Tokens.token {p} {t = y} {k = c} d val cut r) =
-          let n : isComment k ≡ false = rw d refl in
+          let K' = knows-on a gap g s K p k m refl w z.behind.text f in
+          let L' = knows-on b gap g t L p k o refl z.shape (end-there z) f in
+          Tokens.lineEnd d mark (rest _ _ (after k g) K' L' z.behind z.text y)
+      by {k} {s} {m} {t} {o} z h gap g K L S T w rest (Tokens.token {p} {t = y} {k = c} d v cut r) =
           let i : isSpace k ≡ false = rw d refl in
-          let f : Stands (Kind.token y) t o = rw (← d) z.shape in
-          let here : Valued (length a) s m y c = rw (← S.text, ← z.behind.text) val in
-          let done = same-values z.shorter (stands-strict k t o z.shape).0 (same-text S T z (h n)) z.start z.end f here in
-          let there : Valued (length b) (from b p.start) (from b p.end) y c = rw (end-there z, z.start, text-place b t T) done in
+          let shape : Stands (Kind.token y) t o = rw (← d) z.shape in
+          let here : Valued (length a) s m y c = rw (← S.text, ← z.behind.text) v in
+          let same = same-values z.shorter (stands-strict k t o z.shape).0 (same-text S T z (h (rw d refl))) z.start z.end shape here in
+          let there : Valued (length b) (from b p.start) (from b p.end) y c = rw (end-there z, z.start, text-place b t T) same in
           Tokens.token d there (same-cut K L (no-end k s m w i) (no-end k t o z.shape i) cut)
           (rest _ [] fresh (knows-fresh a m) (knows-fresh b o) z.behind z.text r)

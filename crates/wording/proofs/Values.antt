@@ -1,20 +1,19 @@
 -- The values of a token follow from its own text, whatever stands behind it.
 use Rattle.std.proofs.Common.{ℕ, ◌+◌, ◌-◌, ◌≤◌, ◌<◌, ◌≡◌, refl, sym, ◌∙◌, ap, Bool, true, false, cond, List, [], ◌∷◌, ◌++◌, map, length, take, drop, length-append, length-drop, arith}
 use Rattle.std.proofs.lemmas.List.{take-append-drop, take-append-le, drop-append-le}
-use Rattle.token.proofs.theorems.Words.{Char, Text, Suffix, clash, by-test, begins, quote, hexDigit, digit, hexAhead, letterL, Kind, TokenType, TokenShape, HasShape, Stands, Run1, One, both, textOf, codesOf, valueOfDigits, Digits, NumberText, Valued, place}
+use Rattle.token.proofs.theorems.Words.{Char, Text, Suffix, clash, by-test, begins, quote, hexAhead, Kind, TokenType, TokenShape, HasShape, Stands, Run1, One, both, textOf, codesOf, valueOfDigits, Digits, NumberText, Valued, place}
 use Rattle.token.specs.declared.kinds.TokenKind.{TokenKind}
-use Rattle.token.specs.declared.kinds.TokenKind.TheVariants as tk
 use Rattle.token.specs.paper.Shapes.{LongSuffix}
 use Rattle.token.proofs.theorems.Runs.{run-suffix}
 use Rattle.token.proofs.theorems.Shorter.{Strict}
 
 -- a text is the part before what is left of it, and that
-pub in-two : {r s : Text} → Suffix r s → s ≡ textOf s r ++ r
+in-two : {r s : Text} → Suffix r s → s ≡ textOf s r ++ r
 in-two {r} {s} h = sym (take-append-drop (length s - length r) s) ∙ ap (λ z. textOf s r ++ z) (sym h.rest-is)
 
 -- ---- numbers
 
--- how many characters of a number are no digits of its value
+-- how many characters its letter has: true for a LongLit
 abbrev suffix : Bool → ℕ
 suffix true = 1
 suffix false = 0
@@ -27,13 +26,13 @@ abbrev valueIn : Bool → Bool → Text → ℕ
 valueIn true long x = valueOfDigits 16 (digits long (drop 2 x))
 valueIn false long x = valueOfDigits 10 (digits long x)
 
--- the codes of x r up to m, which is as much longer than r
+-- the codes of x before its letter; m: the text from that on
 codes-by : (long : Bool) (x r m : Text) → length m ≡ length r + suffix long → suffix long ≤ length x → codesOf (x ++ r) m ≡ digits long x
 codes-by long x r m e l =
     let n : length (x ++ r) - length m ≡ length x - suffix long = omega (arith, length-append x r) in
     ap (map (λ (c : Char). c.code)) (rw n (take-append-le (length x - suffix long) x r (omega arith)))
 
--- what of the number is known then
+-- What the number's own text tells of it: its value v, and that `0x` and a digit, where they are ahead, are in that text.
 record ByText (hex long : Bool) (x : Text) (v : ℕ) : Type 0 where
   value : v ≡ valueIn hex long x
   wide : hex ≡ true → 3 ≤ length x
@@ -61,7 +60,8 @@ ahead-by (a ∷ []) r o l = absurd (omega arith)
 ahead-by (a ∷ b ∷ []) r o l = absurd (omega arith)
 ahead-by (a ∷ b ∷ c ∷ x) r o l = refl
 
-same-ahead : {p q long : Bool} {v w : ℕ} (x r o : Text) → p ≡ hexAhead (x ++ r) → q ≡ hexAhead (x ++ o) → ByText p long x v → ByText q long x w → p ≡ q
+same-ahead : {p q long : Bool} {v w : ℕ} (x r o : Text) → p ≡ hexAhead (x ++ r) → q ≡ hexAhead (x ++ o)
+    → ByText p long x v → ByText q long x w → p ≡ q
 same-ahead {p} {q} x r o e f h k =
     by-test p (λ t. e ∙ ahead-by x r o (h.wide t) ∙ sym f)
     (λ t. by-test q (λ u. e ∙ ahead-by x r o (k.wide u) ∙ sym f) (λ u. t ∙ sym u))
@@ -88,7 +88,8 @@ quote-by (c ∷ x) r o l = refl
 same-quote : {s r t o : Text} → Strict r s → Suffix o t → textOf s r ≡ textOf t o → quote s ≡ quote t
 same-quote {s} {r} {t} {o} h j e =
     let a = in-two h.0 in
-    ap quote a ∙ quote-by (textOf s r) r o (omega (arith, h.1, ap length a, length-append (textOf s r) r)) ∙ ap (λ x. quote (x ++ o)) e ∙ ap quote (sym (in-two j))
+    ap quote a ∙ quote-by (textOf s r) r o (omega (arith, h.1, ap length a, length-append (textOf s r) r)) ∙ ap (λ x. quote (x ++ o)) e
+    ∙ ap quote (sym (in-two j))
 
 -- a number that stands, with its value
 number-text : (long : Bool) (s r : Text) → Stands (Kind.token (cond long TokenType.longLit TokenType.intLit)) s r → (v : ℕ) × NumberText long v s r
@@ -96,8 +97,8 @@ unfolding Stands HasShape TokenShape
 number-text true s r ((v, w, l), z) = (v, w)
 number-text false s r ((v, w, l), z) = (v, w)
 
-pub same-values : {n m : ℕ} {s r t o : Text} {y : TokenType} {k : TokenKind} → Strict r s → Suffix o t → textOf s r ≡ textOf t o → place n s ≡ place m t → place n r ≡ place m o
-    → Stands (Kind.token y) t o → Valued n s r y k → Valued m t o y k
+pub same-values : {n m : ℕ} {s r t o : Text} {y : TokenType} {k : TokenKind} → Strict r s → Suffix o t → textOf s r ≡ textOf t o
+    → place n s ≡ place m t → place n r ≡ place m o → Stands (Kind.token y) t o → Valued n s r y k → Valued m t o y k
 same-values h j e p q w (Valued.bare u) = Valued.bare u
 same-values {s} {r} {t} {o} h j e p q w (Valued.intLit u) =
     let v = number-text false t o w in

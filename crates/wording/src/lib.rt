@@ -7,5 +7,4 @@ ghost use Rattle.wording.specs.Theorems.{WordingTheorems};
 #[tactic(auto, using(crate::proofs::Theorems::wording_theorems))]
 pub fn wording_stays_out()
     ensures wording_theorems { WordingTheorems }
-{
-}
+{}
