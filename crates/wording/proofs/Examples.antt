@@ -1,12 +1,11 @@
 -- The examples hold: each is computed, but for the pair's reading, which is given piece by piece.
 use Rattle.std.proofs.Common.{ℕ, ◌≡◌, refl, sym, ap, inl, List, [], ◌∷◌, get_or, arith}
-use Rattle.std.specs.Prelude.{IsFalse}
 use Rattle.std.proofs.lemmas.List.Elements.{All-from_recursion}
 use Rattle.chars.specs.paper.Utf8.{width, codeOf}
 use Rattle.chars.specs.paper.Text.{charsAt, from}
-use Rattle.token.proofs.theorems.Words.{clash, begins, isComment, Kind, TokenType, TokenShape, HasShape, Stands, One, Times, Run, both, Block, Item, Items, Piece, Pieces, Reading}
+use Rattle.token.proofs.theorems.Words.{clash, begins, Kind, TokenType, TokenShape, HasShape, Stands, One, Times, Run, both, Block, Item, Items, Piece, Pieces, Reading}
 use Rattle.entry.specs.computed.Listing.{entered, hosted}
-use Rattle.wording.specs.paper.Wording.{partAt, SameButComments}
+use Rattle.wording.specs.paper.Wording.{SamePart, SameButComments}
 use Rattle.wording.specs.computed.Examples.{original, translated, Examples}
 
 abbrev piece : Kind → ℕ → ℕ → Piece
@@ -42,7 +41,7 @@ same = record {
   pieces = pieces;
   first = original-reads;
   second = translated-reads;
-  parts = All-from_recursion (λ p. IsFalse (isComment p.kind) → partAt original p ≡ partAt translated p) pieces (λ e. refl, (λ e. refl, (λ e. clash (sym e), (λ e. refl, (λ e. clash (sym e), (λ e. refl, tt))))));
+  parts = All-from_recursion (SamePart original translated) pieces (λ e. refl, (λ e. refl, (λ e. clash (sym e), (λ e. refl, (λ e. clash (sym e), (λ e. refl, tt))))));
 }
 
 pub examples : Examples

@@ -73,9 +73,9 @@ between-is script i j cs l m e h =
     let z : i + (j - i) ≡ j = omega arith in
     let q : drop i script ≡ encodes cs ++ drop j script = sym (take-append-drop (j - i) (drop i script)) ∙ rw (← h, drop-drop, z) refl in
     let t : from script i ≡ spelled i cs ++ from script j =
-        ap (charsAt i 0) q ∙ spells i cs (drop j script) e ∙ ap (λ x. spelled i cs ++ charsAt x 0 (drop j script)) k in
+    ap (charsAt i 0) q ∙ spells i cs (drop j script) e ∙ ap (λ x. spelled i cs ++ charsAt x 0 (drop j script)) k in
     let w : length (from script i) - length (from script j) ≡ length (spelled i cs) =
-        omega (arith, ap length t, length-append (spelled i cs) (from script j)) in
+    omega (arith, ap length t, length-append (spelled i cs) (from script j)) in
     rw (w, t) (take_at (spelled i cs) (from script j) (length (spelled i cs)) refl)
 
 -- ---- where characters begin in a well-formed script

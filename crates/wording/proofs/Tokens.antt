@@ -1,13 +1,13 @@
 -- Scripts that are the same but for comments have the same tokens.
 use Rattle.std.proofs.Common.{ℕ, ◌≤◌, ◌≡◌, refl, sym, ◌∙◌, ap, subst, Bool, true, false, ◌⊎◌, inl, inr, ◌↔◌, List, [], ◌∷◌, length, arith}
-use Rattle.std.specs.Prelude.{All, IsFalse}
+use Rattle.std.specs.Prelude.{All}
 use Rattle.std.proofs.lemmas.List.Elements.{All-head, All-tail}
 use Rattle.chars.specs.paper.Utf8.{WellFormed}
 use Rattle.token.proofs.theorems.Words.{Text, place, from, ScriptText, text-laws, clash, Kind, isComment, Token, Stands, textOf, Piece, Pieces, Valued, Tokens, Cut, Gap, fresh}
 use Rattle.token.specs.declared.kinds.TokenKind.TheVariants as tk
 use Rattle.token.proofs.theorems.Shorter.{Strict, stands-strict}
 use Rattle.token.proofs.theorems.Flags.{Knows, cut-here, knows-fresh, lineEnds, end-ends}
-use Rattle.wording.specs.paper.Wording.{partAt}
+use Rattle.wording.specs.paper.Wording.{partAt, SamePart}
 use Rattle.wording.proofs.Texts.{between-is, TextAt, text-left, utf8-between}
 use Rattle.wording.proofs.Values.{same-values}
 use Rattle.wording.proofs.Gaps.{no-end, isSpace, isGap, after, knows-on}
@@ -77,11 +77,8 @@ module _ (a b : List ℕ) (utf8 : WellFormed a) (long : length a ≡ length b) w
       let q : textOf (from b i) (from b j) ≡ textOf t o = rw (end-there w, w.start, text-place b t T) refl in
       sym p ∙ x ∙ sym y ∙ q
 
-  abbrev pub Same : Piece → Type 0
-  Same p = IsFalse (isComment p.kind) → partAt a p ≡ partAt b p
-
   -- the same pieces with the same parts, from two texts on
-  pub tokens-from : {ps qs : List Piece} {s t : Text} → Pieces (length a) s ps [] → Pieces (length b) t qs [] → ps ≡ qs → All Same ps
+  pub tokens-from : {ps qs : List Piece} {s t : Text} → Pieces (length a) s ps [] → Pieces (length b) t qs [] → ps ≡ qs → All (SamePart a b) ps
       → (ts : List Token) (gap : List Piece) (g : Gap) → Knows a gap g s → Knows b gap g t → TextAt a utf8 s → ScriptText b t
       → Tokens a gap ps ts → Tokens b gap ps ts
   tokens-from Pieces.done Pieces.done e h ts gap g K L S T (Tokens.eof {cut} c) =
@@ -91,10 +88,10 @@ module _ (a b : List ℕ) (utf8 : WellFormed a) (long : length a ≡ length b) w
   tokens-from (Pieces.piece {k} {s} {m} {ps} w v) (Pieces.piece {k = l} {s = t} {m = o} {ps = us} x u) e h ts gap g K L S T y =
       let q : piece (length a) k s m ≡ piece (length b) l t o = cc in
       let r : ps ≡ us = cc in
-      by (twins S T w x q) (All-head Same _ ps h) gap g K L S T w (tokens-from v u r (All-tail Same _ ps h)) y
+      by (twins S T w x q) (All-head (SamePart a b) _ ps h) gap g K L S T w (tokens-from v u r (All-tail (SamePart a b) _ ps h)) y
     where
       -- at the first piece; rest: what is known from the next one on
-      by : {k : Kind} {s m t o : Text} {ps : List Piece} {ts : List Token} → Twins k s m t o → Same (piece (length a) k s m)
+      by : {k : Kind} {s m t o : Text} {ps : List Piece} {ts : List Token} → Twins k s m t o → SamePart a b (piece (length a) k s m)
           → (gap : List Piece) (g : Gap) → Knows a gap g s → Knows b gap g t → TextAt a utf8 s → ScriptText b t → Stands k s m
           → ((ts : List Token) (gap : List Piece) (g : Gap) → Knows a gap g m → Knows b gap g o → TextAt a utf8 m → ScriptText b o
           → Tokens a gap ps ts → Tokens b gap ps ts)

@@ -1,4 +1,4 @@
--- REQUESTS, "Comment wording": scripts that are the same but for comments.
+-- REQUESTS, "Same but for comments".
 use Rattle.std.specs.Prelude.{ℕ, ◌-◌, ◌≡◌, IsFalse, All, List, take, drop}
 use Rattle.token.specs.paper.Kinds.{isComment}
 use Rattle.token.specs.paper.Reading.{Piece, Reading}
@@ -7,11 +7,14 @@ use Rattle.token.specs.paper.Reading.{Piece, Reading}
 abbrev pub partAt : List ℕ → Piece → List ℕ
 partAt script p = take (p.end - p.start) (drop p.start script)
 
--- "Two scripts are the same but for comments where"
+-- at a piece that is no comment the parts are equal
+abbrev pub SamePart : List ℕ → List ℕ → Piece → Type 0
+SamePart a b p = IsFalse (isComment p.kind) → partAt a p ≡ partAt b p
+
+-- "Two scripts are the same but for comments where one list of pieces is a reading of both, and at each piece of it that is no comment their parts are
+-- equal."
 pub record SameButComments (a b : List ℕ) : Type 0 where
-  -- "one list of pieces is a reading of both,"
   pub pieces : List Piece
   pub first : Reading a pieces
   pub second : Reading b pieces
-  -- "and the parts at each piece of it that is no comment are equal."
-  pub parts : All (λ p. IsFalse (isComment p.kind) → partAt a p ≡ partAt b p) pieces
+  pub parts : All (SamePart a b) pieces
