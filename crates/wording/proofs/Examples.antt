@@ -23,7 +23,11 @@ original-reads =
     (Pieces.piece (One.one refl, λ e. e)
     (Pieces.piece ((both (Times.more refl (Times.more refl Times.done)) (Run.next refl (Run.next refl Run.stop)), refl), λ e. refl)
     (Pieces.piece (inl (One.one refl), λ e. e)
-    (Pieces.piece (Block.block (both (One.one refl) (One.one refl)) (Items.item (Item.char refl refl) (Items.item (Item.char refl refl) Items.done)) (both (One.one refl) (One.one refl)), λ e. refl)
+    (Pieces.piece (
+      Block.block (both (One.one refl) (One.one refl)) (Items.item (Item.char refl refl) (Items.item (Item.char refl refl) Items.done))
+          (both (One.one refl) (One.one refl)),
+      λ e. refl,
+    )
     (Pieces.piece (One.one refl, λ e. e) Pieces.done)))))
 
 translated-reads : Reading translated pieces
@@ -33,7 +37,11 @@ translated-reads =
     (Pieces.piece (One.one refl, λ e. e)
     (Pieces.piece ((both (Times.more refl (Times.more refl Times.done)) (Run.next refl Run.stop), refl), λ e. refl)
     (Pieces.piece (inl (One.one refl), λ e. e)
-    (Pieces.piece (Block.block (both (One.one refl) (One.one refl)) (Items.item (Item.char refl refl) Items.done) (both (One.one refl) (One.one refl)), λ e. refl)
+    (Pieces.piece (
+      Block.block (both (One.one refl) (One.one refl)) (Items.item (Item.char refl refl) Items.done)
+          (both (One.one refl) (One.one refl)),
+      λ e. refl,
+    )
     (Pieces.piece (One.one refl, λ e. e) Pieces.done)))))
 
 same : SameButComments original translated
@@ -41,7 +49,8 @@ same = record {
   pieces = pieces;
   first = original-reads;
   second = translated-reads;
-  parts = All-from_recursion (SamePart original translated) pieces (λ e. refl, (λ e. refl, (λ e. clash (sym e), (λ e. refl, (λ e. clash (sym e), (λ e. refl, tt))))));
+  parts = All-from_recursion (SamePart original translated) pieces
+      (λ e. refl, (λ e. refl, (λ e. clash (sym e), (λ e. refl, (λ e. clash (sym e), (λ e. refl, tt))))));
 }
 
 pub examples : Examples

@@ -1,18 +1,16 @@
 -- The text at a piece is that of its bytes, wherever they stand.
-use Rattle.std.proofs.Common.{ℕ, zero, suc, ◌+◌, ◌-◌, ◌≤◌, ◌≡◌, refl, sym, ◌∙◌, ap, subst, true, List, [], inl, inr, ◌∷◌, ◌++◌, length, take, drop, append_assoc, length-append, length-drop, arith}
+use Rattle.std.proofs.Common.{ℕ, zero, suc, ◌+◌, ◌-◌, ◌≤◌, ◌<◌, ◌≡◌, refl, sym, ◌∙◌, ap, subst, true, List, [], inl, inr, ◌∷◌, ◌++◌, length, take, drop, append_assoc, length-append, length-drop, arith}
 use lib.Utf8.{scalar, scalars, scalar_cases, encode, encodes}
 use Rattle.std.specs.Str.{IsUtf8, IsCharBoundary}
 use Rattle.std.proofs.lemmas.Bool.{cases_lt}
 use Rattle.std.proofs.lemmas.List.{take-append-drop, take_at, drop_at, drop-drop, length-take-le}
 use Rattle.std.proofs.lemmas.Str.{IsUtf8-between, length-encode, len_utf8_bounds}
 use Rattle.chars.specs.paper.Utf8.{WellFormed, width, codeOf}
-use Rattle.chars.specs.paper.Text.{Text, charsAt, from, place}
-use Rattle.chars.specs.computed.Encoded.{encoded}
-use Rattle.chars.specs.code.Text.{charEnd}
+use Rattle.chars.specs.paper.Text.{Text, from, place}
+use Rattle.chars.specs.code.Text.{codeAt, charEnd}
 use Rattle.chars.specs.promises.Utf8.{isScalar}
 use Rattle.chars.specs.promises.Texts.{Suffix}
 use Rattle.chars.proofs.Bools.{and-both}
-use Rattle.chars.proofs.text.Texts.{chars-skip}
 use Rattle.chars.proofs.theorems.Promises.{text-laws, valid-laws}
 use Rattle.chars.proofs.theorems.Encodes.{encoding-laws}
 use Rattle.chars.proofs.theorems.StdUtf8.{std-laws}
@@ -29,51 +27,45 @@ abbrev pub spelled : ℕ → List ℕ → Text
 spelled i [] = []
 spelled i (c ∷ cs) = record { code = c; at = i } ∷ spelled (i + length (encode c)) cs
 
-same-bytes : (c : ℕ) → encoded c ≡ encode c
-unfolding encode
-same-bytes c = refl
-
--- the bytes w are one character of the code c, before the rest
-abbrev One : List ℕ → ℕ → List ℕ → Type 0
-One w c rest = (width (w ++ rest) ≡ length w) × (codeOf (length w) (w ++ rest) ≡ c)
-
-one : (i c : ℕ) (w rest : List ℕ) → 1 ≤ length w → One w c rest
-    → charsAt i 0 (w ++ rest) ≡ record { code = c; at = i } ∷ charsAt (i + length w) 0 rest
-unfolding charsAt
-one i c [] rest l h = absurd (omega arith)
-one i c (x ∷ w) rest l h =
-    let k : suc i + length w ≡ i + suc (length w) = omega arith in
-    let n : suc (length w) - 1 ≡ length w = omega arith in
-    rw (h.0, h.1, n) (ap (λ t. record { code = c; at = i } ∷ t)
-    (chars-skip (suc i) (length w) (w ++ rest) ∙ rw (drop_at w rest (length w) refl, k) refl))
-
 scalar-is : (c : ℕ) → scalar c ≡ true → isScalar c ≡ true
 scalar-is c e = grind (arith, scalar_cases)
 
-spells : (i : ℕ) (cs rest : List ℕ) → scalars cs ≡ true → charsAt i 0 (encodes cs ++ rest) ≡ spelled i cs ++ charsAt (i + length (encodes cs)) 0 rest
-spells i [] rest e = let k : i + 0 ≡ i = omega arith in rw k refl
-spells i (c ∷ cs) rest e =
-    let h = and-both (scalar c) (scalars cs) e in
-    let d = decodes c (encodes cs ++ rest) (scalar-is c h.0) in
-    let l = len_utf8_bounds c in
+-- what std writes for a code, with anything behind it, is read as that code
+read-back : (c : ℕ) (rest : List ℕ) → scalar c ≡ true
+    → (width (encode c ++ rest) ≡ length (encode c)) × (codeOf (length (encode c)) (encode c ++ rest) ≡ c)
+unfolding encode
+read-back c rest e = decodes c rest (scalar-is c e)
+
+-- the text from where such bytes stand
+spells : (script : List ℕ) (i : ℕ) (cs rest : List ℕ) → scalars cs ≡ true → drop i script ≡ encodes cs ++ rest
+    → from script i ≡ spelled i cs ++ from script (i + length (encodes cs))
+unfolding charEnd
+spells script i [] rest e h = let k : i + 0 ≡ i = omega arith in rw k refl
+spells script i (c ∷ cs) rest e h =
     let n = length-encode c in
-    let k : i + length (encode c) + length (encodes cs) ≡ i + length (encode c ++ encodes cs) = omega (arith, length-append {A = ℕ}) in
-    ap (charsAt i 0) (append_assoc (encode c) (encodes cs) rest)
-    ∙ one i c (encode c) (encodes cs ++ rest) (omega arith) (subst (λ w. One w c (encodes cs ++ rest)) (same-bytes c) d)
-    ∙ ap (λ t. record { code = c; at = i } ∷ t) (spells (i + length (encode c)) cs rest h.1 ∙ ap (λ j. spelled (i + length (encode c)) cs ++ charsAt j 0 rest) k)
+    let m = len_utf8_bounds c in
+    let x = and-both (scalar c) (scalars cs) e in
+    let q : drop i script ≡ encode c ++ (encodes cs ++ rest) = h ∙ append_assoc (encode c) (encodes cs) rest in
+    let l : i < length script = omega (arith, ap length q, length-append (encode c) (encodes cs ++ rest), length-drop i script) in
+    let r = read-back c (encodes cs ++ rest) x.0 in
+    let w : width (drop i script) ≡ length (encode c) = ap width q ∙ r.0 in
+    let code : codeAt script i ≡ c = rw (w, q) r.1 in
+    let next : charEnd script i ≡ i + length (encode c) = omega (arith, w) in
+    let d : drop (i + length (encode c)) script ≡ encodes cs ++ rest =
+    sym (drop-drop (length (encode c)) i script) ∙ ap (drop (length (encode c))) q ∙ drop_at (encode c) (encodes cs ++ rest) (length (encode c)) refl in
+    let k : i + length (encode c) + length (encodes cs) ≡ i + length (encode c ++ encodes cs) = omega (arith, length-append (encode c) (encodes cs)) in
+    at-char script i l ∙ rw (code, next) (ap (λ t. record { code = c; at = i } ∷ t)
+    (spells script (i + length (encode c)) cs rest x.1 d ∙ ap (λ j. spelled (i + length (encode c)) cs ++ from script j) k))
 
 -- the text between two places of a script, by the bytes between them
 pub between-is : (script : List ℕ) (i j : ℕ) (cs : List ℕ) → i ≤ j → j ≤ length script → scalars cs ≡ true → encodes cs ≡ take (j - i) (drop i script)
     → textOf (from script i) (from script j) ≡ spelled i cs
-unfolding from
 between-is script i j cs l m e h =
     let d = length-drop i script in
     let n : length (encodes cs) ≡ j - i = ap length h ∙ length-take-le (j - i) (drop i script) (omega arith) in
     let k : i + length (encodes cs) ≡ j = omega arith in
-    let z : i + (j - i) ≡ j = omega arith in
-    let q : drop i script ≡ encodes cs ++ drop j script = sym (take-append-drop (j - i) (drop i script)) ∙ rw (← h, drop-drop, z) refl in
-    let t : from script i ≡ spelled i cs ++ from script j =
-    ap (charsAt i 0) q ∙ spells i cs (drop j script) e ∙ ap (λ x. spelled i cs ++ charsAt x 0 (drop j script)) k in
+    let q : drop i script ≡ encodes cs ++ drop (j - i) (drop i script) = sym (take-append-drop (j - i) (drop i script)) ∙ rw (← h) refl in
+    let t : from script i ≡ spelled i cs ++ from script j = spells script i cs (drop (j - i) (drop i script)) e q ∙ rw k refl in
     let w : length (from script i) - length (from script j) ≡ length (spelled i cs) =
     omega (arith, ap length t, length-append (spelled i cs) (from script j)) in
     rw (w, t) (take_at (spelled i cs) (from script j) (length (spelled i cs)) refl)
