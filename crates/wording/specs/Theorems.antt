@@ -20,7 +20,7 @@ pub record WordingTheorems : Type 0 where
   pub same-seen : (limits : Limits) (a b buffer block : List ℕ) → SameButComments a b
       → numberSeen (hostFor limits a buffer block) ≡ 0 → numberSeen (hostFor limits b buffer block) ≡ 0
       → hostFor limits a buffer block ≡ hostFor limits b buffer block
-  -- "Where one is accepted, so is the other, if it is well-formed and unmarked."
+  -- "Where one of the two is accepted, so is the other, if it is well-formed and unmarked."
   pub stays-accepted : (limits : Limits) (a b buffer block : List ℕ) → SameButComments a b
       → numberSeen (hostFor limits a buffer block) ≡ 0 → WellFormed b → Unmarked b
       → numberSeen (hostFor limits b buffer block) ≡ 0
