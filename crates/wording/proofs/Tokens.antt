@@ -14,8 +14,8 @@ use Rattle.wording.proofs.Gaps.{no-end, isSpace, isGap, after, knows-on}
 open text-laws use {text-suffix, text-place}
 
 -- the piece of the kind k from the text s to the text m
-abbrev piece : ℕ → Kind → Text → Text → Piece
-piece n k s m = record { kind = k; start = place n s; end = place n m }
+abbrev pieceAt : ℕ → Kind → Text → Text → Piece
+pieceAt n k s m = record { kind = k; start = place n s; end = place n m }
 
 gap-kind : {k : Kind} → (k ≡ Kind.blank) ⊎ (isComment k ≡ true) → isGap k ≡ true
 gap-kind {k} (inl e) = rw e refl
@@ -25,7 +25,7 @@ gap-kind {k = Kind.lineComment} (inr e) = refl
 gap-kind {k = Kind.blockComment} (inr e) = refl
 gap-kind {k = Kind.token y} (inr e) = clash e
 
-module _ (a b : List ℕ) (utf8 : WellFormed a) (long : length a ≡ length b) where
+module _ (a b : List ℕ) (utf8 : WellFormed a) (lengths : length a ≡ length b) where
   -- of a gap by what is kept of it, the cut is that of both
   same-cut : {gap : List Piece} {g : Gap} {s t : Text} {cut : Bool} → Knows a gap g s → Knows b gap g t → lineEnds s ≡ false → lineEnds t ≡ false
       → cut ≡ true ↔ Cut a gap → cut ≡ true ↔ Cut b gap
@@ -45,7 +45,7 @@ module _ (a b : List ℕ) (utf8 : WellFormed a) (long : length a ≡ length b) w
     inside : place (length a) s ≤ place (length a) m
 
   twins : {k l : Kind} {s m t o : Text} → TextAt a utf8 s → ScriptText b t → Stands k s m → Stands l t o
-      → piece (length a) k s m ≡ piece (length b) l t o → Twins k s m t o
+      → pieceAt (length a) k s m ≡ pieceAt (length b) l t o → Twins k s m t o
   twins {k} {l} {s} {m} {t} {o} S T w x q =
       let h = stands-strict k s m w in
       let f = text-left a utf8 h.0 S in
@@ -65,14 +65,14 @@ module _ (a b : List ℕ) (utf8 : WellFormed a) (long : length a ≡ length b) w
 
   -- equal parts have one text
   same-text : {k : Kind} {s m t o : Text} → TextAt a utf8 s → ScriptText b t → Twins k s m t o
-      → partAt a (piece (length a) k s m) ≡ partAt b (piece (length a) k s m) → textOf s m ≡ textOf t o
+      → partAt a (pieceAt (length a) k s m) ≡ partAt b (pieceAt (length a) k s m) → textOf s m ≡ textOf t o
   same-text {s} {m} {t} {o} S T w e =
       let i = place (length a) s in
       let j = place (length a) m in
       let u = utf8-between a utf8 S w.behind w.inside in
       let l = w.behind.begins.inside in
       let x = between-is a i j u.0 w.inside l u.1.0 u.1.1 in
-      let y = between-is b i j u.0 w.inside (omega (arith, long, l)) u.1.0 (u.1.1 ∙ e) in
+      let y = between-is b i j u.0 w.inside (omega (arith, lengths, l)) u.1.0 (u.1.1 ∙ e) in
       let p : textOf (from a i) (from a j) ≡ textOf s m = rw (S.text, w.behind.text) refl in
       let q : textOf (from b i) (from b j) ≡ textOf t o = rw (end-there w, w.start, text-place b t T) refl in
       sym p ∙ x ∙ sym y ∙ q
@@ -82,20 +82,20 @@ module _ (a b : List ℕ) (utf8 : WellFormed a) (long : length a ≡ length b) w
       → (ts : List Token) (gap : List Piece) (g : Gap) → Knows a gap g s → Knows b gap g t → TextAt a utf8 s → ScriptText b t
       → Tokens a gap ps ts → Tokens b gap ps ts
   tokens-from Pieces.done Pieces.done e h ts gap g K L S T (Tokens.eof {cut} c) =
-      subst (λ n. Tokens b gap [] (record { kind = tk.Eof; start = n; end = n; cut = cut } ∷ [])) (sym long) (Tokens.eof (same-cut K L end-ends end-ends c))
+      subst (λ n. Tokens b gap [] (record { kind = tk.Eof; start = n; end = n; cut = cut } ∷ [])) (sym lengths) (Tokens.eof (same-cut K L end-ends end-ends c))
   tokens-from Pieces.done (Pieces.piece x u) e h ts gap g K L S T y = cc
   tokens-from (Pieces.piece w v) Pieces.done e h ts gap g K L S T y = cc
   tokens-from (Pieces.piece {k} {s} {m} {ps} w v) (Pieces.piece {k = l} {s = t} {m = o} {ps = us} x u) e h ts gap g K L S T y =
-      let q : piece (length a) k s m ≡ piece (length b) l t o = cc in
+      let q : pieceAt (length a) k s m ≡ pieceAt (length b) l t o = cc in
       let r : ps ≡ us = cc in
       by (twins S T w x q) (All-head (SamePart a b) _ ps h) gap g K L S T w (tokens-from v u r (All-tail (SamePart a b) _ ps h)) y
     where
       -- at the first piece; rest: what is known from the next one on
-      by : {k : Kind} {s m t o : Text} {ps : List Piece} {ts : List Token} → Twins k s m t o → SamePart a b (piece (length a) k s m)
+      by : {k : Kind} {s m t o : Text} {ps : List Piece} {ts : List Token} → Twins k s m t o → SamePart a b (pieceAt (length a) k s m)
           → (gap : List Piece) (g : Gap) → Knows a gap g s → Knows b gap g t → TextAt a utf8 s → ScriptText b t → Stands k s m
           → ((ts : List Token) (gap : List Piece) (g : Gap) → Knows a gap g m → Knows b gap g o → TextAt a utf8 m → ScriptText b o
           → Tokens a gap ps ts → Tokens b gap ps ts)
-          → Tokens a gap (piece (length a) k s m ∷ ps) ts → Tokens b gap (piece (length a) k s m ∷ ps) ts
+          → Tokens a gap (pieceAt (length a) k s m ∷ ps) ts → Tokens b gap (pieceAt (length a) k s m ∷ ps) ts
       by {k} {s} {m} {t} {o} z h gap g K L S T w rest (Tokens.skip {p} d y) =
           let f = gap-kind d in
           let K' = knows-on a gap g s K p k m refl w z.behind.text f in
@@ -110,7 +110,7 @@ module _ (a b : List ℕ) (utf8 : WellFormed a) (long : length a ≡ length b) w
           let i : isSpace k ≡ false = rw d refl in
           let shape : Stands (Kind.token y) t o = rw (← d) z.shape in
           let here : Valued (length a) s m y c = rw (← S.text, ← z.behind.text) v in
-          let same = same-values z.shorter (stands-strict k t o z.shape).0 (same-text S T z (h (rw d refl))) z.start z.end shape here in
+          let same = same-values z.shorter (stands-strict k t o z.shape).0 (same-text S T z (h cc)) z.start z.end shape here in
           let there : Valued (length b) (from b p.start) (from b p.end) y c = rw (end-there z, z.start, text-place b t T) same in
           Tokens.token d there (same-cut K L (no-end k s m w i) (no-end k t o z.shape i) cut)
           (rest _ [] fresh (knows-fresh a m) (knows-fresh b o) z.behind z.text r)

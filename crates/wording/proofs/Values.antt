@@ -14,12 +14,12 @@ in-two {r} {s} h = sym (take-append-drop (length s - length r) s) ∙ ap (λ z. 
 -- ---- numbers
 
 -- how many characters its letter has: true for a LongLit
-abbrev suffix : Bool → ℕ
-suffix true = 1
-suffix false = 0
+abbrev letter : Bool → ℕ
+letter true = 1
+letter false = 0
 
 abbrev digits : Bool → Text → List ℕ
-digits long x = map (λ (c : Char). c.code) (take (length x - suffix long) x)
+digits long x = map (λ (c : Char). c.code) (take (length x - letter long) x)
 
 -- the value, by the number's own text
 abbrev valueIn : Bool → Bool → Text → ℕ
@@ -27,10 +27,10 @@ valueIn true long x = valueOfDigits 16 (digits long (drop 2 x))
 valueIn false long x = valueOfDigits 10 (digits long x)
 
 -- the codes of x before its letter; m: the text from that on
-codes-by : (long : Bool) (x r m : Text) → length m ≡ length r + suffix long → suffix long ≤ length x → codesOf (x ++ r) m ≡ digits long x
+codes-by : (long : Bool) (x r m : Text) → length m ≡ length r + letter long → letter long ≤ length x → codesOf (x ++ r) m ≡ digits long x
 codes-by long x r m e l =
-    let n : length (x ++ r) - length m ≡ length x - suffix long = omega (arith, length-append x r) in
-    ap (map (λ (c : Char). c.code)) (rw n (take-append-le (length x - suffix long) x r (omega arith)))
+    let n : length (x ++ r) - length m ≡ length x - letter long = omega (arith, length-append x r) in
+    ap (map (λ (c : Char). c.code)) (rw n (take-append-le (length x - letter long) x r (omega arith)))
 
 -- What the number's own text tells of it: its value v, and that `0x` and a digit, where they are ahead, are in that text.
 record ByText (hex long : Bool) (x : Text) (v : ℕ) : Type 0 where
@@ -40,10 +40,10 @@ record ByText (hex long : Bool) (x : Text) (v : ℕ) : Type 0 where
 run1-shorter : {p : Text → Bool} {s r : Text} → Run1 p s r → length r < length s
 run1-shorter {p} (Run1.run i w) = let h = run-suffix p w in omega (arith, h.within)
 
-number-by : (long : Bool) {v : ℕ} (x r s m : Text) → s ≡ x ++ r → length m ≡ length r + suffix long → Digits v s m → ByText (hexAhead s) long x v
+number-by : (long : Bool) {v : ℕ} (x r s m : Text) → s ≡ x ++ r → length m ≡ length r + letter long → Digits v s m → ByText (hexAhead s) long x v
 number-by long x r s m q e (Digits.hex t (w, least)) =
     let z = run1-shorter w in
-    let l : 3 + suffix long ≤ length x = omega (arith, length-drop 2 s, ap length q, length-append x r) in
+    let l : 3 + letter long ≤ length x = omega (arith, length-drop 2 s, ap length q, length-append x r) in
     let f : drop 2 s ≡ drop 2 x ++ r = ap (drop 2) q ∙ drop-append-le 2 x r (omega arith) in
     let k = codes-by long (drop 2 x) r m e (omega (arith, length-drop 2 x)) in
     record { value = rw t (ap (valueOfDigits 16) (ap (λ y. codesOf y m) f ∙ k)); wide = λ h. omega (arith, l) }
@@ -74,7 +74,7 @@ same-value long x r o s t e f (both {m} d k) (both {m = n} g l) =
     let p = same-ahead x r o (ap hexAhead e) (ap hexAhead f) a b in
     a.value ∙ ap (λ h. valueIn h long x) p ∙ sym b.value
   where
-    ends : (long : Bool) (m r : Text) → LongSuffix long m r → length m ≡ length r + suffix long
+    ends : (long : Bool) (m r : Text) → LongSuffix long m r → length m ≡ length r + letter long
     ends true m r (One.one i) = omega arith
     ends false m r h = omega (arith, ap length h.0)
 

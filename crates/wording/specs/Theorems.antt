@@ -12,9 +12,9 @@ use Rattle.wording.specs.paper.Wording.{SameButComments}
 use Rattle.wording.specs.computed.Examples.{Examples}
 
 pub record WordingTheorems : Type 0 where
-  -- "Of two accepted scripts that are the same but for comments the records are the same, byte for byte." `Read` is what acceptance needs of a script:
-  -- its size, UTF-8, no direction mark, and a reading, with these tokens.
-  pub same-records : (limits : Limits) (a b : List ℕ) (ts us : List Token) → SameButComments a b → Read limits a ts → Read limits b us
+  -- "Of two accepted scripts that are the same but for comments the records are the same, byte for byte." `Read` is what acceptance asks of a script:
+  -- its size, UTF-8, no direction mark, and a reading, with these tokens, no more than the limit. The limits may be others for each.
+  pub same-records : (limits others : Limits) (a b : List ℕ) (ts us : List Token) → SameButComments a b → Read limits a ts → Read others b us
       → records ts ≡ records us
   -- "With the same limits, records buffer and answer block both calls hand back the same number and leave the same bytes."
   pub same-seen : (limits : Limits) (a b buffer block : List ℕ) → SameButComments a b

@@ -20,9 +20,12 @@ pub record Examples : Type 0 where
   pub same : SameButComments original translated
   pub accepted : map (λ s. numberSeen (hosted compiler s (replicate 100 7) (replicate 16 9))) (original ∷ translated ∷ []) ≡ 0 ∷ 0 ∷ []
   -- Line comments and block comments are two kinds: at one place, behind a line end, the one leaves Eof the cut 0, the other gives it the cut 1.
-  pub two-kinds : map entered (script "a\n//**" ∷ script "a\n/**/" ∷ [])
+  pub two-kinds : SameButComments (script "a\n//**") (script "a\n/**/") → ⊥
+  pub two-cuts : map entered (script "a\n//**" ∷ script "a\n/**/" ∷ [])
       ≡ map codes ("1 0 1 0\n17 1 2 0 0\n18 6 6 0\n" ∷ "1 0 1 0\n17 1 2 0 0\n18 6 6 1\n" ∷ [])
-  -- What is no comment has values: numbers of the same pieces.
-  pub other-parts : map entered (script "1" ∷ script "2" ∷ []) ≡ map codes ("4 0 1 0 1\n18 1 1 0\n" ∷ "4 0 1 0 2\n18 1 1 0\n" ∷ [])
+  -- What is no comment has values: two numbers.
+  pub other-parts : SameButComments (script "1") (script "2") → ⊥
+  pub other-values : map entered (script "1" ∷ script "2" ∷ []) ≡ map codes ("4 0 1 0 1\n18 1 1 0\n" ∷ "4 0 1 0 2\n18 1 1 0\n" ∷ [])
   -- A comment of more bytes moves what stands behind it: `/*n*/x` and `/*ж*/x`.
-  pub other-length : map entered (script "/*n*/x" ∷ script "/*ж*/x" ∷ []) ≡ map codes ("1 5 6 0\n18 6 6 0\n" ∷ "1 6 7 0\n18 7 7 0\n" ∷ [])
+  pub other-length : SameButComments (script "/*n*/x") (script "/*ж*/x") → ⊥
+  pub other-places : map entered (script "/*n*/x" ∷ script "/*ж*/x" ∷ []) ≡ map codes ("1 5 6 0\n18 6 6 0\n" ∷ "1 6 7 0\n18 7 7 0\n" ∷ [])
