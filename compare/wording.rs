@@ -56,16 +56,23 @@ fn lent(length: usize, mask: u8) -> Vec<u8> {
     (0..length + BEHIND).map(|i| (i as u8).wrapping_mul(29) ^ mask).collect()
 }
 
+// After a call, those behind what was lent are as they were.
+fn only_lent(after: &[u8], length: usize, mask: u8) -> bool {
+    after[length..] == lent(length, mask)[length..]
+}
+
 fn tokenized(tokenize: Tokenize, script: &[u8], length: usize, mask: u8) -> Answer {
     let (mut records, mut block) = (lent(length, mask), lent(BLOCK, !mask));
     let (r, a) = (records.as_mut_ptr(), block.as_mut_ptr());
     let number = unsafe { tokenize(script.as_ptr(), script.len() as u64, r, length as u64, a, BLOCK as u64) };
+    assert!(only_lent(&records, length, mask) && only_lent(&block, BLOCK, !mask), "written behind what was lent, for {}", shown(script));
     Answer { number, records, block }
 }
 
 fn measured(script: &[u8], mask: u8) -> Answer {
     let mut block = lent(MEASURE_BLOCK, mask);
     let number = unsafe { ergo_measure(script.as_ptr(), script.len() as u64, block.as_mut_ptr(), MEASURE_BLOCK as u64) };
+    assert!(only_lent(&block, MEASURE_BLOCK, mask), "written behind the block, for {}", shown(script));
     Answer { number, records: Vec::new(), block }
 }
 
@@ -215,7 +222,7 @@ fn is_clean(script: &[u8]) -> bool {
 }
 
 // REQUESTS, "Comment wording": is the other script the same but for comments, and UTF-8 without a mark? The same comments must stand in it, and all
-// other bytes must be the same. Then the pieces are too: what the rules ask of the text behind a token is at most whether a comment opens there.
+// other bytes must be the same. Then the pieces are too: of a comment behind it a token's shape asks at most that one opens there.
 fn same_but_comments(script: &[u8], other: &[u8], tokens: &[Token], list: &[Comment]) -> bool {
     let mut back = other.to_vec();
     for inside in list.iter().map(|comment| comment.inside()) {
@@ -243,7 +250,7 @@ const SORTS: [Sort; 9] = [
     Sort { name: "emoji", least: 4, block: false, draw: |random, length| spelled(random, length, 0x1F300, 0x1F64F) },
     Sort { name: "mixed", least: 1, block: false, draw: mixed },
     Sort { name: "like code", least: 1, block: false, draw: |random, length| pieces_of(random, length, &CODE) },
-    Sort { name: "close to the bounds", least: 1, block: false, draw: close },
+    Sort { name: "signs at the bounds", least: 1, block: false, draw: at_bounds },
     Sort { name: "lines", least: 1, block: true, draw: |random, length| pieces_of(random, length, &LINES) },
     Sort { name: "nested", least: 4, block: true, draw: nested },
 ];
@@ -307,7 +314,7 @@ fn mixed(random: &mut Random, length: usize) -> String {
     })
 }
 
-fn close(random: &mut Random, length: usize) -> String {
+fn at_bounds(random: &mut Random, length: usize) -> String {
     let (first, last) = (pick(random, &FIRST), pick(random, &LAST));
     let between = letters(random, length.saturating_sub(first.len() + last.len()));
     let mut text = format!("{first}{between}{last}");
@@ -487,13 +494,25 @@ impl Case<'_> {
         let answer = self.asked(other);
         answer.number == 0 && answer.block == self.answer.block && answer != self.answer
     }
+
+    // Is it refused by this number, at this place? REQUESTS, "Refusal of a mark": "The block has the number and the place, and zeros behind them; the
+    // records buffer is left as it was." So it is with 18.
+    fn refuses(&self, other: &[u8], number: u32, place: usize) -> bool {
+        let mut wanted = Answer { number, records: lent(bound(other.len()), self.mask), block: lent(BLOCK, !self.mask) };
+        wanted.block[..BLOCK].copy_from_slice(&[number, place as u32, 0, 0].map(u32::to_le_bytes).concat());
+        self.asked(other) == wanted
+    }
 }
 
 // A script that is changed in one place, and whether that shows as it is to show. None where there is no such place.
 type Control = fn(&mut Random, &Case) -> Option<(Vec<u8>, bool)>;
 
-const CONTROLS: [(&str, Control); 3] =
-    [("a byte more in a comment", longer), ("another digit in a number", other_digit), ("a direction mark in a comment", marked)];
+const CONTROLS: [(&str, Control); 4] = [
+    ("a byte more in a comment", longer),
+    ("another digit in a number", other_digit),
+    ("a direction mark in a comment", marked),
+    ("a byte that is no UTF-8 in a comment", ill_formed),
+];
 
 fn some_place(random: &mut Random, places: &[usize]) -> Option<usize> {
     (!places.is_empty()).then(|| places[random.below(places.len())])
@@ -536,15 +555,24 @@ fn places_of_three(script: &[u8], comment: &Comment) -> Vec<usize> {
     (inside.start..inside.end.saturating_sub(2)).filter(|&at| !within(at) && !within(at + 3)).collect()
 }
 
-// REQUESTS, "Refusal of a mark": "The block has the number and the place, and zeros behind them; the records buffer is left as it was."
+// REQUESTS, "Refusal of a mark": 29, at "the first mark".
 fn marked(random: &mut Random, case: &Case) -> Option<(Vec<u8>, bool)> {
     let places: Vec<usize> = case.comments.iter().flat_map(|comment| places_of_three(case.script, comment)).collect();
     let at = some_place(random, &places)?;
     let mut other = case.script.to_vec();
     MARKS[random.below(MARKS.len())].encode_utf8(&mut other[at..at + 3]);
-    let mut wanted = Answer { number: 29, records: lent(bound(other.len()), case.mask), block: lent(BLOCK, !case.mask) };
-    wanted.block[..BLOCK].copy_from_slice(&[29, at as u32, 0, 0].map(u32::to_le_bytes).concat());
-    let came_out = case.asked(&other) == wanted;
+    let came_out = case.refuses(&other, 29, at);
+    Some((other, came_out))
+}
+
+// RULES, "Refusals of a call": 18, at "the length of the longest valid prefix". No character of UTF-8 has the byte FF.
+fn ill_formed(random: &mut Random, case: &Case) -> Option<(Vec<u8>, bool)> {
+    let is_ascii = |at: &usize| case.script[*at].is_ascii();
+    let places: Vec<usize> = case.comments.iter().flat_map(|comment| comment.inside()).filter(is_ascii).collect();
+    let at = some_place(random, &places)?;
+    let mut other = case.script.to_vec();
+    other[at] = 0xFF;
+    let came_out = case.refuses(&other, 18, at);
     Some((other, came_out))
 }
 
@@ -566,7 +594,7 @@ const TWO_KINDS: [(&str, &str); 9] = [
 fn two_kinds(block: &str, line: &str) -> bool {
     let [one, two] = [block, line].map(|script| tokenized(ergo_tokenize, script.as_bytes(), bound(script.len()), 0));
     let (Some((one_cut, one_head)), Some((two_cut, two_head))) = (one.roll().split_last(), two.roll().split_last()) else { return false };
-    [one.number, two.number] == [0, 0] && one_head == two_head && [*one_cut, *two_cut] == [1, 0] && one != two
+    [one.number, two.number] == [0, 0] && one_head == two_head && [*one_cut, *two_cut] == [1, 0] && one.block == two.block
 }
 
 // ---- comparing

@@ -1,5 +1,6 @@
 -- Of two scripts that are the same but for comments: their lengths, their tokens, and what a host sees.
 use Rattle.std.proofs.Common.{ℕ, ◌≤◌, ◌≡◌, refl, sym, ◌∙◌, ap, inl, inr, List, [], ◌∷◌, ◌++◌, length, drop, arith}
+use Rattle.std.proofs.lemmas.List.Elements.{All-weaker}
 use Rattle.words.specs.Words.{blockOf}
 use Rattle.chars.specs.paper.Utf8.{WellFormed}
 use Rattle.chars.specs.paper.Marks.{Unmarked}
@@ -11,7 +12,7 @@ use Rattle.entry.specs.declared.limits.Limits.{Limits}
 use Rattle.entry.specs.paper.Host.{Seen, seen, numberSeen, Read, Sees}
 use Rattle.entry.specs.computed.Host.{hostFor}
 use Rattle.entry.proofs.theorems.Hosts.{number-of, keeps-read, host-theorems}
-use Rattle.wording.specs.paper.Wording.{SameButComments}
+use Rattle.wording.specs.paper.Wording.{SamePart, SameButComments}
 use Rattle.wording.proofs.Texts.{text-start}
 use Rattle.wording.proofs.Tokens.{tokens-from}
 open text-laws use {place-from}
@@ -30,6 +31,14 @@ ends-last (Pieces.piece w v) = ends-last v
 -- a script is as long as its reading
 reading-length : (script : List ℕ) (ps : List Piece) → Reading script ps → lastEnd 0 ps ≡ length script
 reading-length script ps h = ap (λ i. lastEnd i ps) (sym (place-from script 0 (omega arith))) ∙ ends-last h
+
+pub symmetric : (a b : List ℕ) → SameButComments a b → SameButComments b a
+symmetric a b same = record {
+  pieces = same.pieces;
+  first = same.second;
+  second = same.first;
+  parts = All-weaker (SamePart a b) (SamePart b a) (λ p h e. sym (h e)) same.pieces same.parts;
+}
 
 module _ (a b : List ℕ) (same : SameButComments a b) where
   same-length : length a ≡ length b
@@ -69,18 +78,22 @@ record Accepted (limits : Limits) (script buffer block : List ℕ) (x : Seen) : 
 accepted-by : (limits : Limits) (script buffer block : List ℕ) {x : Seen} → Sees limits script buffer block x → numberSeen x ≡ 0
     → Accepted limits script buffer block x
 accepted-by limits script buffer block (Sees.twenty n) h = absurd (omega arith)
-accepted-by limits script buffer block (Sees.rejected e k) h = elim (number-of limits script k) [ inl r ↦ absurd (omega (arith, r.0)) | inr r ↦ absurd (omega (arith, r.0)) ]
+accepted-by limits script buffer block (Sees.rejected e k) h =
+    elim (number-of limits script k) [ inl r ↦ absurd (omega (arith, r.0)) | inr r ↦ absurd (omega (arith, r.0)) ]
 accepted-by limits script buffer block (Sees.nineteen e r m) h = absurd (omega arith)
 accepted-by limits script buffer block (Sees.accepted e r m) h = record { tokens = _; sixteen = e; read = r; room = m; seen-is = refl }
 
 module _ (limits : Limits) (a b buffer block : List ℕ) (same : SameButComments a b) where
-  accepted : (script : List ℕ) → numberSeen (hostFor limits script buffer block) ≡ 0 → Accepted limits script buffer block (hostFor limits script buffer block)
+  accepted : (script : List ℕ) → numberSeen (hostFor limits script buffer block) ≡ 0
+      → Accepted limits script buffer block (hostFor limits script buffer block)
   accepted script = accepted-by limits script buffer block (((host-theorems limits script buffer block).sees _).0 refl)
 
-  pub stays : numberSeen (hostFor limits a buffer block) ≡ 0 → WellFormed b → Unmarked b → hostFor limits b buffer block ≡ hostFor limits a buffer block
+  pub stays : numberSeen (hostFor limits a buffer block) ≡ 0 → WellFormed b → Unmarked b
+      → hostFor limits b buffer block ≡ hostFor limits a buffer block
   stays h utf8 unmarked =
       let k = accepted a h in
-      ((host-theorems limits b buffer block).sees _).1 (Sees.accepted k.sixteen (read-too a b same limits utf8 unmarked k.read) k.room) ∙ sym k.seen-is
+      ((host-theorems limits b buffer block).sees _).1 (Sees.accepted k.sixteen (read-too a b same limits utf8 unmarked k.read) k.room)
+      ∙ sym k.seen-is
 
   pub same-seen : numberSeen (hostFor limits a buffer block) ≡ 0 → numberSeen (hostFor limits b buffer block) ≡ 0
       → hostFor limits a buffer block ≡ hostFor limits b buffer block

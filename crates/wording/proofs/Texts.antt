@@ -1,4 +1,4 @@
--- The text at a piece is that of its bytes, wherever they stand.
+-- The text between two places of a script is that of the bytes between them.
 use Rattle.std.proofs.Common.{ℕ, zero, suc, ◌+◌, ◌-◌, ◌≤◌, ◌<◌, ◌≡◌, refl, sym, ◌∙◌, ap, subst, true, List, [], inl, inr, ◌∷◌, ◌++◌, length, take, drop, append_assoc, length-append, length-drop, arith}
 use lib.Utf8.{scalar, scalars, scalar_cases, encode, encodes}
 use Rattle.std.specs.Str.{IsUtf8, IsCharBoundary}

@@ -3,7 +3,7 @@ use Rattle.std.proofs.Common.{◌∙◌, ap}
 use Rattle.token.specs.paper.Records.{records}
 use Rattle.entry.specs.paper.Host.{numberSeen}
 use Rattle.wording.specs.Theorems.{WordingTheorems}
-use Rattle.wording.proofs.Hosts.{same-tokens, one-tokens, stays, same-seen}
+use Rattle.wording.proofs.Hosts.{symmetric, same-tokens, one-tokens, stays, same-seen}
 use Rattle.wording.proofs.Examples.{examples}
 
 pub wording_theorems : WordingTheorems
@@ -12,5 +12,6 @@ wording_theorems = record {
   same-seen = same-seen;
   stays-accepted = λ limits a b buffer block same h utf8 unmarked. ap numberSeen (stays limits a b buffer block same h utf8 unmarked) ∙ h;
   same-tokens = λ a b ts same utf8 h. same-tokens a b same ts utf8 h;
+  symmetric = symmetric;
   examples = examples;
 }

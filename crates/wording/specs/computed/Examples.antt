@@ -23,7 +23,7 @@ pub record Examples : Type 0 where
   pub two-kinds : SameButComments (script "a\n//**") (script "a\n/**/") → ⊥
   pub two-cuts : map entered (script "a\n//**" ∷ script "a\n/**/" ∷ [])
       ≡ map codes ("1 0 1 0\n17 1 2 0 0\n18 6 6 0\n" ∷ "1 0 1 0\n17 1 2 0 0\n18 6 6 1\n" ∷ [])
-  -- What is no comment has values: two numbers.
+  -- Other parts can have other values: two numbers.
   pub other-parts : SameButComments (script "1") (script "2") → ⊥
   pub other-values : map entered (script "1" ∷ script "2" ∷ []) ≡ map codes ("4 0 1 0 1\n18 1 1 0\n" ∷ "4 0 1 0 2\n18 1 1 0\n" ∷ [])
   -- A comment of more bytes moves what stands behind it: `/*n*/x` and `/*ж*/x`.
