@@ -1,9 +1,10 @@
 -- A test that is computed at a few codes, carried to each code that is one of them.
-use Rattle.std.proofs.Common.{◌≡◌, ℕ, zero, suc, ◌+◌, ◌≤◌, ◌<◌, Bool, true, false, not, List, [], ◌∷◌, eqb, refl, sym, ◌∙◌, inl, inr, ⊎_elim, arith, eqb-true, eq-eqb, ne_eqb}
-use Rattle.std.proofs.lemmas.Bool.{cases_eq, or_cases, false_from_ne_true, not-true}
+use Rattle.std.proofs.Common.{◌≡◌, ℕ, zero, suc, ◌+◌, ◌≤◌, ◌<◌, Bool, true, false, not, List, [], ◌∷◌, eqb, refl, sym, ◌∙◌, inl, inr, ⊎_elim, arith, eqb-true, eq-eqb, ne_eqb, le-ltb}
+use Rattle.std.proofs.lemmas.Bool.{cases_lt, cases_eq, or_cases, false_from_ne_true, not-true}
 use Rattle.std.proofs.Math.Bool.{or-true}
 use types.Run.{OneOf}
 use Rattle.chars.specs.paper.Quoted.{member}
+use Rattle.chars.specs.code.Classes.{bitIn}
 use Rattle.chars.specs.promises.Codes.{every, span, alike}
 use Rattle.chars.proofs.Bools.{clash, and-both}
 
@@ -40,6 +41,17 @@ agree false y e = sym (not-true y e)
 -- two tests that agree at n codes from a on
 pub each-same : (f g : ℕ → Bool) (a n c : ℕ) → every (λ x. alike (f x) (g x)) (span a n) ≡ true → a ≤ c → c < a + n → f c ≡ g c
 each-same f g a n c h p q = agree (f c) (g c) (carry-span (λ x. alike (f x) (g x)) a n c h p q)
+
+-- ---- a set of ASCII characters as two masks: computed at each code of ASCII, and empty past it
+
+mask-none : (low high c : ℕ) → 0x80 ≤ c → bitIn low high c ≡ false
+unfolding bitIn
+mask-none low high c l = rw (le-ltb c 0x40 (omega arith), le-ltb c 0x80 l)
+
+pub mask-set : (low high : ℕ) (p : ℕ → Bool) → every (λ x. alike (bitIn low high x) (p x)) (span 0 128) ≡ true → ((c : ℕ) → 0x80 ≤ c → p c ≡ false)
+    → (c : ℕ) → bitIn low high c ≡ p c
+mask-set low high p h w c =
+    ⊎_elim (λ l. each-same (bitIn low high) p 0 128 c h (omega arith) (omega arith)) (λ l. mask-none low high c l ∙ sym (w c l)) (cases_lt c 0x80)
 
 -- ---- the keys of a match's arm
 

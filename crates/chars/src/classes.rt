@@ -1,7 +1,7 @@
 // The character classes of RULES, "Characters": all four answers on a code together, by masks.
 ghost use Rattle.std.specs.Prelude.{◌≡◌, ◌+◌, ◌*◌, ◌<◌};
 ghost use Rattle.chars.specs.code.Masks.{inMask};
-ghost use Rattle.chars.specs.code.Classes.{answers};
+ghost use Rattle.chars.specs.code.Classes.{answers, bitIn};
 ghost use Rattle.chars.specs.promises.Codes.{CodeLaws};
 ghost use Rattle.chars.specs.promises.Classes.{ClassLaws};
 
@@ -71,4 +71,18 @@ pub fn classes_of(c: u32) -> Classes
         return classes_at((c / 64) as usize, c % 64);
     }
     Classes::NONE
+}
+
+/// Whether the byte's bit is set in one of two masks, for the codes up to 0x3F and from 0x40 to 0x7F: a set of ASCII characters by two tests.
+// `code_laws`: what is computed at a few codes is carried to a code that is one of them, and to a set of them as two masks.
+#[tactic(auto, using(crate::proofs::theorems::Promises::code_laws), unfolding(crate::specs::code::Classes::bitIn))]
+pub fn has_bit(b: u8, low: u64, high: u64) -> bool
+    ensures value { result ≡ bitIn low high b }
+    ensures code_laws { CodeLaws }
+{
+    match b {
+        0x00..=0x3F => (low >> b as u64) % 2 == 1,
+        0x40..=0x7F => (high >> (b as u64 - 0x40)) % 2 == 1,
+        _ => false,
+    }
 }

@@ -5,7 +5,7 @@ ghost use Rattle.chars.specs.paper.Utf8.{width};
 ghost use Rattle.chars.specs.paper.Classes.{isOpSign};
 ghost use Rattle.chars.specs.code.Classes.{answers};
 ghost use Rattle.chars.specs.code.Utf8.{decoded};
-ghost use Rattle.chars.specs.code.Text.{beginsThree, threeBytes, formOfThree, signWidth, stepAt};
+ghost use Rattle.chars.specs.code.Text.{beginsThree, threeBytes, formOfThree, idOfTwo, signWidth, stepAt};
 ghost use Rattle.chars.specs.promises.Texts.{TextLaws};
 
 use crate::classes::{Classes, classes_at};
@@ -120,6 +120,16 @@ pub fn look(s: &[u8], at: usize) -> Decoded
         };
     }
     told((s[at] / 64) as usize, (s[at] % 64) as u32, 1)
+}
+
+/// Whether an id character of two bytes stands at a byte offset, as a Cyrillic, a Greek or an accented letter is.
+#[inline(always)]
+pub fn is_id_of_two(s: &[u8], at: usize) -> bool
+    requires { at < length s.now }
+    ensures { result ≡ idOfTwo (stepAt s.now at) }
+{
+    let here = look(s, at);
+    here.width == 2 && here.classes.id_char
 }
 
 // Whether the bytes there have the form of a character of three, as those of an overlong one and of a surrogate have, too.

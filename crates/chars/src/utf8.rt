@@ -167,10 +167,14 @@ fn skip_many(s: &[u8], at: usize) -> usize
     i
 }
 
-// The place past the ASCII bytes that stand from `at` on. Between characters past ASCII few do: so sixteen are looked at first.
+// The place past the ASCII bytes that stand from `at` on, behind one. Between words past ASCII that one mostly stands alone: so it is asked whether
+// another follows, before sixteen are looked at.
 fn ascii_end(s: &[u8], at: usize) -> usize
     ensures { result ≡ rowsOver (0x00 to 0x7F ∷ []) s.now at }
 {
+    if !byte_in(s, at, 0x00, 0x7F) {
+        return at;
+    }
     match outside_at::<InRange<0x00, 0x7F>>(s, at) {
         Some(0) => run_end::<InRange<0x00, 0x7F>>(s, skip_many(s, at + LANES)),
         Some(outside) => at + outside.trailing_zeros() as usize,

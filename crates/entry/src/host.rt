@@ -85,7 +85,7 @@ fn tokenize_with<const BYTES: usize>(
     limits: &Limits,
 ) -> u32
     requires sixteen { length answer.old ≡ 16 }
-    requires on_stack { BYTES ≤ 8192 }
+    requires on_stack { BYTES ≤ 9223372036854775807 }
     ensures { seen result records.new answer.new ≡ hostFor limits.now script.now records.old answer.old }
 {
     let mut scratch = [0u8; BYTES];

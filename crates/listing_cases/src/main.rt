@@ -48,6 +48,7 @@ fn case_end(list: &[u8], at: usize) -> usize
 
 // Puts the text of the case that starts at a place, after `earlier` others, behind a text.
 #[tactic(auto, unfolding(crate::specs::Cases::caseOf, crate::specs::Cases::caseScript))]
+#[inline(never)] // the room for the records lies in its frame, which a list with no case does not need
 fn put_case(text: &mut Vec<u8>, list: &[u8], at: usize, earlier: u64) -> Result<(), AllocError>
     requires in_bounds { at + 5 ≤ length list.now }
     requires place { at ≡ casePlace list.now earlier }

@@ -31,6 +31,9 @@ const HEAD_BYTES: usize = 28;
 // The most bytes that a case lends: no contact needs more.
 const ROOM_BYTES: usize = 10744;
 
+// What lent bytes hold that no call touched, in read-only memory, so that no case makes them anew to compare with them.
+static FRESH: [u8; ROOM_BYTES] = [UNTOUCHED; ROOM_BYTES];
+
 #[tactic(auto, unfolding(cases::specs::Cases::untouched))]
 fn untouched_space() -> [u8; ROOM_BYTES]
     ensures value { result ≡ untouched mostRoom }
@@ -45,9 +48,7 @@ fn holds_records(lent: &[u8], records: &[u8]) -> bool
     ensures { IsTrue result ↔ (lent.now ≡ recordsIn records.now (length lent.now)) }
 {
     let bytes = records.len();
-    bytes <= lent.len()
-        && &lent[..bytes] == records
-        && lent[bytes..] == untouched_space()[..lent.len() - bytes]
+    bytes <= lent.len() && &lent[..bytes] == records && lent[bytes..] == FRESH[..lent.len() - bytes]
 }
 
 // How many record bytes the case at a place lists.

@@ -73,6 +73,7 @@ fn kind_for(number: u16, values: u64) -> Option<TokenKind>
 
 // The kind of a record, where there is one of its number and length.
 #[tactic(auto, using(crate::proofs::record::Laws::no_kind), unfolding(crate::specs::code::Record::kindOf, crate::specs::code::Record::kindIf, crate::specs::code::Record::lengthIf, crate::specs::computed::Roll::isKind))]
+#[inline(always)] // so that a call that reads stored records has one frame
 fn kind_of(held: Held) -> Option<TokenKind>
     ensures { result ≡ kindOf held }
 {
@@ -118,6 +119,7 @@ fn eof_followed(held: Held, left: usize) -> bool
 
 /// The record at a cursor: 22, 23 and 24 in their order, else its token.
 #[tactic(auto, using(crate::proofs::record::Laws::held_left), unfolding(crate::specs::computed::Roll::readAt, crate::specs::computed::Roll::stepHeld, crate::specs::computed::Roll::tokenOf, crate::specs::code::Record::kindOf))]
+#[inline(always)] // so that a call that reads stored records has one frame
 pub fn read_token(roll: &[u8], c: RollCursor) -> Result<Yielded, Refused>
     ensures value { stepOf result ≡ readAt roll.now c.at c.previous }
     ensures cursor { IfOk result (λ y. y.next.previous ≡ y.end) }

@@ -1,4 +1,4 @@
--- What the code's own functions answer, module by module. Nothing that states the rules cites it.
+-- What the code's own functions answer, module by module. Nothing that states the rules cites it, but for the numbers 1 to 16 of `Refusal`.
 pub mod Loops
 pub mod Refusal
 pub mod Cursor

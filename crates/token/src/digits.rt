@@ -15,6 +15,7 @@ use crate::refusal::Refusal;
 use chars::runs::{OneOf, run_end};
 
 /// The limits of numbers.
+#[derive(Clone, Copy, Debug, PartialEq, Eq)]
 pub struct Value;
 
 impl Value {

@@ -123,6 +123,7 @@ fn read_values(bytes: &[u8], at: usize, size: u64) -> u64
 /// Every record is read here. Every byte is allowed: past the end a byte counts as 0. The second clause: what is stored is read back, and what is
 /// read is stored again.
 #[tactic(auto, using(crate::proofs::form::ReadBack::reads), unfolding(crate::specs::code::Form::heldAt))]
+#[inline(always)] // so that a call that reads stored records has one frame
 pub fn read_record(bytes: &[u8], at: usize) -> Held
     requires { at + mostLength ≤ 18446744073709551615 }
     ensures value { result ≡ heldAt bytes.now at }

@@ -7,7 +7,6 @@ ghost use Rattle.token.specs.computed.Answer.{close};
 ghost use Rattle.token.specs.code.Gap.{closedOf, fourOpen, openings};
 
 use crate::cursor::{Cursor, byte_at, two_at};
-use crate::names::opens_with;
 use chars::runs::{InRange, NoneOf, run_end};
 
 // Does an LF or a CR LF stand at a place? Most bytes are above both.
@@ -75,8 +74,12 @@ fn first_mark(s: &[u8], at: usize) -> Nest
     ensures depth_in { result.depth ≤ result.at }
     ensures same { close result.depth 0 (from s.now result.at) ≡ close 0 0 (from s.now at) }
 {
-    if opens_with(byte_at(s, at)) {
+    let b = byte_at(s, at);
+    if b == b'/' {
         return pass_openings(s, at);
+    }
+    if b == b'*' {
+        return Nest { at, depth: 0 };
     }
     Nest {
         at: run_end::<NoneOf<b'*', b'/', b'*', b'/'>>(s, at),

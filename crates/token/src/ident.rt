@@ -18,7 +18,7 @@ use crate::byte_class::Class;
 use crate::cursor::{Cursor, byte_at};
 use crate::keyword::{run_number, word_number};
 use crate::kinds::{Kw, TokenKind, keyword_of};
-use crate::names::{Here, ends_low, id_run_end, opens_with, word_end};
+use crate::names::{Here, ends_low, id_run_end, opens_with, word_on};
 use crate::piece::Piece;
 use crate::refusal::{Refusal, Refused};
 use crate::string::lex_prefixed_string;
@@ -186,7 +186,7 @@ pub fn lex_ident(s: &[u8], c: Cursor, class: Class, next: Cursor) -> Piece
     requires next_same { from s.now next.at ≡ drop 1 (from s.now c.at) }
     ensures { result ≡ pieceOf (length s.now) (scanIdent (length s.now) (from s.now c.at)) }
 {
-    let end = name_end(s, c.at, word_end(s, next.at));
+    let end = name_end(s, c.at, word_on(s, next.at));
     let word = word_of(s, class, c.at, end.at);
     match word {
         Some(k) => Ok((TokenKind::Kw(k), end)),

@@ -1,5 +1,6 @@
 // Words and runs of operator signs: byte by byte while they are ASCII, since few have the sixteen that `chars::runs` looks at together, and past it by
-// one look at each character, or the width of each sign. Each is told by a place and the class of the byte there.
+// one look at each character, or the width of each sign; only underscores in names that `word_on` reads, where two stand side by side, are passed
+// together. Each is told by a place and the class of the byte there.
 ghost use Rattle.std.specs.Prelude.{◌≡◌, ◌≤◌, ◌<◌, length};
 ghost use Rattle.chars.specs.paper.Text.{from, place, idChar};
 ghost use Rattle.chars.specs.computed.Runs.{afterRun};
@@ -9,7 +10,9 @@ ghost use Rattle.token.specs.code.Names.{hereOf, runTo, lowBefore, wordChar, run
 
 use crate::byte_class::Class;
 use crate::cursor::byte_at;
-use chars::text::{look, sign_width};
+use chars::runs;
+use chars::runs::OneOf;
+use chars::text::{is_id_of_two, look, sign_width};
 
 /// A place, and what the byte there is.
 #[derive(Clone, Copy, Debug, PartialEq, Eq)]
@@ -42,20 +45,65 @@ pub fn word_end(s: &[u8], at: usize) -> Here
     here_at(s, i)
 }
 
+// Past the underscores that stand there, sixteen together, where two stand side by side, as in few names; else where it was.
+#[inline(always)]
+fn lows_end(s: &[u8], at: usize) -> usize
+    requires { at < length s.now }
+    ensures within { result ≤ length s.now }
+    ensures same { runTo inWord s.now result ≡ runTo inWord s.now at }
+{
+    if s[at] == b'_' && byte_at(s, at + 1) == b'_' {
+        return runs::run_end::<OneOf<b'_', b'_'>>(s, at + 2);
+    }
+    at
+}
+
+/// The same as `word_end`, for names that go past ASCII or are read alone: mostly nothing of ASCII stands there.
+#[inline(always)]
+pub fn word_on(s: &[u8], at: usize) -> Here
+    requires { at ≤ length s.now }
+    ensures { result ≡ hereOf s.now (runTo inWord s.now at) }
+{
+    let here = here_at(s, at);
+    if !here.class.in_word() {
+        return here;
+    }
+    let next = lows_end(s, at);
+    word_end(s, next)
+}
+
+// Past the id characters of two bytes that stand there. Where one of them stands mostly others follow, and none of these needs a class, or a width to
+// be told.
+#[inline(always)]
+fn letters_end(s: &[u8], at: usize) -> usize
+    requires { at ≤ length s.now }
+    ensures within { result ≤ length s.now }
+    ensures on { at ≤ result }
+    ensures words { afterRun wordChar (from s.now result) ≡ afterRun wordChar (from s.now at) }
+    ensures ids { afterRun idChar (from s.now result) ≡ afterRun idChar (from s.now at) }
+{
+    let mut i = at;
+    while i < s.len() && is_id_of_two(s, i) {
+        i += 2;
+    }
+    i
+}
+
 /// Where all id characters and underscores end that stand there.
 #[inline(always)]
 pub fn wide_word_end(s: &[u8], at: usize) -> Here
     requires { at ≤ length s.now }
     ensures { result ≡ hereOf s.now (place (length s.now) (afterRun wordChar (from s.now at))) }
 {
-    let mut end = word_end(s, at);
-    // A step is a character past ASCII, and the ASCII behind it.
+    let mut end = word_on(s, at);
+    // A step is a character past ASCII, those of two bytes behind it, and the ASCII behind these.
     while end.class == Class::WIDE {
         let here = look(s, end.at);
         if !here.classes.id_char {
             return end;
         }
-        end = word_end(s, end.at + here.width);
+        let next = letters_end(s, end.at + here.width);
+        end = word_on(s, next);
     }
     end
 }
@@ -75,7 +123,7 @@ pub fn id_run_end(s: &[u8], at: usize) -> usize
             if !here.classes.id_char {
                 return i;
             }
-            i += here.width;
+            i = letters_end(s, i + here.width);
         } else if class.in_word() {
             if s[i] == b'_' {
                 return i;

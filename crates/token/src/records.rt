@@ -2,7 +2,7 @@
 ghost use Rattle.std.specs.Prelude.{◌≡◌, ◌≤◌, length, IfOk, IfErr};
 ghost use Rattle.std.proofs.lemmas.List.Edits.{sets};
 ghost use Rattle.token.specs.computed.Answer.{answer, refused};
-ghost use Rattle.token.specs.paper.Records.{mostBytes, records};
+ghost use Rattle.token.specs.paper.Records.{mostBytes, recordBytes, records};
 ghost use Rattle.token.specs.code.Records.{measuredOf, Needs, Held, Fits, begun, storedFrom, tokensIn};
 ghost use Rattle.token.specs.code.Refusal.{refusalNumber};
 
@@ -34,14 +34,13 @@ pub fn measure(scratch: &mut [u8], s: &[u8]) -> Result<Need, Refused>
     walk_script(scratch, s)
 }
 
-/// The records of a script that has tokens, from the buffer's start on: copied, where `scratch` has them, else by another walk. `need` and what
-/// `scratch` holds are as `measure` left them.
-#[tactic(auto, using(crate::proofs::records::Told::told))]
+/// The records of a script that has tokens, from the buffer's start on: copied, where `scratch` has them, else by another walk. `need.bytes` and what
+/// `scratch` holds are as `measure` left them; of `need` nothing else is asked.
 pub fn write(out: &mut [u8], s: &[u8], scratch: &[u8], need: Need)
     requires within { length s.now ≤ mostBytes }
-    requires needs { Needs (answer s.now) need }
+    requires fits { Fits (answer s.now) (length out.old) }
+    requires bytes { need.bytes ≡ recordBytes (tokensIn (answer s.now)) }
     requires held { Held (answer s.now) need scratch.now }
-    requires room { need.bytes ≤ length out.old }
     ensures { out.new ≡ sets out.old 0 (records (tokensIn (answer s.now))) }
 {
     if need.bytes <= scratch.len() {

@@ -73,6 +73,10 @@ pub fn skip_ordinary(s: &[u8], c: Cursor) -> Cursor
     if !Class::at(s, c.at).is_ordinary() {
         return c;
     }
+    // The next item is often near.
+    if !Class::at(s, c.at + 1).is_ordinary() {
+        return Cursor { at: c.at + 1 };
+    }
     Cursor {
         at: run_end::<NoneOf<b'\n', b'"', b'$', b'\\'>>(s, c.at),
     }

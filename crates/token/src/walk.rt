@@ -17,7 +17,7 @@ use crate::counts::{Counts, Need};
 use crate::cursor::{Cursor, byte_at, skip_more};
 use crate::digits::{digit_value, lex_number};
 use crate::form::{put_head_if, put_if, put_record};
-use crate::ident::{consume_backtick, lex_ident, lex_op_run};
+use crate::ident::{consume_backtick, consume_op_run, lex_ident, lex_op_run};
 use crate::keyword::{run_number, word_number};
 use crate::kinds::{Form, TokenKind};
 use crate::names::{
@@ -223,7 +223,7 @@ fn behind_block(s: &[u8], x: Stand, end: usize) -> Stand
     }
 }
 
-// A block comment.
+// A block comment, and where a line end of its gap came those that follow it, each behind blanks at most.
 fn block_step(s: &[u8], x: Stand) -> Result<Stand, Refused>
     requires short { length s.now ≤ mostBytes }
     requires good { Good s.now x }
@@ -240,7 +240,17 @@ fn block_step(s: &[u8], x: Stand) -> Result<Stand, Refused>
         return Ok(behind_comment(s, x, end.at));
     }
     let c = end.skip_blanks(s);
-    Ok(behind_block(s, x, c.at))
+    let mut y = behind_block(s, x, c.at);
+    // A step is one more. Behind the first the cut is set, and then each would go through all of `walk`.
+    'more: while y.class == Class::SLASH && byte_at(s, y.at + 1) == b'*' {
+        let closed = Cursor { at: y.at }.consume_block_comment(s);
+        let Some(end) = closed else {
+            return Err(Refusal::OpenComment.at(y.at));
+        };
+        let c = end.skip_blanks(s);
+        y = behind_block(s, y, c.at);
+    }
+    Ok(y)
 }
 
 // A comment.
@@ -655,7 +665,8 @@ fn run_goes_on(s: &[u8], end: Here) -> bool
 }
 
 // As far as blanks, signs, words, line ends, runs of operator signs and numbers of ASCII stand there of which no byte behind them makes more, as most
-// pieces are. Err, where a character past ASCII follows the word or the run that stands there, and may make more of it.
+// pieces are; a run that a `/` goes on with is read to its end, past ASCII too. Err, where a character past ASCII follows the word or the run that
+// stands there, and may make more of it.
 fn walk_words(out: &mut [u8], s: &[u8], counts: &mut Counts, start: Stand) -> Result<Stand, Stand>
     requires short { length s.now ≤ mostBytes }
     requires good { Good s.now start }
@@ -691,10 +702,15 @@ fn walk_words(out: &mut [u8], s: &[u8], counts: &mut Counts, start: Stand) -> Re
                 if end.class == Class::WIDE {
                     return Err(x);
                 }
-                return Ok(x);
+                // Stored here, and not joined with `end`: two places that join would go through memory.
+                let c = consume_op_run(s, Cursor { at: end.at + 1 });
+                let past = here_at(s, c.at);
+                put_run_if(out, s, x, past);
+                x = behind(x, past, HEAD);
+            } else {
+                put_run_if(out, s, x, end);
+                x = behind(x, end, HEAD);
             }
-            put_run_if(out, s, x, end);
-            x = behind(x, end, HEAD);
         } else if x.class == Class::CR {
             let Ok(y) = return_step(out, s, counts, x) else {
                 return Ok(x);

@@ -84,6 +84,7 @@ code_laws = record {
   every-sub = carries.every-sub;
   carry-span = carries.carry-span;
   agree = carries.agree;
+  mask-set = carries.mask-set;
   hits = carries.hits;
   misses = carries.misses;
   between-in = ranges.between-in;

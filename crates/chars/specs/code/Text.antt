@@ -1,5 +1,5 @@
 -- What `text` answers.
-use Rattle.std.specs.Prelude.{ℕ, suc, ◌+◌, ◌-◌, ◌*◌, ◌/◌, max, Bool, not, ◌&&◌, ◌==◌, Option, Some, None, if◌then◌else◌, nat_lt, List, length, drop, slice_index}
+use Rattle.std.specs.Prelude.{ℕ, suc, ◌+◌, ◌-◌, ◌*◌, ◌/◌, max, Bool, false, not, ◌&&◌, ◌==◌, Option, Some, None, if◌then◌else◌, nat_lt, List, length, drop, slice_index}
 use Rattle.chars.specs.paper.Quoted.{between}
 use Rattle.chars.specs.paper.Utf8.{width, codeOf}
 use Rattle.chars.specs.code.Utf8.{decoded}
@@ -37,3 +37,8 @@ formOfThree s i =
 abbrev pub signWidth : Option Decoded → Option ℕ
 signWidth None = None
 signWidth (Some d) = if d.classes.op_sign then Some d.width else None
+
+-- is the character an id character of two bytes?
+abbrev pub idOfTwo : Option Decoded → Bool
+idOfTwo None = false
+idOfTwo (Some d) = d.width == 2 && d.classes.id_char

@@ -2,6 +2,7 @@
 use Rattle.std.specs.Prelude.{ℕ, zero, suc, ◌+◌, ◌≤◌, ◌<◌, ◌≡◌, Bool, true, IsTrue, false, IsFalse, not, ◌&&◌, List, [], ◌∷◌}
 use types.Run.{OneOf}
 use Rattle.chars.specs.paper.Quoted.{between, member}
+use Rattle.chars.specs.code.Classes.{bitIn}
 
 -- does the test hold at every code of the list?
 abbrev pub every : (ℕ → Bool) → List ℕ → Bool
@@ -30,6 +31,9 @@ pub record CodeLaws : Type 0 where
   pub carry-span : (f : ℕ → Bool) (a n c : ℕ) → IsTrue (every f (span a n)) → a ≤ c → c < a + n → IsTrue (f c)
   -- two tests that are found alike say the same
   pub agree : (x y : Bool) → IsTrue (alike x y) → x ≡ y
+  -- a set of ASCII characters as two masks: computed at each code of ASCII, and empty past it
+  pub mask-set : (low high : ℕ) (p : ℕ → Bool) → IsTrue (every (λ x. alike (bitIn low high x) (p x)) (span 0 128))
+      → ((c : ℕ) → 0x80 ≤ c → IsFalse (p c)) → (c : ℕ) → bitIn low high c ≡ p c
   -- one of the keys of a match's arm, or none of them
   pub hits : (ks : List ℕ) (x : ℕ) → OneOf ks x → IsTrue (member ks x)
   pub misses : (ks : List ℕ) (x : ℕ) → (OneOf ks x → ⊥) → IsFalse (member ks x)

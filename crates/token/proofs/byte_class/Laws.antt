@@ -4,7 +4,7 @@ use Rattle.token.proofs.cursor.Words.{ℕ, zero, suc, ◌+◌, ◌*◌, ◌≤�
 use Rattle.chars.specs.paper.Classes.{isIdStart, isIdChar, isOpSign, asciiSigns}
 use Rattle.chars.specs.promises.Classes.{lowId, lowStart}
 use Rattle.chars.specs.paper.Quoted.{member}
-use Rattle.token.specs.code.ByteClass.{otherClass, startClass, dollarClass, signClass, backslashClass, signKeywordClass, isOrdinary}
+use Rattle.token.specs.code.ByteClass.{otherClass, startClass, dollarClass, signClass, backslashClass, signKeywordClass, isOrdinary, inOperator}
 open code_laws use {agree, carry, carry-span, no-member, every-sub}
 open class-laws use {byte-id, byte-sign, byte-start}
 
@@ -137,6 +137,11 @@ module _ (b : ℕ) where
   class-other =
       says (λ e. eqb e otherClass) (λ b. ltb b 0x80 && not (oneOf " \t\n\r()[]{},;.0123456789`\"'" b || (lowStart b || oneOf asciiSigns b))) refl
       (low (λ b. not (oneOf " \t\n\r()[]{},;.0123456789`\"'" b || (lowStart b || oneOf asciiSigns b)))) b
+
+  -- what goes on with a run is past ASCII or an operator sign
+  pub class-operator : inOperator (classOf b) && not (eqb (classOf b) wideClass) && not (isSign (classOf b)) ≡ false
+  unfolding classOf signNumber signOf
+  class-operator = says (λ e. inOperator e && not (eqb e wideClass) && not (isSign e)) (λ b. false) refl (λ b h. refl) b
 
   -- no operator sign begins a word
   pub class-apart : inRun (classOf b) && startsWord (classOf b) ≡ false

@@ -1,7 +1,8 @@
 -- Words and runs of operator signs with their characters past ASCII: a run of characters, of which the loops pass those of ASCII by their classes and the
 -- others by one look at each, or by the width of a sign.
-use Rattle.token.proofs.lexer.Words.{◌≡◌, refl, sym, ◌∙◌, ap, ap₂, subst, ℕ, ◌+◌, ◌≤◌, ◌<◌, Bool, true, false, not, ◌&&◌, ◌||◌, List, [], ◌∷◌, Some, None, length, get_or, eqb, leb-true, ne_eqb, lt-ltb, arith, and-true, or-false, clash, or-neither, under-no-id, isIdChar, isOpSign, Char, Text, from, place, idChar, afterRun, text-laws, class-laws, opSign, classAt, otherClass, wideClass, inWord, inRun, hereOf, runTo, wordChar, runChar, sign-byte, nul-no-sign, Here}
-use Rattle.chars.specs.code.Text.{stepAt, signWidth}
+use Rattle.token.proofs.lexer.Words.{◌≡◌, refl, sym, ◌∙◌, ap, ap₂, subst, ℕ, ◌+◌, ◌≤◌, ◌<◌, Bool, true, false, not, ◌&&◌, ◌||◌, List, [], ◌∷◌, Some, None, length, get_or, eqb, leb-true, ne_eqb, lt-ltb, arith, and-true, or-false, clash, or-neither, under-no-id, isIdChar, isOpSign, Char, Text, from, place, idChar, afterRun, text-laws, class-laws, opSign, classAt, otherClass, wideClass, inWord, inRun, hereOf, runTo, wordChar, runChar, sign-byte, nul-no-sign, Here, isAny, and-both, eqb-true}
+use Rattle.std.proofs.Common.{Option}
+use Rattle.chars.specs.code.Text.{stepAt, signWidth, idOfTwo}
 use Rattle.chars.specs.declared.classes.Classes.{Classes}
 use Rattle.chars.specs.declared.utf8.Decoded.{Decoded}
 use Rattle.token.proofs.byte_class.Laws.{class-word, class-run, class-wide}
@@ -101,14 +102,18 @@ module _ {p : Text → Bool} {q : ℕ → Bool} {f : Classes → Bool} (k : Kind
       pub wide-done : f d.classes ≡ false → i ≡ place (length s) (afterRun p (from s at))
       wide-done n = ended (k.wide s i d w e ∙ n)
 
-      -- or is passed, with the ASCII behind it
-      pub wide-passed : f d.classes ≡ true → (i < i + d.width) × (i + d.width ≤ length s) × Passed at (runTo q s (i + d.width))
-      wide-passed y =
+      -- or is passed
+      pub wide-next : f d.classes ≡ true → (i < i + d.width) × (i + d.width ≤ length s) × (afterRun p (from s (i + d.width)) ≡ afterRun p (from s at))
+      wide-next y =
           let n = (seen s i d e).here in
-          let r : afterRun p (from s (i + d.width)) ≡ afterRun p (from s at) =
-          sym (ap (afterRun p) n.text ∙ run-on p _ (from s (i + d.width)) (ap p (sym n.text) ∙ k.wide s i d w e ∙ y)) ∙ g.run in
-          let a = ascii-passed (i + d.width) n.within in
-          (n.on, n.within, record { within = a.within; on = omega (arith, g.on, n.on, a.on); run = a.run ∙ r; stops = a.stops })
+          (n.on, n.within, sym (ap (afterRun p) n.text ∙ run-on p _ (from s (i + d.width)) (ap p (sym n.text) ∙ k.wide s i d w e ∙ y)) ∙ g.run)
+
+      -- with others up to j, and the ASCII behind them
+      pub wide-passed : f d.classes ≡ true → (j : ℕ) → i + d.width ≤ j → j ≤ length s → afterRun p (from s j) ≡ afterRun p (from s (i + d.width)) → Passed at (runTo q s j)
+      wide-passed y j o h r =
+          let n = wide-next y in
+          let a = ascii-passed j h in
+          record { within = a.within; on = omega (arith, g.on, n.0, o, a.on); run = a.run ∙ r ∙ n.2; stops = a.stops }
 
   -- ---- a place with its class, as the loops keep it
 
@@ -137,14 +142,45 @@ module _ {p : Text → Bool} {q : ℕ → Bool} {f : Classes → Bool} (k : Kind
         kept-wide n = g.0 ∙ ap (hereOf s) (wide-done g.1 w d z n)
 
         pub kept-next : f d.classes ≡ true → (e.at < e.at + d.width) × (e.at + d.width ≤ length s)
-        kept-next y = let a = wide-passed g.1 w d z y in (a.0, a.1)
+        kept-next y = let a = wide-next g.1 w d z y in (a.0, a.1)
+
+        pub kept-far : f d.classes ≡ true → (j : ℕ) → e.at + d.width ≤ j → j ≤ length s → afterRun p (from s j) ≡ afterRun p (from s (e.at + d.width))
+            → (y : Here) → y ≡ hereOf s (runTo q s j) → Kept at y × (e.at < y.at) × (y.at ≤ length s)
+        kept-far n j l h r y x =
+            let a = wide-next g.1 w d z n in
+            let b = wide-passed g.1 w d z n j l h r in
+            let v : y.at ≡ runTo q s j = ap (λ (x : Here). x.at) x in
+            let o = ascii-passed j h in
+            ((x ∙ ap (hereOf s) (sym v), subst (Passed at) (sym v) b), omega (arith, a.0, l, o.on, v), omega (arith, o.within, v))
 
         pub kept-on : f d.classes ≡ true → (y : Here) → y ≡ hereOf s (runTo q s (e.at + d.width)) → Kept at y × (e.at < y.at) × (y.at ≤ length s)
-        kept-on n y x =
-            let a = wide-passed g.1 w d z n in
-            let v : y.at ≡ runTo q s (e.at + d.width) = ap (λ (x : Here). x.at) x in
-            let o = ascii-passed (e.at + d.width) a.1 in
-            ((x ∙ ap (hereOf s) (sym v), subst (Passed at) (sym v) a.2), omega (arith, a.0, o.on, v), omega (arith, o.within, v))
+        kept-on n = kept-far n (e.at + d.width) (omega arith) (wide-next g.1 w d z n).1 refl
+
+-- ---- id characters of two bytes
+
+-- both runs go on from i as from the place at
+pub record Letters (s : List ℕ) (at i : ℕ) : Type 0 where
+  pub within : i ≤ length s
+  pub on : at ≤ i
+  pub words : afterRun wordChar (from s i) ≡ afterRun wordChar (from s at)
+  pub ids : afterRun idChar (from s i) ≡ afterRun idChar (from s at)
+
+two-is : (o : Option Decoded) → idOfTwo o ≡ true → (d : Decoded) × (Some d ≡ o) × (d.width ≡ 2) × (d.classes.id_char ≡ true)
+two-is None e = clash e
+two-is (Some d) e = let k = and-both (eqb d.width 2) d.classes.id_char e in (d, refl, eqb-true d.width 2 k.0, k.1)
+
+pub letters-on : (s : List ℕ) (at i : ℕ) → Letters s at i → idOfTwo (stepAt s i) ≡ true → Letters s at (i + 2)
+letters-on s at i g e =
+    let t = two-is (stepAt s i) e in
+    let d = t.0 in
+    let n = seen s i d t.1 in
+    let h = n.here in
+    let a : idChar (from s i) ≡ true = ap idChar h.text ∙ sym (ap (λ (z : Classes). z.id_char) n.classes) ∙ t.3 in
+    let b : wordChar (from s i) ≡ true = ap (λ z. z || isAny "_" (from s i)) a in
+    let r : (p : Text → Bool) → p (from s i) ≡ true → afterRun p (from s (i + d.width)) ≡ afterRun p (from s i) =
+    λ p y. sym (ap (afterRun p) h.text ∙ run-on p _ (from s (i + d.width)) (ap p (sym h.text) ∙ y)) in
+    subst (λ k. Letters s at (i + k)) t.2
+    (record { within = h.within; on = let o = h.on in omega (arith, g.on, o); words = r wordChar b ∙ g.words; ids = r idChar a ∙ g.ids })
 
 -- ---- the loop over signs, which asks for the width of one
 

@@ -1,5 +1,5 @@
 -- What measuring promises of its answer: what records are needed, why there are none, and what the buffer holds.
-use Rattle.token.proofs.cursor.Words.{ℕ, ◌+◌, ◌≤◌, ◌≡◌, refl, sym, ◌∙◌, ap, List, [], ◌∷◌, length, take, take_at, arith, Result, Ok, Err, IfOk, IfErr, Token, recordLength, recordOf, records, recordBytes, Answer, refused, answer, storedIf, stores, measuredOf, Needs, Held, Fits, tokensIn, tokensOn, trailFrom, begun, storedFrom, refusalNumber, Refused, Need, sets-front}
+use Rattle.token.proofs.cursor.Words.{ℕ, ◌+◌, ◌≤◌, ◌≡◌, refl, sym, ◌∙◌, ap, List, [], ◌∷◌, length, take, take_at, arith, Result, Ok, Err, IfOk, IfErr, Token, recordLength, recordOf, records, recordBytes, Answer, refused, answer, storedIf, stores, measuredOf, Needs, Held, tokensIn, tokensOn, trailFrom, begun, storedFrom, refusalNumber, Refused, Need, sets-front}
 use Rattle.token.proofs.form.Stores.{stored-length}
 use Rattle.token.proofs.records.Measures.{begun-fits}
 use Rattle.token.proofs.theorems.Alone.{records-length}
@@ -41,10 +41,4 @@ module _ (s : List ℕ) (r : Result Need Refused) (e : r ≡ measuredOf (answer 
   pub told-held : (out next : List ℕ) → next ≡ storedFrom s begun out → IfOk r (λ n. Held (answer s) n next)
   told-held out next k = let n = λ (m : Need) (q : Ok m ≡ measuredOf (answer s)). held-of s out m (needs-of (answer s) m q) in rw k (grind arith)
 
--- what is needed fits into a buffer that has room
-pub needs-fit : (w : Answer) (n : Need) (room : ℕ) → Needs w n → n.bytes ≤ room → Fits w room
-needs-fit w n room h l =
-    let b : n.bytes ≡ recordBytes (tokensIn w) = ap (λ (k : Need). k.bytes) h.need in
-    record { is-tokenized = h.is-tokenized; fits = omega (arith, b, l) }
-
-pub ruleset told = (told-needs, told-refusal, needs-fit)
+pub ruleset told = (told-needs, told-refusal)

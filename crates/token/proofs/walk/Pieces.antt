@@ -3,7 +3,7 @@ use Rattle.token.proofs.lexer.Words.{ℕ, ◌+◌, ◌*◌, ◌≤◌, ◌<◌, 
 use Rattle.words.specs.Words.{le4, le8}
 use Rattle.token.specs.declared.kinds.TokenKind.TheVariants as tk
 use Rattle.token.proofs.names.Ascii.{sign-bare, sign-found, bare-length, bare-record, sign-low, sign-number}
-use Rattle.token.proofs.byte_class.Laws.{class-signs, class-blank, class-lf, class-cr, class-number}
+use Rattle.token.proofs.byte_class.Laws.{class-signs, class-blank, class-lf, class-cr, class-slash, class-number}
 use Rattle.token.proofs.cursor.Blanks.{one-blank, two-blanks}
 use Rattle.token.proofs.cursor.Bytes.{inside, any-byte}
 use Rattle.token.proofs.form.Laws.{form-record, length-by}
@@ -16,7 +16,12 @@ use Rattle.token.proofs.lexer.Laws.{lone-scan, piece-stuck}
 use Rattle.token.proofs.lexer.Found.{gap-strict}
 use Rattle.token.proofs.lexer.Trails.{trail-gap, trail-blanks}
 use Rattle.token.proofs.lexer.Turns.{Turn, turn-token, or-false, settled}
-use Rattle.token.proofs.walk.Laws.{step-token, step-line, step-same, step-comment, refuses, refuses-here}
+use Rattle.token.proofs.walk.Laws.{step-token, step-line, step-same, step-comment, steps-to, stands-at, refuses, refuses-here}
+use Rattle.token.proofs.records.Reach.{reach-start, reach-same}
+use Rattle.token.specs.code.ByteClass.{slashClass}
+use Rattle.token.specs.code.Records.{State, measuredAfter, answerOf, tokensOn, stores, countingAll}
+use Rattle.token.specs.code.Walk.{needAt, stateAt}
+use Rattle.token.specs.paper.Records.{exactNeed}
 open text-laws use {run-done, at-char, place-from}
 
 -- ---- gap pieces
@@ -65,6 +70,35 @@ module _ {s : List ℕ} {x : Stand} (g : Good s x) {c : Counts} (u : Counted x c
       let t : Token = record { kind = k; start = x.at; end = e; cut = x.cut } in
       subst (λ d. Steps s x c out (tokenBehind x (hereOf s e) headLength) d next) (bare-counts c k v)
       (step-token g u (found-here s x e k h f) headLength (bare-length k v) out next (q ∙ ap (storedIf out x.bytes) (sym (bare-record t v))))
+
+-- ---- block comments one after another
+
+-- From x the walk comes to y past pieces of a gap with no line end among them: what it comes to from y is what it comes to from x.
+pub record Past (s : List ℕ) (x y : Stand) : Type 0 where
+  pub good : Good s y
+  pub on : x.at < y.at
+  pub bytes : y.bytes ≡ x.bytes
+  pub line : y.line ≡ x.line
+  pub walked : trail (length s) 0 (gapAt y) (from s y.at) ≡ trail (length s) 0 (gapAt x) (from s x.at)
+
+module _ {s : List ℕ} {x y : Stand} (p : Past s x y) where
+  pub past-trans : {z : Stand} → Past s y z → Past s x z
+  past-trans q =
+      let o = p.on in
+      let t = q.on in
+      record { good = q.good; on = omega (arith, o, t); bytes = q.bytes ∙ p.bytes; line = q.line ∙ p.line; walked = q.walked ∙ p.walked }
+
+  pub past-waits : eqb x.line x.bytes ≡ true → eqb y.line y.bytes ≡ true
+  past-waits e = ap₂ eqb p.line p.bytes ∙ e
+
+  -- a refusal there
+  pub past-refuses : {c : Counts} {out : List ℕ} {e : Refused} → Refuses s y c out e → Refuses s x c out e
+  past-refuses {c} {out} r =
+      record {
+        measured = sym (ap₂ (λ b w. measuredAfter (needAt b c) (answerOf w)) p.bytes p.walked) ∙ r.measured;
+        stored = sym (ap₂ (λ b w. stores out b (tokensOn w)) p.bytes p.walked) ∙ r.stored;
+        counted = sym (ap (λ w. countingAll c (tokensOn w)) p.walked) ∙ r.counted;
+      }
 
 -- ---- by the class
 
@@ -120,20 +154,39 @@ module _ {s : List ℕ} {x : Stand} (g : Good s x) where
       step-comment g u e x.cut (omega arith) f.within (sym (gap-trail s GapKind.blockComment x.at e (gapAt x) f ∙ ap (λ z. trail (length s) 0 z (from s e)) y)) out
 
   -- a block comment and the blanks behind it, where one came: what follows decides on the cut
-  pub step-block-cut : {c : Counts} → Counted x c → (e k : ℕ) → GapTo s GapKind.blockComment x.at e → eqb x.line x.bytes ≡ true → e ≤ k → k ≤ length s → from s k ≡ afterRun (isAny " \t") (from s e) → (out : List ℕ)
-      → Steps s x c out (blockBehind s x k) c out
-  step-block-cut {c} u e k f n l w b out =
-      let o = f.on in
+  block-walked : (e k : ℕ) → GapTo s GapKind.blockComment x.at e → eqb x.line x.bytes ≡ true → e ≤ k → k ≤ length s → from s k ≡ afterRun (isAny " \t") (from s e)
+      → trail (length s) 0 (gapOf (eqb x.line x.bytes) true (x.cut || not (inLineEnd (classAt s k)))) (from s k) ≡ trail (length s) 0 (gapAt x) (from s x.at)
+  block-walked e k f n l w b =
       let v = x.cut || not (isAny "\n\r" (from s k)) in
       let y : push GapKind.blockComment (gapAt x) ≡ record { newline = true; comment = true; pending = true; cut = x.cut } = rw (n, or-false x.cut) in
       let z = settled (length s) true true x.cut (from s k) (ap (isAny " \t") b ∙ run-done (isAny " \t") refl (from s e)) in
       let p : gapOf true true v ≡ gapOf (eqb x.line x.bytes) true v = ap (λ d. gapOf d true v) (sym n) in
-      subst (λ d. Steps s x c out (record { at = k; class = record { number = classAt s k }; bytes = x.bytes; line = x.line; mark = x.bytes; cut = x.cut || not d }) c out)
-      (line-class s k)
-      (step-comment g u k v (omega arith) w
+      subst (λ d. trail (length s) 0 (gapOf (eqb x.line x.bytes) true (x.cut || not d)) (from s k) ≡ trail (length s) 0 (gapAt x) (from s x.at)) (line-class s k)
       (sym (gap-trail s GapKind.blockComment x.at e (gapAt x) f ∙ ap (λ d. trail (length s) 0 d (from s e)) y
       ∙ sym (ap (trail (length s) 0 (record { newline = true; comment = true; pending = true; cut = x.cut })) b ∙ trail-blanks (length s) _ (from s e))
-      ∙ z ∙ ap (λ d. trail (length s) 0 d (from s k)) p)) out)
+      ∙ z ∙ ap (λ d. trail (length s) 0 d (from s k)) p))
+
+  pub past-block : (e k : ℕ) → GapTo s GapKind.blockComment x.at e → eqb x.line x.bytes ≡ true → e ≤ k → k ≤ length s → from s k ≡ afterRun (isAny " \t") (from s e) → Past s x (blockBehind s x k)
+  past-block e k f n l w b =
+      let o = f.on in
+      let z = g.size in
+      let cut = x.cut || not (inLineEnd (classAt s k)) in
+      record {
+        good = record { within = w; size = omega (arith, o, z); class = refl; line = g.line; mark = omega arith };
+        on = omega (arith, o);
+        bytes = refl;
+        line = refl;
+        walked = ap (λ m. trail (length s) 0 (gapOf (eqb x.line x.bytes) m cut) (from s k)) (eq-eqb x.bytes x.bytes refl) ∙ block-walked e k f n l w b;
+      }
+
+  pub past-steps : {y : Stand} → Past s x y → (c : Counts) (out : List ℕ) → Counted x c → Steps s x c out y c out
+  past-steps {y} p c out u =
+      let w : State = record { at = y.at; gap = gapAt y; need = needAt x.bytes c } in
+      let o = p.on in
+      let i = p.good in
+      let e : stateAt y c ≡ w = ap (λ b. record { at = y.at; gap = gapAt y; need = needAt b c }) p.bytes in
+      steps-to (reach-same (reach-start (stands-at g u)) y.at (gapAt y) (omega arith) i.within p.walked) y c e i.class
+      (subst (λ b. b ≡ exactNeed (needAt b c).tokens c) (sym p.bytes) u.whole) i.line i.mark (λ z. refl) (λ z. refl)
 
   -- the byte, from a test of its class
   pub by-class : (f : ℕ → Bool) {b : Bool} → f x.class.number ≡ b → f (classAt s x.at) ≡ b
@@ -173,6 +226,12 @@ module _ {s : List ℕ} {x : Stand} (g : Good s x) where
       let h = inside s x.at (omega (arith, z)) in
       let r : isAny "\r" (from s x.at) ≡ true = any-byte "\r" refl s x.at ∙ rw c in
       refuses-here h 1 (lone-scan s x.at r (rw (c, ne_eqb (get_or s (x.at + 1) 0) 0x0A n))) d out
+
+  -- a block comment's opening, by the class of its first byte
+  pub opens-by-class : eqb x.class.number slashClass ≡ true → get_or s (x.at + 1) 0 ≡ 0x2A → opensBlock (from s x.at) ≡ true
+  opens-by-class e n =
+      let z : eqb (get_or s x.at 0) 0x2F ≡ true = sym (or-false _) ∙ sym (class-slash (get_or s x.at 0)) ∙ by-class (λ z. eqb z slashClass) e in
+      opens-block s x.at ∙ rw (z, eq-eqb (get_or s (x.at + 1) 0) 0x2A n)
 
   -- a block comment that is open at the end of script
   pub refuses-open : opensBlock (from s x.at) ≡ true → None ≡ closedOf (length s) (close 0 0 (drop 2 (from s x.at))) → (c : Counts) (out : List ℕ) → Refuses s x c out (record { what = refusal.OpenComment; place = x.at })

@@ -29,18 +29,22 @@ no-free s e m = go (inOperator (classAt s e)) refl m
         sign-same s e true (low-byte _ w) ∙ ap (λ x. x && not (true && (eqb (classAt s e) slashClass && oneOf "*/" (get_or s (e + 1) 0)))) z
 
 -- from the place behind the first sign on
-run-end : (s : List ℕ) (i : ℕ) → inRun (classAt s i) ≡ true → (e : ℕ) → e ≡ runTo inRun s (i + 1) → runGoesOn s e ≡ false
-    → (i < e) × (e ≤ length s) × (from s e ≡ afterRun freeSign (from s i))
-run-end s i r e q m =
+pub run-kept : (s : List ℕ) (i : ℕ) → inRun (classAt s i) ≡ true → (e : ℕ) → e ≡ runTo inRun s (i + 1)
+    → (i < e) × (e ≤ length s) × (afterRun freeSign (from s e) ≡ afterRun freeSign (from s i))
+run-kept s i r e q =
     let a = ascii-on s i true (run-free s i r) in
     let b = pass-within (λ j. inRun (classAt s j)) s inside (i + 1) (omega (arith, a.0)) in
     let p : afterRun freeSign (from s e) ≡ afterRun freeSign (from s i) =
     rw q (pass-keep (λ j. inRun (classAt s j)) s inside (i + 1) (λ j. afterRun freeSign (from s j) ≡ afterRun freeSign (from s i))
     (λ j l f k. (ascii-on s j true (run-free s j f)).1 ∙ k) a.1) in
-    (omega (arith, b.0, q), omega (arith, b.1, q), sym (run-stays freeSign (from s e) (no-free s e m)) ∙ p)
+    (omega (arith, b.0, q), omega (arith, b.1, q), p)
   where
     inside : (j : ℕ) → inRun (classAt s j) ≡ true → j < length s
     inside j f = class-inside s j inRun refl f
+
+run-end : (s : List ℕ) (i : ℕ) → inRun (classAt s i) ≡ true → (e : ℕ) → e ≡ runTo inRun s (i + 1) → runGoesOn s e ≡ false
+    → (i < e) × (e ≤ length s) × (from s e ≡ afterRun freeSign (from s i))
+run-end s i r e q m = let k = run-kept s i r e q in (k.0, k.1, sym (run-stays freeSign (from s e) (no-free s e m)) ∙ k.2)
 
 pub run-here : (s : List ℕ) (j : ℕ) (e : Here) → e ≡ hereOf s j → e ≡ hereOf s e.at
 run-here s j e q = q ∙ ap (hereOf s) (sym (ap (λ (z : Here). z.at) q))

@@ -1,17 +1,20 @@
 -- Words and operators with all their characters, where a walk stands: the step past each.
-use Rattle.token.proofs.lexer.Words.{◌≡◌, refl, sym, ◌∙◌, ap, ℕ, ◌+◌, ◌≤◌, ◌<◌, Bool, true, false, cond, not, ◌||◌, List, Option, none, some, length, drop, eqb, leb-true, le-leb, arith, and-both, from, idStart, isIdStart, isOpSign, place, afterRun, opSign, freeSign, opensComment, quote, kindNumber, wordOf, runOf, values, codesTo, afterIdent, wordOr, Found, scan, classAt, inRun, isSign, keywordClass, signKeywordClass, slashClass, cursorAt, plainForm, byForm, runBefore, numberOr, nameNumber, operatorNumber, hereOf, lowBefore, wordChar, runChar, pieceOf, tokenTo, storedIf, Counted, Counts, Good, headLength, tokenBehind, Steps, LeftTo, Here, Stand, Kw, slash-no-start, by-test}
+use Rattle.token.proofs.lexer.Words.{◌≡◌, refl, sym, ◌∙◌, ap, ap₂, ℕ, ◌+◌, ◌≤◌, ◌<◌, Bool, true, false, cond, not, ◌&&◌, ◌||◌, List, Option, none, some, length, drop, get_or, eqb, eqb-true, leb-true, le-leb, arith, and-both, from, idStart, isIdStart, isOpSign, place, afterRun, opSign, freeSign, opensComment, quote, kindNumber, wordOf, runOf, values, codesTo, afterIdent, wordOr, Found, scan, classAt, inRun, isSign, keywordClass, signKeywordClass, slashClass, wideClass, inOperator, cursorAt, plainForm, byForm, runBefore, numberOr, nameNumber, operatorNumber, hereOf, lowBefore, wordChar, runChar, pieceOf, tokenTo, storedIf, Counted, Counts, Good, headLength, tokenBehind, Steps, LeftTo, Here, Stand, Kw, slash-no-start, by-test, clash, text-laws, asciiSign, runTo}
 use Rattle.token.specs.declared.kinds.TokenKind.TheVariants as tk
 use Rattle.token.proofs.theorems.Dispatch.{clear-head}
-use Rattle.token.specs.code.Walk.{wholeGoesOn, wholeRunGoesOn}
+use Rattle.token.specs.code.Walk.{wholeGoesOn, runGoesOn, wholeRunGoesOn}
 use Rattle.token.proofs.ident.Laws.{left-to, run-left, ident-left, scan-word, not-prefixed, token-at, head-inside, next-later, first_read}
-use Rattle.token.proofs.ident.Signs.{comment-class, kindOr, scan-before, run-none, word-none}
+use Rattle.token.proofs.byte_class.Laws.{class-operator}
+use Rattle.token.proofs.ident.Signs.{ascii-on, sign-here, comment-class, kindOr, scan-before, run-none, word-none}
 use Rattle.token.proofs.lexer.Laws.{word-at, operator-at}
 use Rattle.token.proofs.names.Ascii.{kind-bare, kind-counts}
 use Rattle.token.proofs.names.Whole.{whole-bounds, whole-kept, whole-over, whole-no-quote, signs-bounds, signs-over, signs-no-slash}
 use Rattle.token.proofs.walk.Pieces.{by-class, step-bare}
-use Rattle.token.proofs.names.Laws.{run-clear}
+use Rattle.token.proofs.names.Laws.{here-is, run-clear}
 use Rattle.token.proofs.walk.Starts.{sign-next, ascii-sign, ascii-sign-inside, behind-sign}
 use Rattle.token.proofs.walk.Words.{behind-here}
+use Rattle.token.proofs.walk.Runs.{run-kept}
+open text-laws use {run-done}
 
 -- ---- an identifier or a keyword, which ends at e
 
@@ -162,3 +165,42 @@ run-starts {s} {x} g k =
     let z : isSign x.class.number ≡ true = le-leb slashClass x.class.number (omega arith) in
     let h = ascii-sign-inside g z in
     (ascii-sign g z, run-clear s x.at r, omega arith, behind-sign g z)
+
+-- one that goes on with a `/` behind its first signs, all of ASCII: it ends where no free sign follows
+module _ {s : List ℕ} {x : Stand} (g : Good s x) (k : inRun x.class.number ≡ true) (e : Here) (q : e ≡ hereOf s (runTo inRun s (x.at + 1)))
+    (m : runGoesOn s e.at ≡ true) (n : eqb e.class.number wideClass ≡ false) where
+  slash-sign : asciiSign true s e.at ≡ true
+  slash-sign =
+      let w = and-both (inOperator (classAt s e.at)) _ m in
+      let v : eqb (classAt s e.at) wideClass ≡ false = ap (λ c. eqb c wideClass) (sym (here-is s e _ q).1) ∙ n in
+      let t : isSign (classAt s e.at) ≡ true = by-test (isSign (classAt s e.at)) (λ p. p) (λ p. clash (sym (class-operator (get_or s e.at 0)) ∙ rw (w.0, v, p))) in
+      rw t w.1
+
+  pub slash-within : e.at + 1 ≤ length s
+  slash-within = let a = ascii-on s e.at true slash-sign in omega (arith, a.0)
+
+  module _ (p : ℕ) (l : p ≤ length s) (r : from s p ≡ afterRun freeSign (from s (e.at + 1))) (f : Here) (z : f ≡ hereOf s p) where
+    slash-rest : from s f.at ≡ afterRun freeSign (from s x.at)
+    slash-rest =
+        ap (from s) (here-is s f p z).0 ∙ r ∙ (ascii-on s e.at true slash-sign).1 ∙ (run-kept s x.at (by-class g inRun k) e.at (here-is s e _ q).0).2
+
+    slash-no-slash : opensComment (from s f.at) ≡ false → eqb f.class.number slashClass ≡ false
+    slash-no-slash o =
+        by-test (eqb f.class.number slashClass) (λ p.
+        let v = sign-here s f.at (ap isSign (sym (here-is s f _ z).1 ∙ eqb-true _ slashClass p)) in
+        clash (sym (ap freeSign slash-rest ∙ run-done freeSign refl (from s x.at)) ∙ ap₂ (λ a b. a && not b) v o)) (λ p. p)
+
+    pub slash-signed : Signed s x f
+    slash-signed =
+        let a = slash-within in
+        let b = run-kept s x.at (by-class g inRun k) e.at (here-is s e _ q).0 in
+        let h = here-is s f p z in
+        let i = left-to s (e.at + 1) p _ a l r (run-left freeSign (from s (e.at + 1))) in
+        let t = run-starts g k in
+        let y : f.at ≤ length s = omega (arith, h.0, l) in
+        record {
+          on = omega (arith, b.0, i.0, h.0);
+          within = y;
+          left = signs-leave g t.0 t.1 f y slash-rest slash-no-slash;
+          steps = λ c out next u. behind-here f p z (step-signs g t.0 t.1 f y slash-rest slash-no-slash h.1 c out next u);
+        }

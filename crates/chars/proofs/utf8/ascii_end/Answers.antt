@@ -1,8 +1,12 @@
-use Rattle.std.proofs.Common.{ap, sym, ◌∙◌, ◌+◌, arith}
+use Rattle.std.proofs.Common.{[], ◌∷◌, ap, sym, ◌∙◌, ◌+◌, arith}
+use Rattle.chars.specs.paper.Ranges.{◌to◌}
 use Rattle.chars.specs.code.Utf8.{isAscii, rowsOver}
 use Rattle.chars.proofs.runs.Laws.{run-stops}
-use Rattle.chars.proofs.utf8.Widths.{ascii, ascii_more, ascii_run, many-rest}
+use Rattle.chars.proofs.utf8.Widths.{ascii, ascii_more, ascii_run, many-rest, rows_end}
 use Rattle.chars.proofs.utf8.ascii_end.Goals as goal
+
+pub returns-then-not-byte_in : goal.returns-then-not-byte_in
+returns-then-not-byte_in c = rows_end (0x00 to 0x7F ∷ []) c.args.s.now c.args.at (sym c.if-not-byte_in.ensures)
 
 pub returns-in-Some-eq0 : goal.returns-in-Some-eq0
 returns-in-Some-eq0 c =

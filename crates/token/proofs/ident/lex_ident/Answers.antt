@@ -11,13 +11,13 @@ name_end-end-requires c =
     let s = c.args.s.now in
     let p = c.requires in
     let n = next-later s c.args.c.at c.args.next.at p.within p.next_within p.next_same in
-    let q = ap (λ (z : Here). z.at) c.word_end.ensures in
+    let q = ap (λ (z : Here). z.at) c.word_on.ensures in
     let b = word-bounds s c.args.c.at c.args.next.at p.within n p.next_within p.next_same in
     record {
       some = omega (arith, n, q, b.0);
       within = omega (arith, q, b.1);
-      here = c.word_end.ensures ∙ ap (hereOf s) (sym q);
-      stops = ap (λ (z : Here). inWord z.class.number) c.word_end.ensures ∙ word-done s c.args.next.at;
+      here = c.word_on.ensures ∙ ap (hereOf s) (sym q);
+      stops = ap (λ (z : Here). inWord z.class.number) c.word_on.ensures ∙ word-done s c.args.next.at;
     }
 
 -- what is left behind the identifier
@@ -32,20 +32,20 @@ pub word_of-word-requires-clause-left : goal.word_of-word-requires-clause-left
 word_of-word-requires-clause-left c =
     let p = c.requires in
     let e = c.name_end-end.ensures in
-    (left-word c.args.s.now c.args.c.at c.args.next.at _ _ p.within p.starts p.next_within p.next_same c.word_end.ensures e.within e.rest).0
+    (left-word c.args.s.now c.args.c.at c.args.next.at _ _ p.within p.starts p.next_within p.next_same c.word_on.ensures e.within e.rest).0
 
 pub or_prefixed-requires-clause-order : goal.or_prefixed-requires-clause-order
 or_prefixed-requires-clause-order c =
     let p = c.requires in
     let e = c.name_end-end.ensures in
-    (left-word c.args.s.now c.args.c.at c.args.next.at _ _ p.within p.starts p.next_within p.next_same c.word_end.ensures e.within e.rest).0.0
+    (left-word c.args.s.now c.args.c.at c.args.next.at _ _ p.within p.starts p.next_within p.next_same c.word_on.ensures e.within e.rest).0.0
 
 pub returns-in-Some : goal.returns-in-Some
 returns-in-Some c =
     let s = c.args.s.now in
     let p = c.requires in
     let e = c.name_end-end.ensures in
-    let l = left-word c.args.s.now c.args.c.at c.args.next.at _ _ p.within p.starts p.next_within p.next_same c.word_end.ensures e.within e.rest in
+    let l = left-word c.args.s.now c.args.c.at c.args.next.at _ _ p.within p.starts p.next_within p.next_same c.word_on.ensures e.within e.rest in
     let w = scan-word (length s) (from s c.args.c.at) _ (some c.in-Some.k) l.1 (key-is _ c.in-Some.k (sym c.in-Some.is ∙ c.word_of-word.ensures)) in
     token-at s (tk.Kw c.in-Some.k) _ _ e.within refl ∙ ap (pieceOf (length s)) (sym w)
 
@@ -54,6 +54,6 @@ returns-in-None c =
     let s = c.args.s.now in
     let p = c.requires in
     let e = c.name_end-end.ensures in
-    let l = left-word c.args.s.now c.args.c.at c.args.next.at _ _ p.within p.starts p.next_within p.next_same c.word_end.ensures e.within e.rest in
+    let l = left-word c.args.s.now c.args.c.at c.args.next.at _ _ p.within p.starts p.next_within p.next_same c.word_on.ensures e.within e.rest in
     c.or_prefixed.ensures
     ∙ ap (pieceOf (length s)) (sym (scan-word (length s) (from s c.args.c.at) _ none l.1 (key-not _ (sym c.in-None.is ∙ c.word_of-word.ensures))))

@@ -1,5 +1,5 @@
 -- A step passes an id character of ASCII or one past it; an underscore, and whatever else stands there, ends the run.
-use Rattle.token.proofs.lexer.Words.{eqb, arith, not-true, not-false, wideClass, inWord}
+use Rattle.token.proofs.lexer.Words.{◌∙◌, eqb, arith, not-true, not-false, wideClass, inWord}
 use Rattle.token.proofs.names.Wide.{told, ids-inside, ids-wide, ids-on, ids-other, ids-in, ids-under, ids-next}
 use Rattle.token.proofs.names.id_run_end.Goals as goal
 
@@ -14,14 +14,21 @@ overflow_add-i c =
     let n = ids-on c.loop-class.invariant (told (λ z. eqb z wideClass) c.at-class.ensures c.eq.ensures c.if-eq.true) c.look-here.result c.look-here.ensures (not-false _ c.if-not-here.false) in
     omega (arith, n.1.within)
 
+pub letters_end-i-requires : goal.letters_end-i-requires
+letters_end-i-requires c =
+    (ids-on c.loop-class.invariant (told (λ z. eqb z wideClass) c.at-class.ensures c.eq.ensures c.if-eq.true) c.look-here.result c.look-here.ensures (not-false _ c.if-not-here.false)).1.within
+
 pub loop-class-smaller-then-eq : goal.loop-class-smaller-then-eq
 loop-class-smaller-then-eq c =
     let n = ids-on c.loop-class.invariant (told (λ z. eqb z wideClass) c.at-class.ensures c.eq.ensures c.if-eq.true) c.look-here.result c.look-here.ensures (not-false _ c.if-not-here.false) in
-    omega (arith, n.0, n.1.within)
+    let l = c.letters_end-i.ensures in
+    omega (arith, n.0, l.on, l.within)
 
 pub loop-class-preserved-then-eq : goal.loop-class-preserved-then-eq
 loop-class-preserved-then-eq c =
-    (ids-on c.loop-class.invariant (told (λ z. eqb z wideClass) c.at-class.ensures c.eq.ensures c.if-eq.true) c.look-here.result c.look-here.ensures (not-false _ c.if-not-here.false)).1
+    let n = ids-on c.loop-class.invariant (told (λ z. eqb z wideClass) c.at-class.ensures c.eq.ensures c.if-eq.true) c.look-here.result c.look-here.ensures (not-false _ c.if-not-here.false) in
+    let l = c.letters_end-i.ensures in
+    record { within = l.within; run = l.ids ∙ n.1.run }
 
 pub bounds-s-i : goal.bounds-s-i
 bounds-s-i c = ids-in c.loop-class.invariant (told (λ z. eqb z wideClass) c.at-class.ensures c.eq.ensures c.if-eq.false) (told inWord c.at-class.ensures c.in_word.ensures c.if-in_word.true)

@@ -1,10 +1,10 @@
--- A step passes a character past ASCII and the ASCII behind it, or nothing of the run stands there.
+-- A step passes a character past ASCII, those of two bytes behind it and the ASCII behind these, or nothing of the run stands there.
 use Rattle.token.proofs.lexer.Words.{arith, not-true, not-false}
-use Rattle.token.proofs.names.Wide.{word-kind, first, class-is, kept-inside, kept-ascii, kept-wide, kept-next, kept-on}
+use Rattle.token.proofs.names.Wide.{word-kind, first, class-is, kept-inside, kept-ascii, kept-wide, kept-next, kept-far}
 use Rattle.token.proofs.names.wide_word_end.Goals as goal
 
 pub loop-here-init : goal.loop-here-init
-loop-here-init c = first word-kind c.args.s.now c.args.at c.requires c.word_end-end.result c.word_end-end.ensures
+loop-here-init c = first word-kind c.args.s.now c.args.at c.requires c.word_on-end.result c.word_on-end.ensures
 
 pub look-here-requires : goal.look-here-requires
 look-here-requires c =
@@ -22,23 +22,25 @@ overflow_add-end c =
     let n = kept-next word-kind c.args.s.now g (class-is word-kind c.args.s.now g c.eq.ensures c.loop-here-test.true) c.look-here.result c.look-here.ensures (not-false _ c.if-not-here.false) in
     omega (arith, n.1)
 
-pub word_end-end-requires-in-loop-here : goal.word_end-end-requires-in-loop-here
-word_end-end-requires-in-loop-here c =
+pub letters_end-next-requires : goal.letters_end-next-requires
+letters_end-next-requires c =
     let g = c.loop-here.invariant in
     (kept-next word-kind c.args.s.now g (class-is word-kind c.args.s.now g c.eq.ensures c.loop-here-test.true) c.look-here.result c.look-here.ensures (not-false _ c.if-not-here.false)).1
 
 pub loop-here-smaller : goal.loop-here-smaller
 loop-here-smaller c =
     let g = c.loop-here.invariant in
-    let n = kept-on word-kind c.args.s.now g (class-is word-kind c.args.s.now g c.eq.ensures c.loop-here-test.true) c.look-here.result c.look-here.ensures (not-false _ c.if-not-here.false)
-    c.word_end-end-in-loop-here.result c.word_end-end-in-loop-here.ensures in
+    let l = c.letters_end-next.ensures in
+    let n = kept-far word-kind c.args.s.now g (class-is word-kind c.args.s.now g c.eq.ensures c.loop-here-test.true) c.look-here.result c.look-here.ensures (not-false _ c.if-not-here.false)
+    c.letters_end-next.result l.on l.within l.words c.word_on-end-in-loop-here.result c.word_on-end-in-loop-here.ensures in
     omega (arith, n.1, n.2)
 
 pub loop-here-preserved : goal.loop-here-preserved
 loop-here-preserved c =
     let g = c.loop-here.invariant in
-    (kept-on word-kind c.args.s.now g (class-is word-kind c.args.s.now g c.eq.ensures c.loop-here-test.true) c.look-here.result c.look-here.ensures (not-false _ c.if-not-here.false)
-    c.word_end-end-in-loop-here.result c.word_end-end-in-loop-here.ensures).0
+    let l = c.letters_end-next.ensures in
+    (kept-far word-kind c.args.s.now g (class-is word-kind c.args.s.now g c.eq.ensures c.loop-here-test.true) c.look-here.result c.look-here.ensures (not-false _ c.if-not-here.false)
+    c.letters_end-next.result l.on l.within l.words c.word_on-end-in-loop-here.result c.word_on-end-in-loop-here.ensures).0
 
 pub returns : goal.returns
 returns c =

@@ -1,5 +1,6 @@
 -- Each word and each operator that nothing behind it makes more of is a step more.
 use Rattle.token.proofs.lexer.Words.{sym, arith}
+use Rattle.token.proofs.walk.Whole.{slash-within, slash-signed}
 use Rattle.token.proofs.walk.Laws.{steps-trans, at-is}
 use Rattle.token.proofs.walk.Words.{word-inside, word-bound, plain-leaves, step-word, run-within}
 use Rattle.token.proofs.walk.Runs.{run-here, run-bound, run-on, run-left-to, step-run}
@@ -40,26 +41,59 @@ run_goes_on-requires c =
     let q = c.run_end-end.ensures in
     record { here = run-here c.args.s.now _ _ q; within = run-bound c.loop-x.invariant.good (sym c.if-in_run.ensures) _ q }
 
+-- ---- a run that goes on with a `/`
+
+pub overflow_add-end : goal.overflow_add-end
+overflow_add-end c =
+    omega (arith, slash-within c.loop-x.invariant.good (sym c.if-in_run.ensures) _ c.run_end-end.ensures (sym c.if-run_goes_on.ensures) (sym c.if-eq-4.ensures))
+
+pub consume_op_run-c-requires : goal.consume_op_run-c-requires
+consume_op_run-c-requires c =
+    slash-within c.loop-x.invariant.good (sym c.if-in_run.ensures) _ c.run_end-end.ensures (sym c.if-run_goes_on.ensures) (sym c.if-eq-4.ensures)
+
 pub put_run_if-requires-clause-left : goal.put_run_if-requires-clause-left
 put_run_if-requires-clause-left c =
-    λ y. run-left-to c.loop-x.invariant.good (sym c.if-in_run.ensures) _ c.run_end-end.ensures (sym c.if-run_goes_on.ensures)
+    let e = c.consume_op_run-c.ensures in
+    let n = slash-signed c.loop-x.invariant.good (sym c.if-in_run.ensures) _ c.run_end-end.ensures (sym c.if-run_goes_on.ensures) (sym c.if-eq-4.ensures) _ e.within e.rest _ c.here_at-past.ensures in
+    λ y. n.left
 
 pub put_run_if-requires-clause-room : goal.put_run_if-requires-clause-room
 put_run_if-requires-clause-room c = let g = c.loop-x.invariant.good in omega (arith, g.size, g.within)
 
-pub loop-x-smaller-then-in_run : goal.loop-x-smaller-then-in_run
-loop-x-smaller-then-in_run c =
+pub loop-x-smaller-then-run_goes_on : goal.loop-x-smaller-then-run_goes_on
+loop-x-smaller-then-run_goes_on c =
+    let e = c.consume_op_run-c.ensures in
+    let n = slash-signed c.loop-x.invariant.good (sym c.if-in_run.ensures) _ c.run_end-end.ensures (sym c.if-run_goes_on.ensures) (sym c.if-eq-4.ensures) _ e.within e.rest _ c.here_at-past.ensures in
+    omega (arith, at-is c.behind-x-then-run_goes_on.ensures, n.on, n.within)
+
+pub loop-x-preserved-then-run_goes_on : goal.loop-x-preserved-then-run_goes_on
+loop-x-preserved-then-run_goes_on c =
+    let e = c.consume_op_run-c.ensures in
+    let n = slash-signed c.loop-x.invariant.good (sym c.if-in_run.ensures) _ c.run_end-end.ensures (sym c.if-run_goes_on.ensures) (sym c.if-eq-4.ensures) _ e.within e.rest _ c.here_at-past.ensures in
+    let i = c.loop-x.invariant in
+    rw c.behind-x-then-run_goes_on.ensures (steps-trans i (n.steps i.counted _ _ c.put_run_if.ensures))
+
+-- ---- one that does not
+
+pub put_run_if-requires-else-run_goes_on-clause-left : goal.put_run_if-requires-else-run_goes_on-clause-left
+put_run_if-requires-else-run_goes_on-clause-left c =
+    λ y. run-left-to c.loop-x.invariant.good (sym c.if-in_run.ensures) _ c.run_end-end.ensures (sym c.if-run_goes_on.ensures)
+
+pub loop-x-smaller-else-run_goes_on : goal.loop-x-smaller-else-run_goes_on
+loop-x-smaller-else-run_goes_on c =
     let g = c.loop-x.invariant.good in
     let k = sym c.if-in_run.ensures in
     let q = c.run_end-end.ensures in
     let n = sym c.if-run_goes_on.ensures in
-    omega (arith, at-is c.behind-x-then-in_run.ensures, run-on g k _ q n, (run-left-to g k _ q n).1)
+    omega (arith, at-is c.behind-x-else-run_goes_on.ensures, run-on g k _ q n, (run-left-to g k _ q n).1)
 
-pub loop-x-preserved-then-in_run : goal.loop-x-preserved-then-in_run
-loop-x-preserved-then-in_run c =
+pub loop-x-preserved-else-run_goes_on : goal.loop-x-preserved-else-run_goes_on
+loop-x-preserved-else-run_goes_on c =
     let i = c.loop-x.invariant in
-    rw c.behind-x-then-in_run.ensures
-    (steps-trans i (step-run i.good (sym c.if-in_run.ensures) _ c.run_end-end.ensures (sym c.if-run_goes_on.ensures) i.counted _ _ c.put_run_if.ensures))
+    rw c.behind-x-else-run_goes_on.ensures
+    (steps-trans i (step-run i.good (sym c.if-in_run.ensures) _ c.run_end-end.ensures (sym c.if-run_goes_on.ensures) i.counted _ _ c.put_run_if-else-run_goes_on.ensures))
+
+-- ---- what is left
 
 pub returns-then-goes_on-clause-left : goal.returns-then-goes_on-clause-left
 returns-then-goes_on-clause-left c = left-word c.loop-x.invariant.good (sym c.if-is_sign.ensures) (sym c.if-starts_word.ensures) _ c.word_end-end.ensures (sym c.if-goes_on.ensures)
