@@ -1,9 +1,9 @@
 /* ErgoScript tokens as records: the eight functions of crates/ergo, for C and C++. `rt lib`, in that folder, makes the library,
  * crates/ergo/out/libergo.a, for Linux on x86-64 processors of level v2 (SSE4.2). `device/build TARGET` makes it for other processors; docs/DEVICE.md
- * says for which. On x86-64 tokenizing takes at most some 9 kB of stack, measuring some 400 bytes, reading stored records some 200, lines and columns
- * less; docs/DEVICE.md has what other processors take. The library allocates nothing, and calls nothing but memmove and memset, which the compiler puts
- * in, and on other processors a few functions more; a host without a C library must have these. It keeps nothing between calls: calls from several
- * threads at once are fine as long as no two of them lend the same bytes for writing.
+ * says for which. On x86-64 tokenizing takes at most some 9 kB of stack, measuring some 400 bytes, reading stored records less than 200, lines and
+ * columns too; docs/DEVICE.md has what other processors take. The library allocates nothing, and calls nothing but memmove and memset, which the
+ * compiler puts in, and on other processors a few functions more; a host without a C library must have these. It keeps nothing between calls: calls
+ * from several threads at once are fine as long as no two of them lend the same bytes for writing.
  *
  * All lengths are uint64_t on every processor: the functions that are proved take 64 bits for a length wherever they run. size_t has 32 on some, and
  * no linker tells that a host passes too few; so a host that declares the functions itself must have uint64_t too. Where addresses have 32 bits, each
