@@ -6,10 +6,10 @@ ghost use Rattle.token.specs.paper.Records.{mostBytes, headLength, lineLength, r
 ghost use Rattle.token.specs.computed.Answer.{scan, scanNumber};
 ghost use Rattle.token.specs.code.Records.{storedIf, measuredFrom, storedFrom, countedFrom, noneCounted, begun, eofAt};
 ghost use Rattle.token.specs.code.Form.{byForm, plainForm};
-ghost use Rattle.token.specs.code.ByteClass.{classAt, blankClass, digitClass, lfClass, crClass, tickClass, backtickClass, quoteClass, keywordClass, signKeywordClass, slashClass, wideClass, upToBlank, startsWord, asksMore, isSign, inWord};
-ghost use Rattle.token.specs.code.Names.{hereOf, lowBefore};
+ghost use Rattle.token.specs.code.ByteClass.{classAt, blankClass, digitClass, lfClass, crClass, tickClass, backtickClass, quoteClass, keywordClass, signKeywordClass, slashClass, wideClass, upToBlank, startsWord, asksMore, isSign, inRun, inWord};
+ghost use Rattle.token.specs.code.Names.{hereOf, runTo, lowBefore};
 ghost use Rattle.token.specs.code.Piece.{pieceOf};
-ghost use Rattle.token.specs.code.Walk.{beginning, movedTo, tokenBehind, needAt, lineBehind, commentBehind, blockBehind, runGoesOn, wholeGoesOn, wholeRunGoesOn, nameNumber, operatorNumber, Good, Counted, Left, LeftWhole, LeftTo, Prefixes, pastAscii, Refuses, Steps};
+ghost use Rattle.token.specs.code.Walk.{beginning, movedTo, tokenBehind, needAt, lineBehind, commentBehind, blockBehind, runGoesOn, wholeGoesOn, wholeRunGoesOn, nameNumber, operatorNumber, Good, Counted, Left, LeftAscii, LeftWhole, LeftTo, Prefixes, pastAscii, Refuses, Steps};
 
 use crate::byte_class::Class;
 use crate::charsym::lex_char_sym;
@@ -664,6 +664,71 @@ fn run_goes_on(s: &[u8], end: Here) -> bool
     end.class.in_operator() && !(end.class == Class::SLASH && opens_with(byte_at(s, end.at + 1)))
 }
 
+// Past blanks, signs, LFs, and words and runs of operator signs of ASCII that nothing behind them makes more of, as most pieces are. Handed back with the
+// state: where the ASCII of the word or the run ends that is left, if one is. Each turn of `walk_words` and of `wide_words` begins with it: when
+// `wide_words` read ASCII in its own loop, each word there took a call, for which the state went to memory. With `WIDE_SOON` a character past ASCII is
+// asked for before a run; the answers are the same.
+#[inline(always)]
+fn ascii_words<const WIDE_SOON: bool>(
+    out: &mut [u8],
+    s: &[u8],
+    counts: &mut Counts,
+    start: Stand,
+) -> (Stand, Here)
+    requires short { length s.now ≤ mostBytes }
+    requires good { Good s.now start }
+    requires counted { Counted start counts.old }
+    ensures on { Steps s.now start counts.old out.old result.0 counts.new out.new }
+    ensures further { start.at ≤ result.0.at }
+    ensures left { LeftAscii s.now result.0 }
+    ensures word { IsTrue (startsWord result.0.class.number) → result.1 ≡ hereOf s.now (runTo inWord s.now (result.0.at + 1)) }
+    ensures run { IsTrue (inRun result.0.class.number) → result.1 ≡ hereOf s.now (runTo inRun s.now (result.0.at + 1)) }
+{
+    let mut x = start;
+    // A step is a piece, and what it makes of the state.
+    loop {
+        if x.class == Class::BLANK {
+            x = blank_step(s, x);
+        } else if x.class.is_sign() {
+            x = sign_step(out, s, x);
+        } else if x.class.starts_word() {
+            let end = word_end(s, x.at + 1);
+            if goes_on(s, x.at, end) {
+                return (x, end);
+            }
+            put_word_if(out, s, x, end.at);
+            x = behind(x, end, HEAD);
+        } else if x.class == Class::LF {
+            x = line_step(out, s, counts, x);
+        } else if WIDE_SOON && x.class == Class::WIDE {
+            // Neither a word nor a run is left.
+            return (
+                x,
+                Here {
+                    at: x.at,
+                    class: x.class,
+                },
+            );
+        } else if x.class.in_run() {
+            let end = run_end(s, x.at + 1);
+            if run_goes_on(s, end) {
+                return (x, end);
+            }
+            put_run_if(out, s, x, end);
+            x = behind(x, end, HEAD);
+        } else {
+            // The same.
+            return (
+                x,
+                Here {
+                    at: x.at,
+                    class: x.class,
+                },
+            );
+        }
+    }
+}
+
 // As far as blanks, signs, words, line ends, runs of operator signs and numbers of ASCII stand there of which no byte behind them makes more, as most
 // pieces are; a run that a `/` goes on with is read to its end, past ASCII too. Err, where a character past ASCII follows the word or the run that
 // stands there, and may make more of it.
@@ -678,39 +743,28 @@ fn walk_words(out: &mut [u8], s: &[u8], counts: &mut Counts, start: Stand) -> Re
     ensures wide { IfErr result (λ x. IsTrue (pastAscii s.now x)) }
 {
     let mut x = start;
-    // A step is a piece, and what it makes of the state.
+    // A step is the pieces that `ascii_words` passes and the one behind them, and what they make of the state.
     loop {
-        if x.class == Class::BLANK {
-            x = blank_step(s, x);
-        } else if x.class.is_sign() {
-            x = sign_step(out, s, x);
-        } else if x.class.starts_word() {
-            let end = word_end(s, x.at + 1);
-            if goes_on(s, x.at, end) {
-                if end.class == Class::WIDE {
-                    return Err(x);
-                }
-                return Ok(x);
+        let (y, ascii_end) = ascii_words::<false>(out, s, counts, x);
+        x = y;
+        if x.class.starts_word() {
+            if ascii_end.class == Class::WIDE {
+                return Err(x);
             }
-            put_word_if(out, s, x, end.at);
-            x = behind(x, end, HEAD);
-        } else if x.class == Class::LF {
-            x = line_step(out, s, counts, x);
+            return Ok(x);
         } else if x.class.in_run() {
-            let end = run_end(s, x.at + 1);
-            if run_goes_on(s, end) {
-                if end.class == Class::WIDE {
-                    return Err(x);
-                }
-                // Stored here, and not joined with `end`: two places that join would go through memory.
-                let c = consume_op_run(s, Cursor { at: end.at + 1 });
-                let past = here_at(s, c.at);
-                put_run_if(out, s, x, past);
-                x = behind(x, past, HEAD);
-            } else {
-                put_run_if(out, s, x, end);
-                x = behind(x, end, HEAD);
+            if ascii_end.class == Class::WIDE {
+                return Err(x);
             }
+            let c = consume_op_run(
+                s,
+                Cursor {
+                    at: ascii_end.at + 1,
+                },
+            );
+            let past = here_at(s, c.at);
+            put_run_if(out, s, x, past);
+            x = behind(x, past, HEAD);
         } else if x.class == Class::CR {
             let Ok(y) = return_step(out, s, counts, x) else {
                 return Ok(x);
@@ -744,7 +798,8 @@ fn whole_run_goes_on(s: &[u8], end: Here) -> bool
     end.class == Class::SLASH && !opens_with(byte_at(s, end.at + 1))
 }
 
-// The same as `walk_words` of all characters, but for numbers and lines that a CR ends: those are left, as what is compiled twice would be called.
+// As `walk_words`, but of all characters. It leaves numbers and lines that a CR ends, since their steps, called from two loops, would not be compiled in,
+// and runs that a `/` goes on with, which take a call.
 fn wide_words(out: &mut [u8], s: &[u8], counts: &mut Counts, start: Stand) -> Stand
     requires short { length s.now ≤ mostBytes }
     requires good { Good s.now start }
@@ -753,11 +808,11 @@ fn wide_words(out: &mut [u8], s: &[u8], counts: &mut Counts, start: Stand) -> St
     ensures left { LeftWhole s.now result }
 {
     let mut x = start;
-    // A step is a piece, and what it makes of the state.
+    // A step is the pieces that `ascii_words` passes and the one behind them, and what they make of the state.
     loop {
-        if x.class == Class::BLANK {
-            x = blank_step(s, x);
-        } else if x.class == Class::WIDE {
+        let (y, ascii_end) = ascii_words::<true>(out, s, counts, x);
+        x = y;
+        if x.class == Class::WIDE {
             let here = look(s, x.at);
             let next = x.at + here.width;
             if here.classes.id_start {
@@ -777,19 +832,15 @@ fn wide_words(out: &mut [u8], s: &[u8], counts: &mut Counts, start: Stand) -> St
             } else {
                 return x;
             }
-        } else if x.class.is_sign() {
-            x = sign_step(out, s, x);
         } else if x.class.starts_word() {
-            let end = wide_word_end(s, x.at + 1);
+            let end = wide_word_end(s, ascii_end.at);
             if whole_goes_on(s, x.at, end) {
                 return x;
             }
             put_word_if(out, s, x, end.at);
             x = behind(x, end, HEAD);
-        } else if x.class == Class::LF {
-            x = line_step(out, s, counts, x);
         } else if x.class.in_run() {
-            let end = wide_run_end(s, x.at + 1);
+            let end = wide_run_end(s, ascii_end.at);
             if whole_run_goes_on(s, end) {
                 return x;
             }
@@ -868,7 +919,7 @@ fn finish(out: &mut [u8], counts: Counts, x: Stand) -> Need
 }
 
 /// From the script's start to its end, or to what is refused: what the records need. While no cut is set, as nearly always, words and all that is as
-/// short go in two loops of their own. The counts are lent, and begin at none: in memory, one that does not change costs nothing.
+/// short go in loops of their own. The counts are lent, and begin at none: in memory, one that does not change costs nothing.
 pub fn walk(out: &mut [u8], s: &[u8], counts: &mut Counts) -> Result<Need, Refused>
     requires short { length s.now ≤ mostBytes }
     requires begins { counts.old ≡ noneCounted }

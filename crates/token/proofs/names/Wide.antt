@@ -89,6 +89,13 @@ module _ {p : Text → Bool} {q : ℕ → Bool} {f : Classes → Bool} (k : Kind
   pub passed-on : {at i e : ℕ} → Passed at i → Passed i e → Passed at e
   passed-on a b = record { within = b.within; on = omega (arith, a.on, b.on); run = b.run ∙ a.run; stops = b.stops }
 
+  -- from where the ASCII behind a place ends, a run ends where it does from that place on
+  pub read-on : (at : ℕ) → at ≤ length s → (j : ℕ) → j ≡ runTo q s at
+      → (j ≤ length s) × (hereOf s (place (length s) (afterRun p (from s j))) ≡ hereOf s (place (length s) (afterRun p (from s at))))
+  read-on at h j z =
+      let a = ascii-passed at h in
+      (subst (λ i. i ≤ length s) (sym z) a.within, ap (λ t. hereOf s (place (length s) t)) (ap (λ i. afterRun p (from s i)) z ∙ a.run))
+
   module _ {at i : ℕ} (g : Passed at i) where
     ended : p (from s i) ≡ false → i ≡ place (length s) (afterRun p (from s at))
     ended n = sym (ap (place (length s)) (sym g.run ∙ run-stays p (from s i) n) ∙ place-from s i g.within)

@@ -46,9 +46,6 @@ run-end : (s : List ℕ) (i : ℕ) → inRun (classAt s i) ≡ true → (e : ℕ
     → (i < e) × (e ≤ length s) × (from s e ≡ afterRun freeSign (from s i))
 run-end s i r e q m = let k = run-kept s i r e q in (k.0, k.1, sym (run-stays freeSign (from s e) (no-free s e m)) ∙ k.2)
 
-pub run-here : (s : List ℕ) (j : ℕ) (e : Here) → e ≡ hereOf s j → e ≡ hereOf s e.at
-run-here s j e q = q ∙ ap (hereOf s) (sym (ap (λ (z : Here). z.at) q))
-
 pub run-bound : {s : List ℕ} {x : Stand} → Good s x → inRun x.class.number ≡ true → (e : Here) → e ≡ hereOf s (runTo inRun s (x.at + 1)) → e.at ≤ length s
 run-bound {s} {x} g k e q =
     let h = class-inside s x.at inRun refl (by-class g inRun k) in

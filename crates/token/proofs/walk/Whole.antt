@@ -1,5 +1,5 @@
 -- Words and operators with all their characters, where a walk stands: the step past each.
-use Rattle.token.proofs.lexer.Words.{◌≡◌, refl, sym, ◌∙◌, ap, ap₂, ℕ, ◌+◌, ◌≤◌, ◌<◌, Bool, true, false, cond, not, ◌&&◌, ◌||◌, List, Option, none, some, length, drop, get_or, eqb, eqb-true, leb-true, le-leb, arith, and-both, from, idStart, isIdStart, isOpSign, place, afterRun, opSign, freeSign, opensComment, quote, kindNumber, wordOf, runOf, values, codesTo, afterIdent, wordOr, Found, scan, classAt, inRun, isSign, keywordClass, signKeywordClass, slashClass, wideClass, inOperator, cursorAt, plainForm, byForm, runBefore, numberOr, nameNumber, operatorNumber, hereOf, lowBefore, wordChar, runChar, pieceOf, tokenTo, storedIf, Counted, Counts, Good, headLength, tokenBehind, Steps, LeftTo, Here, Stand, Kw, slash-no-start, by-test, clash, text-laws, asciiSign, runTo}
+use Rattle.token.proofs.lexer.Words.{◌≡◌, refl, sym, ◌∙◌, ap, ap₂, ℕ, ◌+◌, ◌≤◌, ◌<◌, Bool, true, false, cond, not, ◌&&◌, ◌||◌, List, Option, none, some, length, drop, get_or, eqb, eqb-true, leb-true, le-leb, arith, and-both, from, idStart, isIdStart, isOpSign, place, afterRun, opSign, freeSign, opensComment, quote, kindNumber, wordOf, runOf, values, codesTo, afterIdent, wordOr, Found, scan, classAt, inRun, isSign, keywordClass, signKeywordClass, slashClass, wideClass, upToBlank, startsWord, inWord, inOperator, cursorAt, plainForm, byForm, runBefore, numberOr, nameNumber, operatorNumber, hereOf, lowBefore, wordChar, runChar, pieceOf, tokenTo, storedIf, Counted, Counts, Good, headLength, tokenBehind, Steps, LeftTo, Here, Stand, Kw, slash-no-start, by-test, clash, text-laws, asciiSign, runTo}
 use Rattle.token.specs.declared.kinds.TokenKind.TheVariants as tk
 use Rattle.token.proofs.theorems.Dispatch.{clear-head}
 use Rattle.token.specs.code.Walk.{wholeGoesOn, runGoesOn, wholeRunGoesOn}
@@ -11,8 +11,9 @@ use Rattle.token.proofs.names.Ascii.{kind-bare, kind-counts}
 use Rattle.token.proofs.names.Whole.{whole-bounds, whole-kept, whole-over, whole-no-quote, signs-bounds, signs-over, signs-no-slash}
 use Rattle.token.proofs.walk.Pieces.{by-class, step-bare}
 use Rattle.token.proofs.names.Laws.{here-is, run-clear}
-use Rattle.token.proofs.walk.Starts.{sign-next, ascii-sign, ascii-sign-inside, behind-sign}
-use Rattle.token.proofs.walk.Words.{behind-here}
+use Rattle.token.proofs.names.Wide.{word-kind, run-kind, read-on}
+use Rattle.token.proofs.walk.Starts.{sign-next, ascii-starts, ascii-sign, ascii-sign-inside, behind-sign}
+use Rattle.token.proofs.walk.Words.{behind-here, word-inside}
 use Rattle.token.proofs.walk.Runs.{run-kept}
 open text-laws use {run-done}
 
@@ -166,12 +167,49 @@ run-starts {s} {x} g k =
     let h = ascii-sign-inside g z in
     (ascii-sign g z, run-clear s x.at r, omega arith, behind-sign g z)
 
+-- ---- words and runs that begin with ASCII, read on from where it ends
+
+module _ {s : List ℕ} {x : Stand} (g : Good s x) (a : upToBlank x.class.number ≡ false) (b : startsWord x.class.number ≡ true)
+    (i : Here) (z : i ≡ hereOf s (runTo inWord s (x.at + 1))) where
+  read : (i.at ≤ length s) × (hereOf s (place (length s) (afterRun wordChar (from s i.at))) ≡ hereOf s (place (length s) (afterRun wordChar (from s (x.at + 1)))))
+  read = read-on word-kind s (x.at + 1) (omega (arith, word-inside g a b)) i.at (ap (λ (y : Here). y.at) z)
+
+  pub name-within-on : i.at ≤ length s
+  name-within-on = read.0
+
+  module _ (e : Here) (q : e ≡ hereOf s (place (length s) (afterRun wordChar (from s i.at)))) where
+    pub name-ends-on : e ≡ hereOf s (place (length s) (afterRun wordChar (from s (x.at + 1))))
+    name-ends-on = q ∙ read.1
+
+    pub name-bound-on : (x.at < e.at) × (e.at ≤ length s)
+    name-bound-on = let t = ascii-starts g a b in name-bound g t.0 (x.at + 1) (omega (arith, word-inside g a b)) t.1 e name-ends-on
+
+    pub name-named-on : wholeGoesOn s x.at e ≡ false → Named s x e
+    name-named-on = let t = ascii-starts g a b in name-named g t.0 (x.at + 1) (omega (arith, word-inside g a b)) t.1 e name-ends-on
+
+module _ {s : List ℕ} {x : Stand} (g : Good s x) (k : inRun x.class.number ≡ true) (i : Here) (z : i ≡ hereOf s (runTo inRun s (x.at + 1))) where
+  read-run : (i.at ≤ length s) × (hereOf s (place (length s) (afterRun runChar (from s i.at))) ≡ hereOf s (place (length s) (afterRun runChar (from s (x.at + 1)))))
+  read-run = read-on run-kind s (x.at + 1) (run-starts g k).2 i.at (ap (λ (y : Here). y.at) z)
+
+  pub signs-within-on : i.at ≤ length s
+  signs-within-on = read-run.0
+
+  module _ (e : Here) (q : e ≡ hereOf s (place (length s) (afterRun runChar (from s i.at)))) where
+    pub signs-ends-on : e ≡ hereOf s (place (length s) (afterRun runChar (from s (x.at + 1))))
+    signs-ends-on = q ∙ read-run.1
+
+    pub signs-bound-on : (x.at < e.at) × (e.at ≤ length s)
+    signs-bound-on = let t = run-starts g k in signs-bound g t.0 t.1 (x.at + 1) t.2 t.3 e signs-ends-on
+
+    pub signs-signed-on : wholeRunGoesOn s e ≡ false → Signed s x e
+    signs-signed-on = let t = run-starts g k in signs-signed g t.0 t.1 (x.at + 1) t.2 t.3 e signs-ends-on
+
 -- one that goes on with a `/` behind its first signs, all of ASCII: it ends where no free sign follows
 module _ {s : List ℕ} {x : Stand} (g : Good s x) (k : inRun x.class.number ≡ true) (e : Here) (q : e ≡ hereOf s (runTo inRun s (x.at + 1)))
-    (m : runGoesOn s e.at ≡ true) (n : eqb e.class.number wideClass ≡ false) where
+    (m : runGoesOn s (runTo inRun s (x.at + 1)) ≡ true) (n : eqb e.class.number wideClass ≡ false) where
   slash-sign : asciiSign true s e.at ≡ true
   slash-sign =
-      let w = and-both (inOperator (classAt s e.at)) _ m in
+      let w = and-both (inOperator (classAt s e.at)) _ (ap (runGoesOn s) (here-is s e _ q).0 ∙ m) in
       let v : eqb (classAt s e.at) wideClass ≡ false = ap (λ c. eqb c wideClass) (sym (here-is s e _ q).1) ∙ n in
       let t : isSign (classAt s e.at) ≡ true = by-test (isSign (classAt s e.at)) (λ p. p) (λ p. clash (sym (class-operator (get_or s e.at 0)) ∙ rw (w.0, v, p))) in
       rw t w.1

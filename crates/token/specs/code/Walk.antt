@@ -125,6 +125,14 @@ wholeGoesOn s i e = asksMore e.class.number && (e.class.number == quoteClass || 
 abbrev pub wholeRunGoesOn : List ℕ → Here → Bool
 wholeRunGoesOn s e = e.class.number == slashClass && not (oneOf "*/" (slice_index s (e.at + 1)))
 
+-- Each turn of the two walks below begins with a loop over ASCII. It leaves neither a blank, a single sign nor an LF; a word or a run of signs only where
+-- more may be made of it.
+pub record LeftAscii (s : List ℕ) (y : Stand) : Type 0 where
+  pub no-sign : IsFalse (upToBlank y.class.number)
+  pub no-line : IsFalse (y.class.number == lfClass)
+  pub word : IsTrue (startsWord y.class.number) → IsTrue (goesOn s y.at (runTo inWord s (y.at + 1)))
+  pub run : IsTrue (inRun y.class.number) → IsTrue (runGoesOn s (runTo inRun s (y.at + 1)))
+
 -- What the walk over words leaves: neither a blank, a single sign nor a line end, an LF or a CR with an LF behind it; a word or a run of signs only
 -- where more may be made of it, and a number only where it is refused.
 pub record Left (s : List ℕ) (y : Stand) : Type 0 where
