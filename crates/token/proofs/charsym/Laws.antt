@@ -14,7 +14,7 @@ use Rattle.token.proofs.byte_class.Laws.{class-start, class-sign, class-wide}
 use Rattle.token.proofs.cursor.Bytes.{any-byte, one-byte, inside, past}
 use Rattle.token.proofs.cursor.Laws.{Here, peeked}
 use Rattle.token.proofs.names.Bytes.{class-inside}
-use Rattle.token.proofs.names.Laws.{no-more, run-clear, run-rest, word-bounds, word-done, word-kept, word-over, here-is}
+use Rattle.token.proofs.names.Laws.{no-more, run-clear, run-rest, word-bounds, word-done, word-kept, word-over, here-is, run-here}
 use Rattle.token.proofs.ident.Signs.{low-byte, wide-clear}
 open code_laws use {agree, carry-span, in-between}
 open class-laws use {sign-no-start}
@@ -200,7 +200,7 @@ module _ (s : List ℕ) (i j : ℕ) (h : i < length s) (k : j ≤ length s) (r :
   pub name-over : asksMore e.class.number ≡ false → from s e.at ≡ afterIdent false (from s j)
   name-over m =
       let v = no-more e.class.number (lowBefore s i e.at) (ap (λ a. a && (not (isSign e.class.number) || lowBefore s i e.at)) m) in
-      name-more (from s e.at) (sym (word-over s e (q ∙ ap (hereOf s) (sym (here-is s e _ q).0)) name-word.2 (lowBefore s i e.at) v.0 v.1))
+      name-more (from s e.at) (sym (word-over s e (run-here s _ e q) name-word.2 (lowBefore s i e.at) v.0 v.1))
 
 -- a symbol that ends with its ASCII bytes
 module _ (s : List ℕ) (i : ℕ) (n : get_or s i 0 ≡ 0x5C → ⊥) (z : eqb (get_or s (i + 1) 0) 0x27 && between 0x20 0x7E (get_or s i 0) ≡ false) where

@@ -98,6 +98,9 @@ here-is s e j q =
     let p : e.at ≡ j = ap (λ (z : Here). z.at) q in
     (p, ap (λ (z : Here). z.class.number) q ∙ ap (classAt s) (sym p))
 
+pub run-here : (s : List ℕ) (j : ℕ) (e : Here) → e ≡ hereOf s j → e ≡ hereOf s e.at
+run-here s j e q = q ∙ ap (hereOf s) (sym (ap (λ (z : Here). z.at) q))
+
 -- A word from the place behind its first byte on, behind which nothing makes more of it: the identifier's end, and no quote.
 pub word-rest : (s : List ℕ) (i : ℕ) → i < length s → get_or s i 0 < 0x80 → (e : Here) → e ≡ hereOf s (runTo inWord s (i + 1))
     → asksMore e.class.number && (not (isSign e.class.number) || lowBefore s i e.at) ≡ false
@@ -107,7 +110,7 @@ word-rest s i h l e q m =
     let r : from s (i + 1) ≡ drop 1 (from s i) = sym (ap (drop 1) (at-ascii s i h l)) in
     let v = no-more e.class.number (lowBefore s i e.at) m in (
       omega (arith, (word-bounds s i (i + 1) h (omega arith) (omega arith) r).1, p.0),
-      sym (word-over s e (q ∙ ap (hereOf s) (sym p.0)) (ap (λ (z : Here). inWord z.class.number) q ∙ word-done s (i + 1)) (lowBefore s i e.at) v.0 v.1)
+      sym (word-over s e (run-here s _ e q) (ap (λ (z : Here). inWord z.class.number) q ∙ word-done s (i + 1)) (lowBefore s i e.at) v.0 v.1)
           ∙ ap (λ j. afterIdent (lowBefore s i j) (from s j)) p.0 ∙ word-kept s i (i + 1) h (omega arith) (omega arith) r ∙ ap (afterIdent false) (sym r),
       quote-class s e.at ∙ ap (λ z. eqb z quoteClass) (sym p.1) ∙ v.2,
     )

@@ -1,9 +1,10 @@
 -- What the walk over words leaves, by the test that ended it.
-use Rattle.token.proofs.lexer.Words.{◌≡◌, refl, sym, ◌∙◌, ap, ap₂, cond, drop, ℕ, ◌+◌, Bool, true, false, not, ◌&&◌, ◌||◌, List, eqb, ne_eqb, Err, Text, clash, Found, scanNumber, isDigit, lfClass, crClass, digitClass, upToBlank, startsWord, inWord, asksMore, isSign, inRun, hereOf, runTo, lowBefore, PieceAnswer, pieceOf, tokenTo, Good, Cursor, TokenKind, Here, Stand, zero-one}
+use Rattle.token.proofs.lexer.Words.{◌≡◌, refl, sym, ◌∙◌, ap, ap₂, cond, drop, ℕ, ◌+◌, Bool, true, false, not, ◌&&◌, ◌||◌, List, eqb, ne_eqb, Err, Text, clash, Found, scanNumber, isDigit, lfClass, crClass, digitClass, upToBlank, startsWord, inWord, asksMore, isSign, inRun, wideClass, classAt, hereOf, runTo, lowBefore, PieceAnswer, pieceOf, tokenTo, Good, Cursor, TokenKind, Here, Stand, zero-one}
 use Rattle.std.specs.Prelude.{Ok}
+use Rattle.std.proofs.lemmas.Bool.{false_from_ne_true}
 use Rattle.token.specs.computed.Answer.{Numeral, numeral, numberOf, readDigits}
 use Rattle.token.specs.paper.Tests.{isHexDigit, hexAhead, letterL}
-use Rattle.token.specs.code.Walk.{Left}
+use Rattle.token.specs.code.Walk.{Left, pastAscii}
 use Rattle.token.specs.declared.kinds.TokenKind.TheVariants as tk
 use Rattle.token.proofs.byte_class.Laws.{class-apart}
 use Rattle.token.proofs.walk.Pieces.{by-class}
@@ -28,6 +29,13 @@ module _ {s : List ℕ} {x : Stand} (g : Good s x) (a : upToBlank x.class.number
         run = λ r. absurd (apart-run g b r);
         number = λ d. clash (sym (unlike startsWord x.class.number digitClass refl b) ∙ d);
       }
+
+  -- one that no character past ASCII follows
+  pub word-ascii : startsWord x.class.number ≡ true → (e : Here) → e ≡ hereOf s (runTo inWord s (x.at + 1)) → eqb e.class.number wideClass ≡ false → pastAscii s x ≡ false
+  word-ascii b e q m =
+      let w : eqb (classAt s (runTo inWord s (x.at + 1))) wideClass ≡ false = ap (λ (z : Here). eqb z.class.number wideClass) (sym q) ∙ m in
+      let r : inRun x.class.number ≡ false = false_from_ne_true (inRun x.class.number) (apart-run g b) in
+      rw (a, b, w, r)
 
 abbrev kindOf : PieceAnswer → TokenKind
 kindOf (Ok t) = t.0

@@ -8,6 +8,7 @@ use Rattle.token.proofs.names.Ascii.{kind-bare, kind-counts}
 use Rattle.token.proofs.lexer.Laws.{operator-at}
 use Rattle.token.proofs.names.Bytes.{pass-keep, pass-within, class-inside}
 use Rattle.token.proofs.names.Laws.{run-clear, run-free}
+pub use Rattle.token.proofs.names.Laws.{run-here}
 use Rattle.token.proofs.walk.Pieces.{by-class, step-bare}
 use Rattle.token.proofs.walk.Words.{behind-here}
 open text-laws use {run-stays}

@@ -1,6 +1,7 @@
--- A run of ASCII that a `/` goes on with is a step more.
+-- A run of ASCII that a `/` goes on with is a step more; what is left of a word.
 use Rattle.token.proofs.lexer.Words.{sym, arith}
 use Rattle.token.proofs.walk.Whole.{slash-within, slash-signed}
+use Rattle.token.proofs.walk.Left.{word-ascii}
 use Rattle.token.proofs.walk.Laws.{steps-trans, at-is}
 use Rattle.token.proofs.walk.walk_words.Goals as goal
 
@@ -44,3 +45,12 @@ loop-ascii_end-preserved-then-in_run c =
     let e = c.consume_op_run-c.ensures in
     let n = slash-signed i.good k _ (l.run k) (l.left.run k) (sym c.if-eq-2.ensures) _ e.within e.rest _ c.here_at-past.ensures in
     rw c.behind-x.ensures (steps-trans i (n.steps i.counted _ _ c.put_run_if.ensures))
+
+-- ---- a word is left that no character past ASCII follows
+
+pub returns-then-starts_word-clause-ascii : goal.returns-then-starts_word-clause-ascii
+returns-then-starts_word-clause-ascii c =
+    let i = steps-trans c.loop-ascii_end.invariant c.ascii_words.ensures.on in
+    let l = c.ascii_words.ensures in
+    let b = sym c.if-starts_word.ensures in
+    word-ascii i.good l.left.no-sign b _ (l.word b) (sym c.if-eq.ensures)
